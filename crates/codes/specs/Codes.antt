@@ -1,0 +1,77 @@
+-- The paper's number for each refusal (document 01, 'What a refusal says and leaves') and each result code (Core Vol 3 Part A 4.23).
+use mathlib.Core.Path.{_≡_, refl}
+use mathlib.Core.Bool.{Bool, cond}
+use Prim.Native.Nat.{ℕ}
+use lib.Dec.{eqb}
+use Rattle.codes.specs.declared.LeCreditConnResultCode.{LeCreditConnResultCode}
+use Rattle.codes.specs.declared.LeCreditConnResultCode.the-variants.{Success, SpsmNotSupported, NoResources, InsufficientAuthentication, InsufficientAuthorization, EncryptionKeyTooShort, InsufficientEncryption, InvalidSourceId, ScidAlreadyAllocated, UnacceptableParameters}
+use Rattle.codes.specs.declared.ResultRead.{ResultRead}
+use Rattle.codes.specs.declared.ResultRead.the-variants.{Known, Unknown}
+use Rattle.codes.specs.declared.Refusal.{Refusal}
+use Rattle.codes.specs.declared.Refusal.the-variants as Refusal
+
+unfoldable pub resultNumber : LeCreditConnResultCode → ℕ
+resultNumber Success = 0
+resultNumber SpsmNotSupported = 2
+resultNumber NoResources = 4
+resultNumber InsufficientAuthentication = 5
+resultNumber InsufficientAuthorization = 6
+resultNumber EncryptionKeyTooShort = 7
+resultNumber InsufficientEncryption = 8
+resultNumber InvalidSourceId = 9
+resultNumber ScidAlreadyAllocated = 10
+resultNumber UnacceptableParameters = 11
+
+-- "Result codes: 0, 2 and 4 to 11; another number is Decode."
+unfoldable pub resultOf : ℕ → ResultRead
+resultOf n =
+    cond (eqb n 0) (Known Success)
+    (cond (eqb n 2) (Known SpsmNotSupported)
+    (cond (eqb n 4) (Known NoResources)
+    (cond (eqb n 5) (Known InsufficientAuthentication)
+    (cond (eqb n 6) (Known InsufficientAuthorization)
+    (cond (eqb n 7) (Known EncryptionKeyTooShort)
+    (cond (eqb n 8) (Known InsufficientEncryption)
+    (cond (eqb n 9) (Known InvalidSourceId)
+    (cond (eqb n 10) (Known ScidAlreadyAllocated)
+    (cond (eqb n 11) (Known UnacceptableParameters)
+    Unknown)))))))))
+
+-- the number of a code is read as that code
+pub result-back : (c : LeCreditConnResultCode) → resultOf (resultNumber c) ≡ Known c
+unfolding resultOf resultNumber
+result-back Success = refl
+result-back SpsmNotSupported = refl
+result-back NoResources = refl
+result-back InsufficientAuthentication = refl
+result-back InsufficientAuthorization = refl
+result-back EncryptionKeyTooShort = refl
+result-back InsufficientEncryption = refl
+result-back InvalidSourceId = refl
+result-back ScidAlreadyAllocated = refl
+result-back UnacceptableParameters = refl
+
+unfoldable pub refusalNumber : Refusal → ℕ
+refusalNumber Refusal.BadTable = 1
+refusalNumber Refusal.BadRoom = 2
+refusalNumber Refusal.NoRoom = 3
+refusalNumber Refusal.BadHandle = 4
+refusalNumber Refusal.BadSpsm = 5
+refusalNumber Refusal.BadSlot = 6
+refusalNumber Refusal.InvalidChannelId = 7
+refusalNumber Refusal.NotFound = 8
+refusalNumber Refusal.InvalidValue = 9
+refusalNumber Refusal.OutOfMemory = 10
+refusalNumber Refusal.ChannelClosed = 11
+refusalNumber Refusal.InsufficientSpace = 12
+refusalNumber Refusal.NoChannelAvailable = 13
+refusalNumber Refusal.Busy = 14
+refusalNumber Refusal.Decode = 15
+refusalNumber Refusal.NotSupported = 16
+refusalNumber (Refusal.ConnectError c) = 17
+refusalNumber Refusal.Disconnected = 18
+refusalNumber Refusal.ShortFrame = 19
+refusalNumber Refusal.BadMps = 20
+refusalNumber Refusal.QueueFull = 21
+refusalNumber Refusal.Held = 22
+refusalNumber Refusal.TooLong = 23

@@ -1,0 +1,2 @@
+-- Rulesets for the proofs of every crate above.
+pub mod Rules

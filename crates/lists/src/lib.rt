@@ -1,0 +1,1 @@
+// Only definitions and laws on lists, choices and loops: see specs/.

@@ -1,0 +1,3 @@
+pub mod Mem
+pub mod Table
+pub mod Outcome

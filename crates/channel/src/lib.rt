@@ -88,6 +88,18 @@ pub enum Role {
     Peripheral,
 }
 
+// A number that a call may be given, for the refusals that come first: a length, a link or a slot.
+pub enum Given {
+    Nothing,
+    Is(usize),
+}
+
+// What those first refusals come to.
+pub enum Verdict {
+    Pass,
+    Stop(Refusal),
+}
+
 // What a call answers.
 pub enum Answer {
     // 0, with nothing more to tell.

@@ -13,6 +13,10 @@ use Rattle.channel.specs.Limits.{signalMost, handleMost}
 use Rattle.channel.specs.declared.Answer.{Answer}
 use Rattle.channel.specs.declared.Answer.the-variants.{Done, Refused}
 use Rattle.channel.specs.declared.ChannelState.{ChannelState}
+use Rattle.channel.specs.declared.Given.{Given}
+use Rattle.channel.specs.declared.Given.the-variants.{Nothing, Is}
+use Rattle.channel.specs.declared.Verdict.{Verdict}
+use Rattle.channel.specs.declared.Verdict.the-variants.{Pass, Stop}
 use Rattle.channel.specs.declared.Slot.{Slot}
 use Rattle.channel.specs.declared.Table.{Table}
 use Rattle.definition.specs.Mem.{Fill, zeros, Move, put, wipe}
@@ -70,20 +74,23 @@ leaving t s x k a = change t s (left k x) (put 0 (zeros (placeOf t)) ∷ []) a [
 
 -- ---- "First 1, 2, 3 (signal buffer), 4, 6, then the order of each section."
 
--- What a call may be given: nothing, or a number (a length, a link, a slot).
-pub data Given : Type 0 where
-  none : Given
-  is : ℕ → Given
-
 abbrev pub fails : (ℕ → Bool) → Given → Bool
-fails bad none = false
-fails bad (is x) = bad x
+fails bad Nothing = false
+fails bad (Is x) = bad x
 
-unfoldable pub gate : Table → (room signal link slot : Given) → Outcome → Outcome
-gate t room signal link slot o =
-    if not (wellFormed t) then refuse t BadTable
-    else if fails (λ size. not (eqb size (roomSize t))) room then refuse t BadRoom
-    else if fails (λ size. ltb size signalMost) signal then refuse t NoRoom
-    else if fails (λ l. ltb handleMost l) link then refuse t BadHandle
-    else if fails (λ s. leb (t .n) s) slot then refuse t BadSlot
-    else o
+unfoldable pub verdict : Table → (room signal link slot : Given) → Verdict
+verdict t room signal link slot =
+    if not (wellFormed t) then Stop BadTable
+    else if fails (λ size. not (eqb size (roomSize t))) room then Stop BadRoom
+    else if fails (λ size. ltb size signalMost) signal then Stop NoRoom
+    else if fails (λ l. ltb handleMost l) link then Stop BadHandle
+    else if fails (λ s. leb (t .n) s) slot then Stop BadSlot
+    else Pass
+
+-- what follows is done only where the verdict lets it pass
+abbrev pub passed : Table → Verdict → Outcome → Outcome
+passed t Pass o = o
+passed t (Stop r) o = refuse t r
+
+abbrev pub gate : Table → (room signal link slot : Given) → Outcome → Outcome
+gate t room signal link slot o = passed t (verdict t room signal link slot) o

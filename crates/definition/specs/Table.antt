@@ -193,6 +193,42 @@ isFree x = isDisconnected (x .state) && eqb (x .hold) 0
 abbrev pub ofLink : ℕ → Slot → Bool
 ofLink l x = not (isDisconnected (x .state)) && eqb (x .link) l
 
+-- ---- what slots are searched for
+
+-- "the lowest PeerConnecting slot of the link"
+abbrev pub pendingOf : ℕ → Slot → Bool
+pendingOf l x = isPeerConnecting (x .state) && eqb (x .link) l
+
+-- ".. without holds"
+abbrev pub unheldPendingOf : ℕ → Slot → Bool
+unheldPendingOf l x = pendingOf l x && eqb (x .hold) 0
+
+-- "all Connecting slots of that link"
+abbrev pub attemptOf : ℕ → Slot → Bool
+attemptOf l x = isConnecting (x .state) && eqb (x .link) l
+
+-- "Connecting slot with that identifier and link"
+abbrev pub attemptBy : ℕ → ℕ → Slot → Bool
+attemptBy l id x = attemptOf l x && eqb (identifierOf (x .state)) id
+
+-- "Connected slot of this link with that peer CID"
+abbrev pub connectedTo : ℕ → ℕ → Slot → Bool
+connectedTo l cid x = isConnected (x .state) && (eqb (x .link) l && eqb (x .peer .cid) cid)
+
+-- "peer CID used on this link by a slot not Disconnected"
+abbrev pub usesPeer : ℕ → ℕ → Slot → Bool
+usesPeer l cid x = ofLink l x && eqb (x .peer .cid) cid
+
+-- a disconnect is to be announced or answered
+abbrev pub dueSlot : Slot → Bool
+dueSlot x = isDue (x .state)
+
+-- "a job waits, a disconnect is due or ConnectFailed stands"
+abbrev pub calls : Slot → Bool
+calls x = ltb 0 (x .queue .count) || (isDue (x .state) || isConnectFailed (x .state))
+
+-- ---- the table with other slots
+
 abbrev pub withSlots : Table → List Slot → Table
 withSlots t xs = record { slots = xs; n = t .n; d = t .d; m = t .m; identifier = t .identifier; spsms = t .spsms }
 

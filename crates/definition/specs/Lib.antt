@@ -1,3 +1,10 @@
 pub mod Mem
 pub mod Table
 pub mod Outcome
+pub mod Pending
+pub mod Opening
+pub mod Closing
+pub mod Signals
+pub mod Frames
+pub mod Asking
+pub mod Calls

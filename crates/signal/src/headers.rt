@@ -1,0 +1,6 @@
+// stub
+pub enum Checked {
+    Good,
+    Cut,
+    Past(u8),
+}

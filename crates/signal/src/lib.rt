@@ -1,0 +1,4 @@
+// stub
+pub mod bodies;
+pub mod headers;
+pub mod replies;

@@ -1,5 +1,5 @@
 -- What the contracts on octets cite, beside `sets` of lib.Seq: `sets xs at ys` is `ys` written over `xs` from index `at` on, one store
--- after the other, where a store past the end changes nothing. Numbers are little-endian (Core Vol 3 Part A 2.1).
+-- after the other, where a store past the end changes nothing. Numbers are little-endian (Core Vol 3 Part A 3).
 use mathlib.Core.List.{List, [], _∷_}
 use Prim.Native.Nat.{ℕ, _+_, _*_, _/_, _%_}
 use lib.ListN.{getD, take, drop}

@@ -6,7 +6,7 @@ use Prim.Native.Nat.{ℕ, zero, suc, _+_, _-_, _≤_, _<_, min}
 use native.Mathlib.Nat.{add-suc, suc-add, add-zero, zero-add, not-suc-le-zero}
 use native.Mathlib.Omega.{arith}
 use lib.ListN.{length, take, drop, getD, set, length-set, length-append, length-drop, length-take, take-append-drop}
-use lib.Seq.{sets, sets-eq, length-sets, getD-set-same, getD-set-other, set-out, set-set, set-comm, set-append-left, length-take-le, take-all, getD-drop, getD-take, drop-cons, drop-drop, ext-getD}
+use lib.Seq.{sets, sets-eq, length-sets, getD-set-same, getD-set-other, set-out, set-set, set-comm, set-append-left, length-take-le, take-all, take-nil, getD-drop, getD-take, drop-cons, drop-drop, ext-getD}
 use borrow.Rule.Slice.PartMut.{midOf, putMid, post-is}
 use Rattle.octets.specs.Octets.{part}
 
@@ -132,6 +132,12 @@ module _ {A : Type 0} where
 
   pub mid-part : (xs : List A) (at n : ℕ) → midOf at (at + n - at) xs ≡ part xs at n
   mid-part xs at n = let e : at + n - at ≡ n = omega arith in rw e
+
+  -- the part `&s[..n]`, where n is cut to the length
+  pub take-least : (n : ℕ) (xs : List A) → take (min n (length xs)) xs ≡ take n xs
+  take-least zero xs = let e : min 0 (length xs) ≡ 0 = omega arith in rw e
+  take-least (suc n) [] = take-nil (min (suc n) 0)
+  take-least (suc n) (x ∷ xs) = let e : min (suc n) (suc (length xs)) ≡ suc (min n (length xs)) = omega arith in rw e (ap (λ (r : List A). x ∷ r) (take-least n xs))
 
   -- the part `&s[n..]`
   pub tail-part : (n : ℕ) (xs : List A) → part xs n (length xs - n) ≡ drop n xs

@@ -1,0 +1,2 @@
+-- What the cursors' calls give.
+pub mod Cursor

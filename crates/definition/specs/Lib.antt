@@ -8,3 +8,4 @@ pub mod Signals
 pub mod Frames
 pub mod Asking
 pub mod Calls
+pub mod Ending

@@ -1,0 +1,4 @@
+pub mod Statement
+pub mod Same
+pub mod Contained
+pub mod Isolation

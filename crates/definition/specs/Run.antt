@@ -4,14 +4,13 @@ use mathlib.Core.List.{List, [], _∷_}
 use Prim.Native.Nat.{ℕ}
 use lib.ListN.{length, take, drop}
 use lib.Seq.{sets}
-use Rattle.channel.specs.declared.Served.{Served}
 use Rattle.channel.specs.declared.Table.{Table}
 use Rattle.definition.specs.Mem.{parts, written}
 use Rattle.definition.specs.Table.{width}
 use Rattle.definition.specs.Outcome.{Outcome}
 use Rattle.definition.specs.Asking.{make}
 use Rattle.definition.specs.Calls.{Window, Call, frame, sends, down, plain, jobs, bare, decide}
-use Rattle.definition.specs.Ending.{servedOf, itself}
+use Rattle.definition.specs.Ending.{itself}
 
 pub record State : Type 0 where
   pub table : Table
@@ -77,7 +76,7 @@ unfoldable pub run : State → List Call → State
 run s [] = s
 run s (c ∷ cs) = run (after s c) cs
 
--- What the calls give back: answers, tables, and how many octets each wrote.
-unfoldable pub served : State → List Call → List Served
-served s [] = []
-served s (c ∷ cs) = servedOf (outcome s c) ∷ served (after s c) cs
+-- What the calls come to, one after the other: answers, tables, signals, and what is written where.
+unfoldable pub outcomes : State → List Call → List Outcome
+outcomes s [] = []
+outcomes s (c ∷ cs) = outcome s c ∷ outcomes (after s c) cs

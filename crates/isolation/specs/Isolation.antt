@@ -11,7 +11,6 @@ use lib.Seq.{getD-take}
 use borrow.Author.Tests.{eqb-true, eq-eqb, ne-eqb, leb-true, not-false}
 use Rattle.lists.specs.Choose.{if-cases}
 use Rattle.lists.specs.Both.{and-left, and-right}
-use Rattle.channel.specs.declared.Served.{Served}
 use Rattle.channel.specs.declared.Slot.{Slot}
 use Rattle.channel.specs.declared.Table.{Table}
 use Rattle.definition.specs.Table.{fresh, gap, slotAt, live, width, roomSize}
@@ -19,8 +18,8 @@ use Rattle.definition.specs.Outcome.{Outcome}
 use Rattle.definition.specs.Asking.{Made, blank, make}
 use Rattle.definition.specs.Calls.{Window, Call, frame, sends, down, plain, jobs, bare, carrier, decide, Holder, nobody, by, holder, isBy}
 use Rattle.definition.specs.Numbers.{answerNumber}
-use Rattle.definition.specs.Ending.{servedOf, itself}
-use Rattle.definition.specs.Run.{State, lent, outWindow, jobWindow, outcome, roomLeft, memoryLeft, after, made, run, served}
+use Rattle.definition.specs.Ending.{itself}
+use Rattle.definition.specs.Run.{State, lent, outWindow, jobWindow, outcome, roomLeft, memoryLeft, after, made, run, outcomes}
 use Rattle.definition.specs.Public.{framed-bare, framed-count, sent-bare, sent-count}
 use Rattle.definition.specs.Safe.{Fit, Safe}
 use Rattle.definition.specs.SafeCalls.{Without, safe, down-clears}
@@ -130,8 +129,8 @@ module _ (k j : ℕ) where
     lengths : (v w : Window) → v ≡ w → length (lent w mb) ≡ length (lent v ma)
     lengths v w q = ap (λ (u : Window). length (lent u mb)) (sym q) ∙ sym (rel-length Agree (rel-lent Agree v (h .memory)))
 
-    outcomes : outcome (state t rb mb) d ≡ o
-    outcomes =
+    agreed : outcome (state t rb mb) d ≡ o
+    agreed =
         let q = alike-common e in
         rw (← q .bare, ← q .count, ← rel-length Agree (h .room), lengths (outWindow c) (outWindow d) (q .out), lengths (jobWindow c) (jobWindow d) (q .job)) refl
 
@@ -144,7 +143,7 @@ module _ (k j : ℕ) where
     unfolding after next-b
     afters =
         let q = alike-common e in
-        ap (λ (p : Outcome). state (p .table) (roomLeft itself (jobs t d) t p rb) (memoryLeft itself (jobs t d) p (outWindow d) (jobWindow d) rb mb)) outcomes
+        ap (λ (p : Outcome). state (p .table) (roomLeft itself (jobs t d) t p rb) (memoryLeft itself (jobs t d) p (outWindow d) (jobWindow d) rb mb)) agreed
         ∙ ap₂ (λ (v w : Window). state (o .table) (roomLeft itself (jobs t d) t o rb) (memoryLeft itself (jobs t d) o v w rb mb)) (sym (q .out)) (sym (q .job))
 
     jobs-agree : Rel Agree (jobs t c) (jobs t d) (map (λ _. carries k j (m .over) t c) (jobs t c))
@@ -172,14 +171,14 @@ module _ (k j : ℕ) where
           fit = s .fit;
         }
 
-  record Both (m : Marks) (a b : State) (x y : List Served) : Type 0 where
+  record Both (m : Marks) (a b : State) (x y : List Outcome) : Type 0 where
     states : Isolated k j m a b
-    given : x ≡ y
+    called : x ≡ y
 
   runs : (cs ds : List Call) (t : Table) (ra rb ma mb : List ℕ) (m : Marks) → Kept t ra rb ma mb m → AlikeRuns k j (m .over) (state t ra ma) cs ds
-      → Both (marksFrom k j (state t ra ma) m cs) (run (state t ra ma) cs) (run (state t rb mb) ds) (served (state t ra ma) cs) (served (state t rb mb) ds)
-  unfolding run served marksFrom marked after next-b
-  runs [] [] t ra rb ma mb m h e = record { states = isolated h; given = refl }
+      → Both (marksFrom k j (state t ra ma) m cs) (run (state t ra ma) cs) (run (state t rb mb) ds) (outcomes (state t ra ma) cs) (outcomes (state t rb mb) ds)
+  unfolding run outcomes marksFrom marked after next-b
+  runs [] [] t ra rb ma mb m h e = record { states = isolated h; called = refl }
   runs [] (d ∷ ds) t ra rb ma mb m h e = absurd e
   runs (c ∷ cs) [] t ra rb ma mb m h e = absurd e
   runs (c ∷ cs) (d ∷ ds) t ra rb ma mb m h e =
@@ -189,7 +188,7 @@ module _ (k j : ℕ) where
       let q = sym (afters t ra rb ma mb m h c d (e .0)) in
       record {
         states = subst (λ (z : State). Isolated k j (marksFrom k j a (marked k j (state t ra ma) m c) cs) (run a cs) (run z ds)) q (more .states);
-        given = ap₂ (λ (x : Served) (xs : List Served). x ∷ xs) (ap servedOf (sym (outcomes t ra rb ma mb m h c d (e .0)))) (more .given ∙ ap (λ (z : State). served z ds) q);
+        called = ap₂ (λ (x : Outcome) (xs : List Outcome). x ∷ xs) (sym (agreed t ra rb ma mb m h c d (e .0))) (more .called ∙ ap (λ (z : State). outcomes z ds) q);
       }
 
 -- ---- from tables that were made
@@ -224,7 +223,7 @@ zeroed (x ∷ xs) (y ∷ ys) e = ap (λ (r : List ℕ). 0 ∷ r) (zeroed xs ys (
 at-end : (k j n d m : ℕ) (room₁ room₂ memory : List ℕ) → answerNumber (make n d m room₁ .answer) ≡ 0 → answerNumber (make n d m room₂ .answer) ≡ 0
     → (cs ds : List Call) → AlikeRuns k j 0 (made n d m room₁ memory) cs ds
     → Both k j (marksOf k j (made n d m room₁ memory) cs) (run (made n d m room₁ memory) cs) (run (made n d m room₂ memory) ds)
-    (served (made n d m room₁ memory) cs) (served (made n d m room₂ memory) ds)
+    (outcomes (made n d m room₁ memory) cs) (outcomes (made n d m room₂ memory) ds)
 at-end k j n d m room₁ room₂ memory h₁ h₂ cs ds =
     let s₁ = start n d m room₁ h₁ in
     let s₂ = start n d m room₂ h₂ in
@@ -251,6 +250,6 @@ so-far k j (suc i) over s (c ∷ cs) (d ∷ ds) e = (e .0, so-far k j i (overAft
 
 pub isolation : Demand3
 isolation k j n d m room₁ room₂ memory cs ds h₁ h₂ e = (
-  at-end k j n d m room₁ room₂ memory h₁ h₂ cs ds e .given,
+  at-end k j n d m room₁ room₂ memory h₁ h₂ cs ds e .called,
   λ i. at-end k j n d m room₁ room₂ memory h₁ h₂ (take i cs) (take i ds) (so-far k j i 0 (made n d m room₁ memory) cs ds e) .states,
 )

@@ -15,7 +15,7 @@ use Rattle.definition.specs.Table.{slotAt, width, roomSize}
 use Rattle.definition.specs.Asking.{make}
 use Rattle.definition.specs.Calls.{Window, Call, frame, sends, down, plain, jobs, carrier, by, holder, isBy}
 use Rattle.definition.specs.Numbers.{answerNumber}
-use Rattle.definition.specs.Run.{State, outWindow, jobWindow, outcome, roomLeft, memoryLeft, after, made, run, served}
+use Rattle.definition.specs.Run.{State, outWindow, jobWindow, outcome, roomLeft, memoryLeft, after, made, run, outcomes}
 use Rattle.definition.specs.Public.{Assembling}
 
 -- ---- 1. One life of one link: link k, life j. Lives count from 0, and `over` is how many of them are over. "A link's life runs from
@@ -102,8 +102,8 @@ pub record Isolated (k j : ℕ) (m : Marks) (a b : State) : Type 0 where
   -- and the whole room, once that life's link-down has answered 0
   pub down : j < m .over → a .room ≡ b .room
 
--- ---- 5. The demand. All that the calls give back is equal (answers, tables, numbers of octets written), and `Isolated` holds after
--- every number i of calls.
+-- ---- 5. The demand. Every call comes to the same: answer, table, octets of every signal and how many of them, lengths of what is copied
+-- (an `Outcome`, crate definition, holds all that and no job octet). And `Isolated` holds after every number i of calls.
 
 abbrev pub Demand3 : Type 0
 Demand3 =
@@ -111,5 +111,5 @@ Demand3 =
     → answerNumber (make n d m room₁ .answer) ≡ 0
     → answerNumber (make n d m room₂ .answer) ≡ 0
     → AlikeRuns k j 0 (made n d m room₁ memory) cs ds
-    → (served (made n d m room₁ memory) cs ≡ served (made n d m room₂ memory) ds)
+    → (outcomes (made n d m room₁ memory) cs ≡ outcomes (made n d m room₂ memory) ds)
     × ((i : ℕ) → Isolated k j (marksOf k j (made n d m room₁ memory) (take i cs)) (run (made n d m room₁ memory) (take i cs)) (run (made n d m room₂ memory) (take i ds)))

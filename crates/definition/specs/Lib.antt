@@ -12,5 +12,7 @@ pub mod Ending
 pub mod Numbers
 pub mod Run
 pub mod Public
+pub mod Forms
 pub mod Safe
-pub mod SafeCalls
+pub mod Apart
+pub mod Example

@@ -12,8 +12,8 @@ use Rattle.channel.specs.declared.Slot.{Slot}
 use Rattle.definition.specs.Mem.{zeros, given, job, held, Move, put, wipe, fill, move, moves, parts}
 use Rattle.definition.specs.Table.{gap}
 use Rattle.definition.specs.Calls.{Holder, holder, isBy}
-use Rattle.definition.specs.Safe.{joblessMove, jobless, SafeSlot, kept, mine, allotted, wiped, SafeParts, rest, next}
-use Rattle.definition.specs.SafeCalls.{Without}
+use Rattle.definition.specs.Forms.{Each, rest, next}
+use Rattle.definition.specs.Safe.{joblessMove, jobless, SafeSlot, kept, mine, allotted, wiped, Without}
 use Rattle.isolation.specs.Statement.{unmarked}
 use Rattle.isolation.specs.Same.{Rel, nil, rel-take, rel-drop, rel-append, rel-map, rel-moves}
 
@@ -109,7 +109,7 @@ module _ (k w : ℕ) where
     safe-slot {ms = ms} (allotted e f) c g = clean-jobless js (c (ap (λ (h : Holder). lasts && isBy k h) e ∙ and-false lasts)) ms f
     safe-slot {part = part} wiped c g = clean-dark part
 
-    pub contained-step : {xs ys : List Slot} {mss : List (List Move)} → SafeParts l xs ys mss → (ms : List Bool) → Contained lasts xs ms → Contained lasts ys (parts unmarked js w mss ms)
+    pub contained-step : {xs ys : List Slot} {mss : List (List Move)} → Each (SafeSlot l) xs ys mss → (ms : List Bool) → Contained lasts xs ms → Contained lasts ys (parts unmarked js w mss ms)
     unfolding parts
     contained-step rest ms c = c
     contained-step (next {ms = m} {ys = ys} {mss = mss} h r) ms c =

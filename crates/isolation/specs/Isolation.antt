@@ -21,8 +21,8 @@ use Rattle.definition.specs.Numbers.{answerNumber}
 use Rattle.definition.specs.Ending.{itself}
 use Rattle.definition.specs.Run.{State, lent, outWindow, jobWindow, outcome, roomLeft, memoryLeft, after, made, run, outcomes}
 use Rattle.definition.specs.Public.{framed-bare, framed-count, sent-bare, sent-count}
-use Rattle.definition.specs.Safe.{Fit, Safe}
-use Rattle.definition.specs.SafeCalls.{Without, safe, down-clears}
+use Rattle.definition.specs.Forms.{Fit}
+use Rattle.definition.specs.Safe.{Safe, Without, safe, down-clears}
 use Rattle.isolation.specs.Statement.{isDown, overAfter, Exchanged, sent, framed, Alike, same, exchanged, AlikeRuns, Marks, carries, unmarked, marked, marksFrom, marksOf, Isolated, Demand3}
 use Rattle.isolation.specs.Same.{Rel, nil, cons, rel-take, rel-drop, rel-map, rel-lent, rel-length, rel-parts, rel-memory}
 use Rattle.isolation.specs.Contained.{Off, Clean, clean-dark, length-parts, Contained, contained-step, contained-without, contained-dead, contained-clean, contained-slot}

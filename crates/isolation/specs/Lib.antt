@@ -2,3 +2,4 @@ pub mod Statement
 pub mod Same
 pub mod Contained
 pub mod Isolation
+pub mod Example

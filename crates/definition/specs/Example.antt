@@ -68,32 +68,33 @@ abbrev states : State → List ChannelState
 states s = map (λ x. x .state) (take 2 (s .table .slots))
 
 -- ---- one channel, from request to link-down. A job of three octets comes in two frames and is taken to places 18 to 20 of the memory;
--- one of two octets is sent; our side disconnects; the link goes down, and the last hold is released.
+-- one of two octets is sent; a job of one octet comes, and our side disconnects; the link goes down, and the last hold is released.
 
-abbrev pub calls : (id a b c x y : ℕ) → List Call
-calls id a b c x y =
+abbrev pub calls : (id a b c x y e : ℕ) → List Call
+calls id a b c x y e =
     plain (register 0x80) unlent unlent
     ∷ opening 1 id
     ++ (frame 1 0x40 (3 ∷ 0 ∷ a ∷ b ∷ [])
     ∷ frame 1 0x40 (c ∷ [])
     ∷ plain (takes 0) buffer (window 18 4)
     ∷ sends 0 (x ∷ y ∷ []) (window 22 8)
+    ∷ frame 1 0x40 (1 ∷ 0 ∷ e ∷ [])
     ∷ plain (leaves 0) unlent unlent
     ∷ plain announces buffer unlent
     ∷ down 1
     ∷ plain (releases 0) unlent unlent
     ∷ [])
 
-module _ (id a b c x y : ℕ) where
+module _ (id a b c x y e : ℕ) where
   abbrev at : ℕ → State
-  at n = run start (take n (calls id a b c x y))
+  at n = run start (take n (calls id a b c x y e))
 
   abbrev slot : ℕ → Slot
   slot n = slotAt (at n .table) 0
 
   record Channel : Type 0 where
-    answered : answers start (calls id a b c x y)
-        ≡ Done ∷ Done ∷ At (index 0) ∷ Link 1 ∷ Done ∷ Done ∷ Job 1 3 3 ∷ Frames 1 1 ∷ Done ∷ Due 1 (index 0) ∷ Done ∷ Done ∷ []
+    answered : answers start (calls id a b c x y e)
+        ≡ Done ∷ Done ∷ At (index 0) ∷ Link 1 ∷ Done ∷ Done ∷ Job 1 3 3 ∷ Frames 1 1 ∷ Done ∷ Done ∷ Due 1 (index 0) ∷ Done ∷ Done ∷ []
     -- our response: CID 0x40, MTU 23, MPS 25, 5 credits, result 0
     response : take 18 (at 4 .memory) ≡ 14 ∷ 0 ∷ 5 ∷ 0 ∷ 0x15 ∷ id ∷ 10 ∷ 0 ∷ 0x40 ∷ 0 ∷ 23 ∷ 0 ∷ 25 ∷ 0 ∷ 5 ∷ 0 ∷ 0 ∷ 0 ∷ []
     -- the first frame's octets stand in the assembly place, the finished job in the place behind it, and later none
@@ -108,13 +109,15 @@ module _ (id a b c x y : ℕ) where
         ≡ 8 ∷ 0 ∷ 5 ∷ 0 ∷ 0x16 ∷ 1 ∷ 4 ∷ 0 ∷ 0x40 ∷ 0 ∷ 2 ∷ 0 ∷ 25 ∷ 0 ∷ 5 ∷ 0 ∷ 0 ∷ 0 ∷ a ∷ b ∷ c ∷ 9 ∷ 4 ∷ 0 ∷ 0x50 ∷ 0 ∷ 2 ∷ 0 ∷ x ∷ y ∷ []
     sent : slot 8 .peer .credits ≡ 4
     -- our disconnect request, announced once
-    left : states (at 9) ≡ Disconnecting false ∷ Disconnected ∷ []
-    announced : states (at 10) ≡ Disconnecting true ∷ Disconnected ∷ []
-    request : take 12 (at 10 .memory) ≡ 8 ∷ 0 ∷ 5 ∷ 0 ∷ 0x06 ∷ 2 ∷ 4 ∷ 0 ∷ 0x50 ∷ 0 ∷ 0x40 ∷ 0 ∷ []
-    -- link down frees the slot, all but its hold; released, it is as new
-    down : at 11 .table .slots ≡ fresh 1 ∷ replicate 15 (fresh 0)
-    over : at 12 .table ≡ record { slots = replicate 16 (fresh 0); n = 2; d = 1; m = 29; identifier = 3; spsms = set (replicate 32 0) 16 1 }
+    left : states (at 10) ≡ Disconnecting false ∷ Disconnected ∷ []
+    announced : states (at 11) ≡ Disconnecting true ∷ Disconnected ∷ []
+    request : take 12 (at 11 .memory) ≡ 8 ∷ 0 ∷ 5 ∷ 0 ∷ 0x06 ∷ 2 ∷ 4 ∷ 0 ∷ 0x50 ∷ 0 ∷ 0x40 ∷ 0 ∷ []
+    -- the job that waits stays, until link down
+    waiting : at 11 .room ≡ replicate 23 0 ++ (e ∷ replicate 68 0)
     clean : at 12 .room ≡ replicate 92 0
+    -- link down frees the slot, all but its hold; released, it is as new
+    down : at 12 .table .slots ≡ fresh 1 ∷ replicate 15 (fresh 0)
+    over : at 13 .table ≡ record { slots = replicate 16 (fresh 0); n = 2; d = 1; m = 29; identifier = 3; spsms = set (replicate 32 0) 16 1 }
 
   channel : Channel
   unfolding run outcomes after decide serve registerSpsm signalled checked headersOf whole handled onConnReq nextPending acceptPending dispatch joined joinStep grown receive taken grantIn grantOf due send planned planSend frameCount frames laterFrames disconnect disconnecting nextDisconnect disconnected decRef jobs bare verdict wellFormed slotFits every first only choose make parts moves move fill fills written
@@ -132,9 +135,10 @@ module _ (id a b c x y : ℕ) where
         left = refl;
         announced = refl;
         request = refl;
+        waiting = refl;
+        clean = refl;
         down = refl;
         over = refl;
-        clean = refl;
       }
 
 -- ---- the client's accident: a phone closes its channel mid-job, and the next phone gets the slot. Nothing of the half is left, and the

@@ -1,7 +1,7 @@
 -- What is job and what is public in a call (Calls.antt), checked against document 01's words: the octets of a frame are its length octets
 -- and its job octets, and the call that `decide` sees stays the same whatever the job octets are, as long as there are as many.
-use mathlib.Core.Path.{_≡_, refl, sym, ap, _∙_}
-use mathlib.Core.Bool.{Bool, true, false, false≢true}
+use mathlib.Core.Path.{_≡_, refl, sym, ap, ap₂, subst, _∙_}
+use mathlib.Core.Bool.{Bool, true, false, _&&_, not, false≢true}
 use mathlib.Core.List.{List, [], _++_}
 use Prim.Native.Nat.{ℕ, _+_, _-_, _<_}
 use native.Mathlib.Omega.{arith}
@@ -25,8 +25,10 @@ pub record Assembling (t : Table) (cid : ℕ) : Type 0 where
 -- `joining` says just that
 pub assembling-joins : (t : Table) (cid : ℕ) → Assembling t cid → joining t cid ≡ true
 assembling-joins t cid a =
-    let e : cid - cidBase ≡ a .slot = omega (arith, a .named) in
-    rw (le-leb cidBase cid (omega (arith, a .named)), e, lt-ltb (a .slot) (t .n) (a .within), ne-eqb (slotAt t (a .slot) .assembly .want) 0 (a .wants)) refl
+    let e : slotOf cid ≡ a .slot = omega (arith, a .named) in
+    ap₂ (λ (b c : Bool). b && c)
+    (ap₂ (λ (b c : Bool). b && c) (le-leb cidBase cid (omega (arith, a .named))) (lt-ltb (slotOf cid) (t .n) (omega (arith, a .within))))
+    (ap not (ne-eqb (slotAt t (slotOf cid) .assembly .want) 0 (λ z. a .wants (subst (λ (s : ℕ). slotAt t s .assembly .want ≡ 0) e z))))
 
 pub joins-assembling : (t : Table) (cid : ℕ) → joining t cid ≡ true → Assembling t cid
 joins-assembling t cid e =

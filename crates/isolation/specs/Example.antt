@@ -32,9 +32,9 @@ unfolding make choose
 made-well = refl
 
 -- Two such runs with different job octets are alike: in life 0 of link 1.
-alike : (id a b c x y a′ b′ c′ x′ y′ : ℕ) → AlikeRuns 1 0 0 start (calls id a b c x y) (calls id a′ b′ c′ x′ y′)
+alike : (id a b c x y e a′ b′ c′ x′ y′ e′ : ℕ) → AlikeRuns 1 0 0 start (calls id a b c x y e) (calls id a′ b′ c′ x′ y′ e′)
 unfolding overAfter after decide serve registerSpsm signalled checked headersOf whole handled onConnReq nextPending acceptPending dispatch joined joinStep grown receive taken grantIn grantOf due send planned planSend frameCount frames laterFrames disconnect disconnecting nextDisconnect disconnected decRef jobs bare verdict wellFormed slotFits every first only choose make parts moves move fill fills written
-alike id a b c x y a′ b′ c′ x′ y′ = (
+alike id a b c x y e a′ b′ c′ x′ y′ e′ = (
   same,
   (
     same,
@@ -45,8 +45,8 @@ alike id a b c x y a′ b′ c′ x′ y′ = (
         (
           exchanged refl (framed refl (λ _. refl)),
           (
-            exchanged refl (framed refl (λ none. absurd (none (record { slot = 0; named = refl; within = omega arith; wants = λ (e : _≡_ {A = ℕ} 3 0). omega arith })))),
-            (same, (exchanged refl (sent {s = 0} refl refl), (same, (same, (same, (same, tt)))))),
+            exchanged refl (framed refl (λ none. absurd (none (record { slot = 0; named = refl; within = omega arith; wants = λ (z : _≡_ {A = ℕ} 3 0). omega arith })))),
+            (same, (exchanged refl (sent {s = 0} refl refl), (exchanged refl (framed refl (λ _. refl)), (same, (same, (same, (same, tt))))))),
           ),
         ),
       ),
@@ -54,14 +54,14 @@ alike id a b c x y a′ b′ c′ x′ y′ = (
   ),
 )
 
-module _ (id a b c x y : ℕ) where
+module _ (id a b c x y e : ℕ) where
   record Marked : Type 0 where
     -- two octets in the assembly place
-    half : marksOf 1 0 start (take 5 (calls id a b c x y)) .room ≡ true ∷ true ∷ replicate 90 false
+    half : marksOf 1 0 start (take 5 (calls id a b c x y e)) .room ≡ true ∷ true ∷ replicate 90 false
     -- the job at 18 to 20, the frame's payload at 28 and 29; the signals and the frame's header are not marked
-    memory : marksOf 1 0 start (calls id a b c x y) .memory ≡ replicate 18 false ++ (true ∷ true ∷ true ∷ replicate 7 false ++ (true ∷ true ∷ []))
-    room : marksOf 1 0 start (calls id a b c x y) .room ≡ replicate 92 false
-    over : marksOf 1 0 start (calls id a b c x y) .over ≡ 1
+    memory : marksOf 1 0 start (calls id a b c x y e) .memory ≡ replicate 18 false ++ (true ∷ true ∷ true ∷ replicate 7 false ++ (true ∷ true ∷ []))
+    room : marksOf 1 0 start (calls id a b c x y e) .room ≡ replicate 92 false
+    over : marksOf 1 0 start (calls id a b c x y e) .over ≡ 1
 
   marks : Marked
   unfolding marksFrom marked overAfter after decide serve registerSpsm signalled checked headersOf whole handled onConnReq nextPending acceptPending dispatch joined joinStep grown receive taken grantIn grantOf due send planned planSend frameCount frames laterFrames disconnect disconnecting nextDisconnect disconnected decRef jobs bare carrier verdict wellFormed slotFits every first only choose make parts moves move fill fills written

@@ -1,7 +1,7 @@
 -- Demand 3, proved: by induction on the calls, from `rel-parts` and `rel-memory` (Same), `contained-step` (Contained), and `safe` and
 -- `down-clears` (crate definition).
 use mathlib.Core.Path.{_≡_, refl, sym, _∙_, ap, ap₂, subst}
-use mathlib.Core.Bool.{Bool, true, false, false≢true}
+use mathlib.Core.Bool.{Bool, true, false, _&&_, false≢true}
 use mathlib.Core.List.{List, [], _∷_, map}
 use Prim.Native.Nat.{ℕ, zero, suc, _*_, _≤_}
 use native.Mathlib.Omega.{arith}
@@ -88,7 +88,7 @@ module _ {k j over : ℕ} {t : Table} {c : Call} where
 
   alike-jobs : {d : Call} → Alike k j over t c d → carries k j over t c ≡ false → jobs t c ≡ jobs t d
   alike-jobs same f = refl
-  alike-jobs (exchanged g h) f = absurd (false≢true (sym f ∙ rw (eq-eqb over j g, exchanged-carrier h) (eq-eqb k k refl)))
+  alike-jobs (exchanged g h) f = absurd (false≢true (sym f ∙ ap₂ (λ (a b : Bool). a && b) (eq-eqb over j g) (ap (isBy k) (exchanged-carrier h) ∙ eq-eqb k k refl)))
 
 -- a link-down that ends a life leaves no slot of its link
 clears : (k : ℕ) (t : Table) (c : Call) (count room out job : ℕ) → isDown k c ≡ true

@@ -1,4 +1,0 @@
-// stub
-pub mod bodies;
-pub mod headers;
-pub mod replies;

@@ -10,7 +10,7 @@ use Rattle.codes.specs.declared.ResultRead.the-variants.{Known, Unknown}
 use Rattle.codes.specs.declared.Refusal.{Refusal}
 use Rattle.codes.specs.declared.Refusal.the-variants as Refusal
 
-unfoldable pub resultNumber : LeCreditConnResultCode → ℕ
+abbrev pub resultNumber : LeCreditConnResultCode → ℕ
 resultNumber Success = 0
 resultNumber SpsmNotSupported = 2
 resultNumber NoResources = 4
@@ -39,7 +39,7 @@ resultOf n =
 
 -- the number of a code is read as that code
 pub result-back : (c : LeCreditConnResultCode) → resultOf (resultNumber c) ≡ Known c
-unfolding resultOf resultNumber
+unfolding resultOf
 result-back Success = refl
 result-back SpsmNotSupported = refl
 result-back NoResources = refl
@@ -51,7 +51,7 @@ result-back InvalidSourceId = refl
 result-back ScidAlreadyAllocated = refl
 result-back UnacceptableParameters = refl
 
-unfoldable pub refusalNumber : Refusal → ℕ
+abbrev pub refusalNumber : Refusal → ℕ
 refusalNumber Refusal.BadTable = 1
 refusalNumber Refusal.BadRoom = 2
 refusalNumber Refusal.NoRoom = 3

@@ -1,0 +1,3 @@
+-- What cutting a job writes and answers, and its laws.
+pub mod Cutting
+pub mod CutLaws

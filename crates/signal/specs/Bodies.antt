@@ -45,7 +45,7 @@ disconnectionRes s = choose (eqb (length s) 4) (DisconnectionResRead.Is (record 
 unfoldable pub connParamUpdateReq : List ℕ → ConnParamUpdateReqRead
 connParamUpdateReq s =
     choose (eqb (length s) 8)
-    (ConnParamUpdateReqRead.Is (record { «interval_min» = u16At s 0; «interval_max» = u16At s 2; latency = u16At s 4; timeout = u16At s 6 }))
+    (ConnParamUpdateReqRead.Is (record { min = u16At s 0; max = u16At s 2; latency = u16At s 4; timeout = u16At s 6 }))
     ConnParamUpdateReqRead.Decode
 
 -- 4.21: result

@@ -41,7 +41,7 @@ abbrev pub fieldsOf : Signal → List ℕ
 fieldsOf (CommandRejectRes f) = f .reason ∷ []
 fieldsOf (DisconnectionReq f) = f .dcid ∷ f .scid ∷ []
 fieldsOf (DisconnectionRes f) = f .dcid ∷ f .scid ∷ []
-fieldsOf (ConnParamUpdateReq f) = f .«interval_min» ∷ f .«interval_max» ∷ f .latency ∷ f .timeout ∷ []
+fieldsOf (ConnParamUpdateReq f) = f .min ∷ f .max ∷ f .latency ∷ f .timeout ∷ []
 fieldsOf (ConnParamUpdateRes f) = f .result ∷ []
 fieldsOf (LeCreditConnReq f) = f .spsm ∷ f .scid ∷ f .mtu ∷ f .mps ∷ f .credits ∷ []
 fieldsOf (LeCreditConnRes f) = f .dcid ∷ f .mtu ∷ f .mps ∷ f .credits ∷ resultNumber (f .result) ∷ []

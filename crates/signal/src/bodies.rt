@@ -80,8 +80,8 @@ pub fn read_conn_param_update_req(body: &[u8]) -> ConnParamUpdateReqRead
         return ConnParamUpdateReqRead::Decode;
     }
     ConnParamUpdateReqRead::Is(ConnParamUpdateReq {
-        interval_min: number(body, 0),
-        interval_max: number(body, 2),
+        min: number(body, 0),
+        max: number(body, 2),
         latency: number(body, 4),
         timeout: number(body, 6),
     })

@@ -22,8 +22,8 @@ pub struct DisconnectionRes {
 
 // Code 0x12 (4.20).
 pub struct ConnParamUpdateReq {
-    pub interval_min: u16,
-    pub interval_max: u16,
+    pub min: u16,
+    pub max: u16,
     pub latency: u16,
     pub timeout: u16,
 }

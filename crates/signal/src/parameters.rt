@@ -6,13 +6,13 @@ ghost use Rattle.signal.specs.Parameters.{parametersValid};
 pub fn parameters_valid(p: ConnParamUpdateReq) -> bool
     ensures { λ r. ⌜ r ≡ parametersValid p ⌝ }
 {
-    if p.interval_min < 6 {
+    if p.min < 6 {
         return false;
     }
-    if p.interval_max < p.interval_min {
+    if p.max < p.min {
         return false;
     }
-    if 3200 < p.interval_max {
+    if 3200 < p.max {
         return false;
     }
     if 499 < p.latency {
@@ -24,5 +24,5 @@ pub fn parameters_valid(p: ConnParamUpdateReq) -> bool
     if 3200 < p.timeout {
         return false;
     }
-    (1 + p.latency as u32) * (p.interval_max as u32) < 4 * (p.timeout as u32)
+    (1 + p.latency as u32) * (p.max as u32) < 4 * (p.timeout as u32)
 }

@@ -86,15 +86,7 @@ pub fn write_signal(out: &mut [u8], id: u8, s: Signal) -> SignalWritten
             SignalWritten::Octets(12)
         }
         Signal::ConnParamUpdateReq(f) => {
-            put_four(
-                out,
-                0x12,
-                id,
-                f.interval_min,
-                f.interval_max,
-                f.latency,
-                f.timeout,
-            );
+            put_four(out, 0x12, id, f.min, f.max, f.latency, f.timeout);
             SignalWritten::Octets(16)
         }
         Signal::ConnParamUpdateRes(f) => {

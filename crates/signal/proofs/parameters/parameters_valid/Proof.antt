@@ -44,7 +44,7 @@ cast-result-2 c = search needs
 mul-result : tie.Need-mul-result
 mul-result c =
     let a = c .before .before .before .before .before .before .before .before .before .before .before .before .before .before .args .p in
-    let h : (1 + a .latency) * a .«interval_max» ≤ 500 * 3200 = mul-le-mul {n₂ = 500} {m₂ = 3200} (omega arith) (omega arith) in
+    let h : (1 + a .latency) * a .max ≤ 500 * 3200 = mul-le-mul {n₂ = 500} {m₂ = 3200} (omega arith) (omega arith) in
     omega arith
 
 cast-result-3 : tie.Need-cast-result-3

@@ -9,7 +9,7 @@ use lib.ListN.{length, take, drop, length-drop, drop-of-length-le}
 use lib.Seq.{sets, drop-drop, length-take-le}
 use Rattle.octets.specs.Octets.{part, le16}
 use Rattle.octets.specs.Sets.{sets-append, part-length, take-least}
-use Rattle.cutting.specs.Cutting.{ceil, stream, pieceAt, piecesFrom, pieces, payloads, frame, joined, framesOf}
+use Rattle.cutting.specs.Cutting.{ceil, frameCount, stream, pieceAt, piecesFrom, pieces, payloads, frame, joined, framesOf}
 use Rattle.cutting.specs.CutLaws.{split, ceil-zero, ceil-more}
 
 module _ {A : Type 0} (m : ℕ) where
@@ -90,34 +90,50 @@ least-drop xs from m = split m (length xs - from)
     (λ l. let e : min (length xs - from) m ≡ length xs - from = omega arith in
     drop-of-length-le xs {i = from + min (length xs - from) m} (rw e (omega arith)) ∙ sym (drop-drop m from xs ∙ drop-of-length-le xs {i = from + m} (omega arith)))
 
+-- a job's frames: the first, and those of the rest, by the octets that each takes of the job
+pub framed-start : (m cid : ℕ) (sdu : List ℕ) (k : ℕ) → 2 ≤ m → k ≡ min (length sdu) (m - 2)
+    → framesOf cid m sdu ≡ frame cid (le16 (length sdu) ++ take k sdu) ++ framed m cid (drop k sdu)
+framed-start m cid sdu k h e =
+    let t : take k sdu ≡ take (m - 2) sdu = rw e (rw sub-zero at (least-part sdu 0 (m - 2))) in
+    let d : drop k sdu ≡ drop (m - 2) sdu = rw e (rw (sub-zero, zero-add) at (least-drop sdu 0 (m - 2))) in
+    rw (t, d) (framed-first m cid sdu h)
+
+pub framed-turn : (m cid : ℕ) (sdu : List ℕ) (from k : ℕ) → 0 < m → from < length sdu → k ≡ min (length sdu - from) m
+    → framed m cid (drop from sdu) ≡ frame cid (part sdu from k) ++ framed m cid (drop (from + k) sdu)
+framed-turn m cid sdu from k p h e =
+    let t : part sdu from k ≡ take m (drop from sdu) = rw e (least-part sdu from m) in
+    let d : drop (from + k) sdu ≡ drop m (drop from sdu) = rw e (least-drop sdu from m) in
+    rw (t, d) (framed-more m cid (drop from sdu) p (rw length-drop (omega arith)))
+
+-- and how many: one, and those of the rest
+pub count-first : (m l k : ℕ) → 2 ≤ m → k ≡ min l (m - 2) → frameCount l m ≡ suc (ceil (l - k) m)
+unfolding frameCount
+count-first m l k h e =
+    let f : l + 2 - m ≡ l - k = omega arith in
+    ceil-more (l + 2) m (omega arith) (omega arith) ∙ ap (λ (x : ℕ). suc (ceil x m)) f
+
 -- ---- the loop that writes the frames of what is left of a job, of which `done` octets are written, at `at`. Its invariant: with the
 -- rest written too, it is all frames. Its start behind the first frame, its turn, and its end.
 pub record Framing (m cid : ℕ) (sdu out₀ : List ℕ) (done at : ℕ) (out : List ℕ) : Type 0 where
-  pub near : at ≤ 5 * done + 6
   pub is : sets out at (framed m cid (drop done sdu)) ≡ sets out₀ 0 (framesOf cid m sdu)
 
 pub framing-first : (m cid : ℕ) (sdu out₀ : List ℕ) (k : ℕ) (out : List ℕ) → 2 ≤ m → k ≡ min (length sdu) (m - 2)
     → out ≡ sets out₀ 0 (frame cid (le16 (length sdu) ++ take k sdu)) → Framing m cid sdu out₀ k (k + 6) out
 framing-first m cid sdu out₀ k out h e o =
-    let t : take k sdu ≡ take (m - 2) sdu = rw e (rw sub-zero at (least-part sdu 0 (m - 2))) in
-    let d : drop k sdu ≡ drop (m - 2) sdu = rw e (rw (sub-zero, zero-add) at (least-drop sdu 0 (m - 2))) in
     let q : length (take k sdu) ≡ k = length-take-le k sdu (omega arith) in
     let f = le16 (length sdu) ++ take k sdu in
     let g : 0 + length (frame cid f) ≡ k + 6 = rw frame-length (omega arith) in
-    let w : framesOf cid m sdu ≡ frame cid f ++ framed m cid (drop k sdu) = rw (t, d) (framed-first m cid sdu h) in
-    record { near = omega arith; is = rw o (sym (rw (w, ← g) (sets-append out₀ 0 (frame cid f) (framed m cid (drop k sdu))))) }
+    record { is = rw o (sym (rw (framed-start m cid sdu k h e, ← g) (sets-append out₀ 0 (frame cid f) (framed m cid (drop k sdu))))) }
 
 module _ {m cid : ℕ} {sdu out₀ : List ℕ} {done at : ℕ} {out : List ℕ} (w : Framing m cid sdu out₀ done at out) where
   pub framing-more : (k : ℕ) (out′ : List ℕ) → 0 < m → done < length sdu → k ≡ min (length sdu - done) m
       → out′ ≡ sets out at (frame cid (part sdu done k)) → Framing m cid sdu out₀ (done + k) (at + (k + 4)) out′
   framing-more k out′ p h e o =
-      let t : part sdu done k ≡ take m (drop done sdu) = rw e (least-part sdu done m) in
-      let d : drop (done + k) sdu ≡ drop m (drop done sdu) = rw e (least-drop sdu done m) in
       let q : length (part sdu done k) ≡ k = part-length sdu done k (omega arith) in
       let g : at + length (frame cid (part sdu done k)) ≡ at + (k + 4) = rw frame-length (omega arith) in
-      let f : framed m cid (drop done sdu) ≡ frame cid (part sdu done k) ++ framed m cid (drop (done + k) sdu) =
-      rw (t, d) (framed-more m cid (drop done sdu) p (rw length-drop (omega arith))) in
-      record { near = omega (arith, w .near); is = rw (o, ← g) (sym (sets-append out at (frame cid (part sdu done k)) (framed m cid (drop (done + k) sdu)))) ∙ rw f at (w .is) }
+      record {
+        is = rw (o, ← g) (sym (sets-append out at (frame cid (part sdu done k)) (framed m cid (drop (done + k) sdu)))) ∙ rw (framed-turn m cid sdu done k p h e) at (w .is);
+      }
 
   pub framing-end : 0 < m → length sdu ≤ done → out ≡ sets out₀ 0 (framesOf cid m sdu)
   framing-end p h = rw (framed-nil m cid (drop done sdu) p (rw length-drop (omega arith))) at (w .is)

@@ -6,6 +6,7 @@ use native.Mathlib.Decide.{decLe}
 use native.Mathlib.Omega.{arith}
 use borrow.Author.Tests.{lt-ltb, le-ltb}
 use Rattle.lists.specs.Choose.{choose}
+use Rattle.codes.specs.declared.Refusal.{Refusal}
 use Rattle.codes.specs.declared.Refusal.the-variants as Refusal
 use Rattle.cutting.specs.declared.Plan.the-variants.{Refused, Frames}
 use Rattle.cutting.specs.Cutting.{ceil, frameCount, framesLength, leastMps, longestJob, planSend}
@@ -98,3 +99,32 @@ module _ (l mtu mps credits room : ℕ) where
           unfolding planSend choose
           plan-frames h =
               rw (le-ltb mtu l fits, le-ltb longestJob l short, le-ltb mps leastMps wide, le-ltb credits (frameCount l mps) paid, le-ltb room (framesLength l mps) h)
+
+-- whatever is planned passed every test
+pub record Allowed (l mtu mps credits room n octets : ℕ) : Type 0 where
+  pub fits : l ≤ mtu
+  pub short : l ≤ longestJob
+  pub wide : leastMps ≤ mps
+  pub paid : frameCount l mps ≤ credits
+  pub holds : framesLength l mps ≤ room
+  pub frames : n ≡ frameCount l mps
+  pub long : octets ≡ framesLength l mps
+
+pub plan-allowed : (l mtu mps credits room n octets : ℕ) → planSend l mtu mps credits room ≡ Frames n octets → Allowed l mtu mps credits room n octets
+plan-allowed l mtu mps credits room n octets e =
+    split l mtu
+    (λ fits. split l longestJob
+    (λ short. split leastMps mps
+    (λ wide. split (frameCount l mps) credits
+    (λ paid. split (framesLength l mps) room
+    (λ holds.
+    let q = plan-frames l mtu mps credits room fits short wide paid holds in
+    record { fits = fits; short = short; wide = wide; paid = paid; holds = holds; frames = cc; long = cc })
+    (λ h. never (plan-no-room l mtu mps credits room fits short wide paid h)))
+    (λ h. never (plan-busy l mtu mps credits room fits short wide h)))
+    (λ h. never (plan-bad-mps l mtu mps credits room fits short h)))
+    (λ h. never (plan-too-long l mtu mps credits room fits h)))
+    (λ h. never (plan-above-mtu l mtu mps credits room h))
+  where
+    never : {r : Refusal} → Refused r ≡ planSend l mtu mps credits room → Allowed l mtu mps credits room n octets
+    never q = let z : _≡_ {A = ℕ} 0 1 = cc in absurd (omega arith)

@@ -3,6 +3,7 @@
 use mathlib.Core.List.{List, [], _∷_, _++_, map}
 use Prim.Native.Nat.{ℕ, zero, suc, _+_, _-_, _*_, _/_}
 use lib.ListN.{length}
+use lib.Seq.{sets}
 use lib.Dec.{ltb}
 use Rattle.lists.specs.Choose.{choose}
 use Rattle.octets.specs.Octets.{part, le16}
@@ -82,3 +83,8 @@ planSend l mtu mps credits room =
     (choose (ltb credits (frameCount l mps)) (Refused Refusal.Busy)
     (choose (ltb room (framesLength l mps)) (Refused Refusal.NoRoom)
     (Frames (frameCount l mps) (framesLength l mps))))))
+
+-- the output after a plan: the frames at its start, and the rest as it was
+unfoldable pub outputAfter : Plan → ℕ → ℕ → List ℕ → List ℕ → List ℕ
+outputAfter (Refused r) cid mps out sdu = out
+outputAfter (Frames n octets) cid mps out sdu = sets out 0 (framesOf cid mps sdu)

@@ -62,7 +62,7 @@ module _ (code : ℕ) (body : List ℕ) (o : Below 256 body) where
       if-cases (Says s) (eqb code 0x01) (λ c. if-cases (λ r. Says s (fromCommandRejectRes r)) (ltb (length body) 2) (λ _. none s) (λ _. one s (CommandRejectRes (record { reason = u16At body 0 })) 1 c refl refl))
       (λ _. if-cases (Says s) (eqb code 0x06) (λ c. if-cases (λ r. Says s (fromDisconnectionReq r)) (eqb (length body) 4) (λ _. one s (DisconnectionReq (record { dcid = u16At body 0; scid = u16At body 2 })) 2 c refl refl) (λ _. none s))
       (λ _. if-cases (Says s) (eqb code 0x07) (λ c. if-cases (λ r. Says s (fromDisconnectionRes r)) (eqb (length body) 4) (λ _. one s (DisconnectionRes (record { dcid = u16At body 0; scid = u16At body 2 })) 2 c refl refl) (λ _. none s))
-      (λ _. if-cases (Says s) (eqb code 0x12) (λ c. if-cases (λ r. Says s (fromConnParamUpdateReq r)) (eqb (length body) 8) (λ _. one s (ConnParamUpdateReq (record { «interval_min» = u16At body 0; «interval_max» = u16At body 2; latency = u16At body 4; timeout = u16At body 6 })) 4 c refl refl) (λ _. none s))
+      (λ _. if-cases (Says s) (eqb code 0x12) (λ c. if-cases (λ r. Says s (fromConnParamUpdateReq r)) (eqb (length body) 8) (λ _. one s (ConnParamUpdateReq (record { min = u16At body 0; max = u16At body 2; latency = u16At body 4; timeout = u16At body 6 })) 4 c refl refl) (λ _. none s))
       (λ _. if-cases (Says s) (eqb code 0x13) (λ c. if-cases (λ r. Says s (fromConnParamUpdateRes r)) (eqb (length body) 2) (λ _. one s (ConnParamUpdateRes (record { result = u16At body 0 })) 1 c refl refl) (λ _. none s))
       (λ _. if-cases (Says s) (eqb code 0x14) (λ c. if-cases (λ r. Says s (fromLeCreditConnReq r)) (eqb (length body) 10) (λ _. one s (LeCreditConnReq (record { spsm = u16At body 0; scid = u16At body 2; mtu = u16At body 4; mps = u16At body 6; credits = u16At body 8 })) 5 c refl refl) (λ _. none s))
       (λ _. if-cases (Says s) (eqb code 0x15) (λ c. if-cases (λ r. Says s (fromLeCreditConnRes r)) (eqb (length body) 10) (λ _. res s c (resultOf (u16At body 8)) refl) (λ _. none s))

@@ -82,12 +82,6 @@ pub struct L2capChannelConfig {
     pub credits: Setting,
 }
 
-// Our side of a link.
-pub enum Role {
-    Central,
-    Peripheral,
-}
-
 // A number that a call may be given, for the refusals that come first: a length, a link or a slot.
 pub enum Given {
     Nothing,

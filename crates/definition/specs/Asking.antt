@@ -8,9 +8,9 @@ use lib.ListN.{length, replicate}
 use Rattle.lists.specs.First.{first}
 use Rattle.lists.specs.Bits.{bitset, count}
 use Rattle.codes.specs.declared.Refusal.the-variants.{BadTable, BadRoom, BadSpsm}
-use Rattle.signal.specs.Replies.{encodeOf}
-use Rattle.signal.specs.declared.replies.Signal.{Signal}
-use Rattle.signal.specs.declared.replies.Signal.the-variants.{ConnParamUpdateReq, ConnParamUpdateRes}
+use Rattle.writer.specs.Writer.{encodeOf}
+use Rattle.signal.specs.declared.forms.Signal.{Signal}
+use Rattle.signal.specs.declared.forms.Signal.the-variants.{ConnParamUpdateReq, ConnParamUpdateRes}
 use Rattle.channel.specs.Limits.{slotsMost, spsmMost}
 use Rattle.channel.specs.declared.Answer.{Answer}
 use Rattle.channel.specs.declared.Answer.the-variants.{Done, Refused, Attention, Number}
@@ -87,7 +87,7 @@ sendSignal t signal link s =
     (still (spent t) Done (given (encodeOf (nextId t) s) ∷ []))
 
 abbrev pub sendConnParamUpdateReq : Table → (signal link min max latency timeout : ℕ) → Outcome
-sendConnParamUpdateReq t signal link min max latency timeout = sendSignal t signal link (ConnParamUpdateReq min max latency timeout)
+sendConnParamUpdateReq t signal link min max latency timeout = sendSignal t signal link (ConnParamUpdateReq (record { min = min; max = max; latency = latency; timeout = timeout }))
 
 abbrev pub sendConnParamUpdateRes : Table → (signal link result : ℕ) → Outcome
-sendConnParamUpdateRes t signal link result = sendSignal t signal link (ConnParamUpdateRes result)
+sendConnParamUpdateRes t signal link result = sendSignal t signal link (ConnParamUpdateRes (record { result = result }))

@@ -7,7 +7,8 @@ use lib.Dec.{eqb}
 use lib.ListN.{length, take, drop}
 use Rattle.lists.specs.Choose.{choose}
 use Rattle.codes.specs.declared.LeCreditConnResultCode.{LeCreditConnResultCode}
-use Rattle.signal.specs.declared.replies.Signal.{Signal}
+use Rattle.signal.specs.declared.forms.Signal.{Signal}
+use Rattle.sar.specs.Joining.{isIdle}
 use Rattle.channel.specs.declared.ChannelState.{ChannelState}
 use Rattle.channel.specs.declared.ChannelState.the-variants.{Disconnected, Connecting, PeerConnecting, Connected, ConnectFailed, PeerDisconnecting, Disconnecting}
 use Rattle.channel.specs.declared.L2capChannelConfig.{L2capChannelConfig}
@@ -21,7 +22,7 @@ use Rattle.definition.specs.Pending.{nextPending, rejectAllPending, acce
 use Rattle.definition.specs.Opening.{create, opened, giveUp}
 use Rattle.definition.specs.Closing.{incRef, decRef, disconnect, disconnectByCid, disconnected, nextDisconnect}
 use Rattle.definition.specs.Signals.{signalled}
-use Rattle.definition.specs.Frames.{dispatch, send, receive, isIdle}
+use Rattle.definition.specs.Frames.{dispatch, send, receive}
 use Rattle.definition.specs.Asking.{registerSpsm, attention, query, sendSignal}
 
 -- The part of the caller's memory that a call is lent: `size` octets from `from` on.
@@ -62,7 +63,7 @@ pub data Call : Type 0 where
 
 -- Is an assembly open in the slot that the CID names?
 abbrev pub joining : Table → (cid : ℕ) → Bool
-joining t cid = isCid t cid && not (isIdle (slotAt t (slotOf cid)))
+joining t cid = isCid t cid && not (isIdle (slotAt t (slotOf cid) .assembly))
 
 -- The job octets of a call.
 unfoldable pub jobs : Table → Call → List ℕ

@@ -5,8 +5,8 @@ use mathlib.Core.Bool.{true, false}
 use Prim.Native.Nat.{ℕ, _+_, _-_}
 use lib.Dec.{eqb, leb}
 use Rattle.codes.specs.declared.Refusal.the-variants.{Held}
-use Rattle.signal.specs.Replies.{encodeOf}
-use Rattle.signal.specs.declared.replies.Signal.the-variants.{DisconnectionReq, DisconnectionRes}
+use Rattle.writer.specs.Writer.{encodeOf}
+use Rattle.signal.specs.declared.forms.Signal.the-variants.{DisconnectionReq, DisconnectionRes}
 use Rattle.channel.specs.Limits.{holdsMost}
 use Rattle.channel.specs.declared.Answer.the-variants.{Done, Due}
 use Rattle.channel.specs.declared.ChannelState.the-variants.{Disconnecting}
@@ -65,5 +65,5 @@ nextDisconnect t room signal =
     let x = slotAt t s in
     if leb (t .n) s then done t
     else if isPeerDisconnecting (x .state)
-    then freeing t s x (Due (x .link) (index s)) (given (encodeOf (identifierOf (x .state)) (DisconnectionRes (cidOf s) (x .peer .cid))) ∷ [])
-    else change (spent t) s (inState (Disconnecting true) x) [] (Due (x .link) (index s)) (given (encodeOf (nextId t) (DisconnectionReq (x .peer .cid) (cidOf s))) ∷ []))
+    then freeing t s x (Due (x .link) (index s)) (given (encodeOf (identifierOf (x .state)) (DisconnectionRes (record { dcid = cidOf s; scid = x .peer .cid }))) ∷ [])
+    else change (spent t) s (inState (Disconnecting true) x) [] (Due (x .link) (index s)) (given (encodeOf (nextId t) (DisconnectionReq (record { dcid = x .peer .cid; scid = cidOf s }))) ∷ []))

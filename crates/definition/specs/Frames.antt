@@ -13,11 +13,12 @@ use Rattle.credit.specs.Account.{received, granted, grantOf}
 use Rattle.sar.specs.declared.Assembly.{Assembly}
 use Rattle.sar.specs.declared.Joined.{Joined}
 use Rattle.sar.specs.declared.Joined.the-variants as Joined
-use Rattle.sar.specs.declared.Plan.{Plan}
-use Rattle.sar.specs.declared.Plan.the-variants as Plan
-use Rattle.sar.specs.Stub.{joinStep, planSend}
-use Rattle.signal.specs.Replies.{encodeOf}
-use Rattle.signal.specs.declared.replies.Signal.the-variants.{LeCreditFlowInd}
+use Rattle.sar.specs.Joining.{isIdle, idle, assembled, joinStep}
+use Rattle.cutting.specs.declared.Plan.{Plan}
+use Rattle.cutting.specs.declared.Plan.the-variants as Plan
+use Rattle.cutting.specs.Cutting.{planSend}
+use Rattle.writer.specs.Writer.{encodeOf}
+use Rattle.signal.specs.declared.forms.Signal.the-variants.{LeCreditFlowInd}
 use Rattle.channel.specs.declared.Answer.the-variants.{Done, Refused, Frames, Job}
 use Rattle.channel.specs.declared.ChannelState.{ChannelState}
 use Rattle.channel.specs.declared.ChannelState.the-variants.{Disconnecting}
@@ -31,13 +32,6 @@ use Rattle.definition.specs.Outcome.{Outcome, change, refuse, done, leav
 
 -- ---- frame in
 
--- "Idle: ..": no assembly is open. (An SDU of 0 octets is finished at once, so an open assembly wants some.)
-abbrev pub isIdle : Slot → Bool
-isIdle x = eqb (x .assembly .want) 0
-
-abbrev pub idle : Assembly
-idle = record { have = 0; want = 0 }
-
 -- Where the next finished job goes: behind the assembly place and the jobs that wait.
 abbrev pub queuePlace : Table → Slot → ℕ
 queuePlace t x = suc (x .queue .count) * placeOf t
@@ -49,15 +43,15 @@ queued len q = record { count = q .count + 1; lens = set (q .lens) (q .count) le
 -- is zeroed; a first frame that is complete never touches it.
 abbrev pub finishing : Table → Slot → ℕ → List Move
 finishing t x count =
-    if isIdle x then put (queuePlace t x) (job 0 count) ∷ []
+    if isIdle (x .assembly) then put (queuePlace t x) (job 0 count) ∷ []
     else put (queuePlace t x) (held 0 (x .assembly .have)) ∷ put (queuePlace t x + x .assembly .have) (job 0 count) ∷ put 0 (zeros (placeOf t)) ∷ []
 
 -- What the join step (crate sar) decided, for slot s as x, whose credit is used.
 unfoldable pub joined : Table → (slot : ℕ) → Slot → (count : ℕ) → Joined → Outcome
 joined t s x count (Joined.Refused r) = leaving t s x (Disconnecting false) (Refused r)
-joined t s x count (Joined.Grow a) = change t s (withAssembly a x) (put (x .assembly .have) (job 0 count) ∷ []) Done []
-joined t s x count (Joined.Finish len) = change t s (withQueue (queued len (x .queue)) (withAssembly idle x)) (finishing t x count) Done []
-joined t s x count Joined.Full = change t s (withAssembly idle x) (put 0 (zeros (placeOf t)) ∷ []) (Refused QueueFull) []
+joined t s x count (Joined.Assembling a) = change t s (withAssembly a x) (put (assembled (x .assembly)) (job 0 count) ∷ []) Done []
+joined t s x count (Joined.Finished len) = change t s (withQueue (queued len (x .queue)) (withAssembly idle x)) (finishing t x count) Done []
+joined t s x count Joined.Dropped = change t s (withAssembly idle x) (put 0 (zeros (placeOf t)) ∷ []) (Refused QueueFull) []
 
 -- "Frame in (CID, payload): 7; not Connected: dropped, answer 0; another link's slot 8; no credit 10; one credit used."
 unfoldable pub dispatch : Table → (room link cid : ℕ) (head : List ℕ) (count : ℕ) → Outcome
@@ -93,7 +87,7 @@ unfoldable pub planned : Table → (slot : ℕ) → Slot → (l : ℕ) → Plan 
 planned t s x l (Plan.Refused r) = refuse t r
 planned t s x l (Plan.Frames n octets) = change t s (withPeerCredits (x .peer .credits - n) x) [] (Frames (x .link) n) (frames (x .peer .cid) (x .peer .mps) l n)
 
--- "Send order: 11, 12, 23, 20, 14, 3." Of these 12 to 3 are the plan's (crate sar).
+-- "Send order: 11, 12, 23, 20, 14, 3." Of these 12 to 3 are the plan's (crate cutting).
 unfoldable pub send : Table → (slot l out : ℕ) → Outcome
 send t s l out =
     gate t Nothing Nothing Nothing (Is s)
@@ -126,7 +120,7 @@ grantIn x = if isConnected (x .state) then grantOf (x .account) else Grant.Nothi
 
 unfoldable pub taken : Table → (slot : ℕ) → Slot → (size : ℕ) → Grant → Outcome
 taken t s x size Grant.Nothing = handing t s x size []
-taken t s x size (Grant.Credits n) = handing (spent t) s (withAccount (granted (x .account) n) x) size (given (encodeOf (nextId t) (LeCreditFlowInd (cidOf s) n)) ∷ [])
+taken t s x size (Grant.Credits n) = handing (spent t) s (withAccount (granted (x .account) n) x) size (given (encodeOf (nextId t) (LeCreditFlowInd (record { cid = cidOf s; credits = n }))) ∷ [])
 
 -- Row 11: "taking when free, connecting, pending or failed". "no job waiting is reported as such .. and writes and grants nothing"
 unfoldable pub receive : Table → (room signal slot size : ℕ) → Outcome

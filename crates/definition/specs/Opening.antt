@@ -5,8 +5,8 @@ use Prim.Native.Nat.{ℕ, _-_}
 use lib.Dec.{eqb, leb, ltb}
 use Rattle.codes.specs.declared.Refusal.the-variants.{NotFound, InsufficientSpace, NoChannelAvailable, ConnectError, Disconnected, Held}
 use Rattle.credit.specs.Account.{newAccount}
-use Rattle.signal.specs.Replies.{encodeOf}
-use Rattle.signal.specs.declared.replies.Signal.the-variants.{LeCreditConnReq}
+use Rattle.writer.specs.Writer.{encodeOf}
+use Rattle.signal.specs.declared.forms.Signal.the-variants.{LeCreditConnReq}
 use Rattle.channel.specs.Limits.{frameHead, jobHead}
 use Rattle.channel.specs.declared.Answer.the-variants.{Done, Refused, At, Opened}
 use Rattle.channel.specs.declared.ChannelState.the-variants.{Connecting}
@@ -45,7 +45,7 @@ create t signal link spsm c =
     else if ltb (t .m - jobHead) (mtuOf t c) then refuse (spent t) InsufficientSpace
     else if leb (t .n) s then refuse (spent t) NoChannelAvailable
     else change (spent t) s (attempt t link spsm c) [] (At (index s))
-    (given (encodeOf (nextId t) (LeCreditConnReq spsm (cidOf s) (mtuOf t c) (mpsOf t c) (creditsOf t c))) ∷ []))
+    (given (encodeOf (nextId t) (LeCreditConnReq (record { spsm = spsm; scid = cidOf s; mtu = mtuOf t c; mps = mpsOf t c; credits = creditsOf t c }))) ∷ []))
 
 -- "Opened query: slot free → 18; another link's → 8; link down or disconnecting → 18, freed; failed → 17, freed; Connected with a
 -- hold → 22; Connected → hold. Otherwise nothing."

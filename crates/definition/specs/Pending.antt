@@ -7,8 +7,9 @@ use Rattle.codes.specs.declared.LeCreditConnResultCode.{LeCreditConnResultCode}
 use Rattle.codes.specs.declared.LeCreditConnResultCode.the-variants.{Success, NoResources}
 use Rattle.codes.specs.declared.Refusal.the-variants.{NotFound, InsufficientSpace, Disconnected, Held}
 use Rattle.credit.specs.Account.{newAccount}
-use Rattle.signal.specs.Replies.{encodeOf}
-use Rattle.signal.specs.declared.replies.Signal.the-variants.{LeCreditConnRes}
+use Rattle.signal.specs.Forms.{rejectRes}
+use Rattle.writer.specs.Writer.{encodeOf}
+use Rattle.signal.specs.declared.forms.Signal.the-variants.{LeCreditConnRes}
 use Rattle.channel.specs.Limits.{frameHead, jobHead}
 use Rattle.channel.specs.declared.Answer.the-variants.{Done, Refused, At, Link}
 use Rattle.channel.specs.declared.ChannelState.the-variants.{Connected}
@@ -40,7 +41,7 @@ creditsOf t c = settled (t .d) (c .credits)
 -- ---- "Refused responses carry zeros before the result."
 
 abbrev pub refusedResponse : ℕ → LeCreditConnResultCode → List Fill
-refusedResponse id result = given (encodeOf id (LeCreditConnRes 0 0 0 0 result)) ∷ []
+refusedResponse id result = given (encodeOf id (LeCreditConnRes (rejectRes result))) ∷ []
 
 -- ---- "Next pending takes the lowest PeerConnecting slot of the link; held already → 22; none and link up: nothing, answer 0."
 
@@ -88,7 +89,7 @@ acceptPending t signal s c =
     else if not (isPeerConnecting (x .state)) then refuse t NotFound
     else if eqb (x .hold) 0 then refuse t Held
     else change t s (accepted t c x) [] (Link (x .link))
-    (given (encodeOf (identifierOf (x .state)) (LeCreditConnRes (cidOf s) (mtuOf t c) (mpsOf t c) (creditsOf t c) Success)) ∷ []))
+    (given (encodeOf (identifierOf (x .state)) (LeCreditConnRes (record { dcid = cidOf s; mtu = mtuOf t c; mps = mpsOf t c; credits = creditsOf t c; result = Success }))) ∷ []))
 
 -- ---- "Reject: state, hold."
 

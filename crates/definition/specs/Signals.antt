@@ -10,30 +10,31 @@ use Rattle.codes.specs.declared.LeCreditConnResultCode.the-variants as Result
 use Rattle.codes.specs.Codes.{resultNumber}
 use Rattle.codes.specs.declared.Refusal.{Refusal}
 use Rattle.codes.specs.declared.Refusal.the-variants.{NotFound, InvalidValue, Decode, NotSupported, ConnectError}
-use Rattle.signal.specs.Octets.{u16At}
-use Rattle.signal.specs.Headers.{headersOf}
+use Rattle.headers.specs.Headers.{headersOf, bodyIn}
 use Rattle.signal.specs.Bodies.{commandRejectRes, disconnectionReq, disconnectionRes, connParamUpdateReq, connParamUpdateRes, leCreditConnReq, leCreditConnRes, leCreditFlowInd}
 use Rattle.signal.specs.Parameters.{parametersValid}
-use Rattle.signal.specs.Replies.{encodeOf}
-use Rattle.signal.specs.declared.headers.Checked.{Checked}
-use Rattle.signal.specs.declared.headers.Checked.the-variants.{Good, Cut, Past}
-use Rattle.signal.specs.declared.bodies.CommandRejectRes.{CommandRejectRes}
-use Rattle.signal.specs.declared.bodies.CommandRejectRes.the-variants as CommandRejectRes
-use Rattle.signal.specs.declared.bodies.DisconnectionReq.{DisconnectionReq}
-use Rattle.signal.specs.declared.bodies.DisconnectionReq.the-variants as DisconnectionReq
-use Rattle.signal.specs.declared.bodies.DisconnectionRes.{DisconnectionRes}
-use Rattle.signal.specs.declared.bodies.DisconnectionRes.the-variants as DisconnectionRes
-use Rattle.signal.specs.declared.bodies.ConnParamUpdateReq.{ConnParamUpdateReq}
-use Rattle.signal.specs.declared.bodies.ConnParamUpdateReq.the-variants as ConnParamUpdateReq
-use Rattle.signal.specs.declared.bodies.ConnParamUpdateRes.{ConnParamUpdateRes}
-use Rattle.signal.specs.declared.bodies.ConnParamUpdateRes.the-variants as ConnParamUpdateRes
-use Rattle.signal.specs.declared.bodies.LeCreditConnReq.{LeCreditConnReq}
-use Rattle.signal.specs.declared.bodies.LeCreditConnReq.the-variants as LeCreditConnReq
-use Rattle.signal.specs.declared.bodies.LeCreditConnRes.{LeCreditConnRes}
-use Rattle.signal.specs.declared.bodies.LeCreditConnRes.the-variants as LeCreditConnRes
-use Rattle.signal.specs.declared.bodies.LeCreditFlowInd.{LeCreditFlowInd}
-use Rattle.signal.specs.declared.bodies.LeCreditFlowInd.the-variants as LeCreditFlowInd
-use Rattle.signal.specs.declared.replies.Signal.the-variants as Signal
+use Rattle.writer.specs.Writer.{encodeOf}
+use Rattle.headers.specs.declared.Checked.{Checked}
+use Rattle.headers.specs.declared.Checked.the-variants.{Good, Cut, Past}
+use Rattle.signal.specs.declared.bodies.CommandRejectResRead.{CommandRejectResRead}
+use Rattle.signal.specs.declared.bodies.CommandRejectResRead.the-variants as CommandRejectRes
+use Rattle.signal.specs.declared.bodies.DisconnectionReqRead.{DisconnectionReqRead}
+use Rattle.signal.specs.declared.bodies.DisconnectionReqRead.the-variants as DisconnectionReq
+use Rattle.signal.specs.declared.bodies.DisconnectionResRead.{DisconnectionResRead}
+use Rattle.signal.specs.declared.bodies.DisconnectionResRead.the-variants as DisconnectionRes
+use Rattle.signal.specs.declared.bodies.ConnParamUpdateReqRead.{ConnParamUpdateReqRead}
+use Rattle.signal.specs.declared.bodies.ConnParamUpdateReqRead.the-variants as ConnParamUpdateReq
+use Rattle.signal.specs.declared.bodies.ConnParamUpdateResRead.{ConnParamUpdateResRead}
+use Rattle.signal.specs.declared.bodies.ConnParamUpdateResRead.the-variants as ConnParamUpdateRes
+use Rattle.signal.specs.declared.bodies.LeCreditConnReqRead.{LeCreditConnReqRead}
+use Rattle.signal.specs.declared.bodies.LeCreditConnReqRead.the-variants as LeCreditConnReq
+use Rattle.signal.specs.declared.bodies.LeCreditConnResRead.{LeCreditConnResRead}
+use Rattle.signal.specs.declared.bodies.LeCreditConnResRead.the-variants as LeCreditConnRes
+use Rattle.signal.specs.declared.bodies.LeCreditFlowIndRead.{LeCreditFlowIndRead}
+use Rattle.signal.specs.declared.bodies.LeCreditFlowIndRead.the-variants as LeCreditFlowInd
+use Rattle.signal.specs.declared.forms.LeCreditConnReq.{LeCreditConnReq}
+use Rattle.signal.specs.declared.forms.LeCreditConnRes.{LeCreditConnRes}
+use Rattle.signal.specs.declared.forms.Signal.the-variants as Signal
 use Rattle.channel.specs.Limits.{creditsMost}
 use Rattle.channel.specs.declared.Answer.{Answer}
 use Rattle.channel.specs.declared.Answer.the-variants.{Done, Refused, Event}
@@ -50,7 +51,7 @@ use Rattle.definition.specs.Pending.{refusedResponse}
 
 -- "A reject reply has reason 0 unless another is named."
 abbrev pub rejectReply : (id reason : ℕ) → List Fill
-rejectReply id reason = given (encodeOf id (Signal.CommandRejectRes reason)) ∷ []
+rejectReply id reason = given (encodeOf id (Signal.CommandRejectRes (record { reason = reason }))) ∷ []
 
 -- "bad body: reject reply"
 abbrev pub badBody : Table → (id : ℕ) → Outcome
@@ -59,95 +60,95 @@ badBody t id = still t (Refused Decode) (rejectReply id 0)
 -- ---- 0x14 (4.22): "SPSM not registered → result 2; not listening → 4; peer CID used on this link by a slot not Disconnected → 10 ..;
 -- no free slot → 4. Else the lowest free slot becomes PeerConnecting. All of these answer 0."
 
-abbrev pub pending : (link id spsm scid mtu mps credits : ℕ) → Slot
-pending link id spsm scid mtu mps credits =
+abbrev pub pending : (link id : ℕ) → LeCreditConnReq → Slot
+pending link id req =
     record {
       state = PeerConnecting id;
       link = link;
-      spsm = spsm;
+      spsm = req .spsm;
       mps = 0;
       mtu = 0;
       account = fresh 0 .account;
       hold = 0;
-      peer = record { cid = scid; mps = mps; mtu = mtu; credits = credits };
+      peer = record { cid = req .scid; mps = req .mps; mtu = req .mtu; credits = req .credits };
       assembly = fresh 0 .assembly;
       queue = fresh 0 .queue;
     }
 
-unfoldable pub onConnReq : Table → (link : ℕ) (listening : Bool) (id : ℕ) → LeCreditConnReq → Outcome
-onConnReq t link listening id LeCreditConnReq.Bad = badBody t id
-onConnReq t link listening id (LeCreditConnReq.Is spsm scid mtu mps credits) =
+unfoldable pub onConnReq : Table → (link : ℕ) (listening : Bool) (id : ℕ) → LeCreditConnReqRead → Outcome
+onConnReq t link listening id LeCreditConnReq.Decode = badBody t id
+onConnReq t link listening id (LeCreditConnReq.Is req) =
     let s = found isFree t in
-    if not (isRegistered t spsm) then still t Done (refusedResponse id Result.SpsmNotSupported)
+    if not (isRegistered t (req .spsm)) then still t Done (refusedResponse id Result.SpsmNotSupported)
     else if not listening then still t Done (refusedResponse id Result.NoResources)
-    else if ltb (found (usesPeer link scid) t) (t .n) then still t Done (refusedResponse id Result.ScidAlreadyAllocated)
+    else if ltb (found (usesPeer link (req .scid)) t) (t .n) then still t Done (refusedResponse id Result.ScidAlreadyAllocated)
     else if leb (t .n) s then still t Done (refusedResponse id Result.NoResources)
-    else change t s (pending link id spsm scid mtu mps credits) [] Done []
+    else change t s (pending link id req) [] Done []
 
 -- ---- 0x15 (4.23): "matched to the lowest Connecting slot with that identifier and link"; row 8: "unmatched connect response frees all
 -- Connecting slots of that link"; row 17: "a response leaves ConnectFailed"
 
-abbrev pub answered : LeCreditConnResultCode → (dcid mtu mps credits : ℕ) → Table → ℕ → Outcome
-answered result dcid mtu mps credits t s =
+abbrev pub answered : Table → (slot : ℕ) → LeCreditConnRes → Outcome
+answered t s res =
     let x = slotAt t s in
-    if eqb (resultNumber result) 0 then change t s (inState Connected (withPeer (record { cid = dcid; mps = mps; mtu = mtu; credits = credits }) x)) [] Done []
-    else change t s (inState (ConnectFailed result) x) [] (Refused (ConnectError result)) []
+    if eqb (resultNumber (res .result)) 0 then change t s (inState Connected (withPeer (record { cid = res .dcid; mps = res .mps; mtu = res .mtu; credits = res .credits }) x)) [] Done []
+    else change t s (inState (ConnectFailed (res .result)) x) [] (Refused (ConnectError (res .result))) []
 
-unfoldable pub onConnRes : Table → (link id : ℕ) → LeCreditConnRes → Outcome
-onConnRes t link id LeCreditConnRes.Bad = badBody t id
-onConnRes t link id (LeCreditConnRes.Is dcid mtu mps credits result) =
+unfoldable pub onConnRes : Table → (link id : ℕ) → LeCreditConnResRead → Outcome
+onConnRes t link id LeCreditConnRes.Decode = badBody t id
+onConnRes t link id (LeCreditConnRes.Is res) =
     let s = found (attemptBy link id) t in
     if leb (t .n) s then sweep t (attemptOf link) (Refused NotFound)
-    else answered result dcid mtu mps credits t s
+    else answered t s res
 
 -- ---- 0x16 (4.24): "first Connected slot of this link with that peer CID. A sum above 65,535: Disconnecting, credits kept."
 
-unfoldable pub onCredits : Table → (link id : ℕ) → LeCreditFlowInd → Outcome
-onCredits t link id LeCreditFlowInd.Bad = badBody t id
-onCredits t link id (LeCreditFlowInd.Is cid credits) =
-    let s = found (connectedTo link cid) t in
+unfoldable pub onCredits : Table → (link id : ℕ) → LeCreditFlowIndRead → Outcome
+onCredits t link id LeCreditFlowInd.Decode = badBody t id
+onCredits t link id (LeCreditFlowInd.Is ind) =
+    let s = found (connectedTo link (ind .cid)) t in
     let x = slotAt t s in
     if leb (t .n) s then refuse t NotFound
-    else if ltb creditsMost (x .peer .credits + credits) then leaving t s x (Disconnecting false) (Refused InvalidValue)
-    else change t s (withPeerCredits (x .peer .credits + credits) x) [] Done []
+    else if ltb creditsMost (x .peer .credits + ind .credits) then leaving t s x (Disconnecting false) (Refused InvalidValue)
+    else change t s (withPeerCredits (x .peer .credits + ind .credits) x) [] Done []
 
 -- ---- 0x06 (4.6): "slot with that CID, this link, not Disconnected → PeerDisconnecting; else reject reason 2"
 
-unfoldable pub onDisconnectionReq : Table → (link id : ℕ) → DisconnectionReq → Outcome
-onDisconnectionReq t link id DisconnectionReq.Bad = badBody t id
-onDisconnectionReq t link id (DisconnectionReq.Is dcid scid) =
-    let s = slotOf dcid in
-    if not (isCid t dcid) then still t Done (rejectReply id 2)
+unfoldable pub onDisconnectionReq : Table → (link id : ℕ) → DisconnectionReqRead → Outcome
+onDisconnectionReq t link id DisconnectionReq.Decode = badBody t id
+onDisconnectionReq t link id (DisconnectionReq.Is req) =
+    let s = slotOf (req .dcid) in
+    if not (isCid t (req .dcid)) then still t Done (rejectReply id 2)
     else if not (ofLink link (slotAt t s)) then still t Done (rejectReply id 2)
     else leaving t s (slotAt t s) (PeerDisconnecting id) Done
 
 -- ---- 0x07 (4.7): "SCID names a Disconnecting slot of this link: freed; else nothing."
 
-unfoldable pub onDisconnectionRes : Table → (link id : ℕ) → DisconnectionRes → Outcome
-onDisconnectionRes t link id DisconnectionRes.Bad = badBody t id
-onDisconnectionRes t link id (DisconnectionRes.Is dcid scid) =
-    let s = slotOf scid in
-    if not (isCid t scid) then done t
+unfoldable pub onDisconnectionRes : Table → (link id : ℕ) → DisconnectionResRead → Outcome
+onDisconnectionRes t link id DisconnectionRes.Decode = badBody t id
+onDisconnectionRes t link id (DisconnectionRes.Is res) =
+    let s = slotOf (res .scid) in
+    if not (isCid t (res .scid)) then done t
     else if not (isDisconnecting (slotAt t s .state) && eqb (slotAt t s .link) link) then done t
     else freeing t s (slotAt t s) Done []
 
 -- ---- 0x12 (4.20): "not Central → reject, answer 0, before the body is read. .. Invalid → response 1; valid → an event, no reply."
 
-unfoldable pub onParameters : Table → (id : ℕ) → ConnParamUpdateReq → Outcome
-onParameters t id ConnParamUpdateReq.Bad = badBody t id
-onParameters t id (ConnParamUpdateReq.Is min max latency timeout) =
-    if parametersValid min max latency timeout then still t (Event min max latency timeout) []
-    else still t Done (given (encodeOf id (Signal.ConnParamUpdateRes 1)) ∷ [])
+unfoldable pub onParameters : Table → (id : ℕ) → ConnParamUpdateReqRead → Outcome
+onParameters t id ConnParamUpdateReq.Decode = badBody t id
+onParameters t id (ConnParamUpdateReq.Is req) =
+    if parametersValid req then still t (Event (req .min) (req .max) (req .latency) (req .timeout)) []
+    else still t Done (given (encodeOf id (Signal.ConnParamUpdateRes (record { result = 1 }))) ∷ [])
 
 -- ---- "0x01 and 0x13: read, no reply, answer 0." (4.1, 4.21)
 
-unfoldable pub onReject : Table → (id : ℕ) → CommandRejectRes → Outcome
-onReject t id CommandRejectRes.Bad = badBody t id
-onReject t id (CommandRejectRes.Is reason) = done t
+unfoldable pub onReject : Table → (id : ℕ) → CommandRejectResRead → Outcome
+onReject t id CommandRejectRes.Decode = badBody t id
+onReject t id (CommandRejectRes.Is res) = done t
 
-unfoldable pub onParameterResponse : Table → (id : ℕ) → ConnParamUpdateRes → Outcome
-onParameterResponse t id ConnParamUpdateRes.Bad = badBody t id
-onParameterResponse t id (ConnParamUpdateRes.Is result) = done t
+unfoldable pub onParameterResponse : Table → (id : ℕ) → ConnParamUpdateResRead → Outcome
+onParameterResponse t id ConnParamUpdateRes.Decode = badBody t id
+onParameterResponse t id (ConnParamUpdateRes.Is res) = done t
 
 -- ---- "A match on the code number 0x01, 0x06, 0x07, 0x12 to 0x16, and all others, each to its own handler."
 
@@ -162,10 +163,6 @@ handled t link listening central code id body =
     else if eqb code 0x15 then onConnRes t link id (leCreditConnRes body)
     else if eqb code 0x16 then onCredits t link id (leCreditFlowInd body)
     else still t (Refused NotSupported) (rejectReply id 0)
-
--- The first signal of a PDU whose headers are good.
-abbrev pub bodyIn : List ℕ → List ℕ
-bodyIn pdu = take (u16At pdu 2) (drop 4 pdu)
 
 -- "One call first checks every header in the octets given, then handles the first signal .. Empty input does nothing."
 -- Row 15: "signal header under 4 octets: no reply"; row 9: "signal length past the PDU: reject reply", with that header's identifier.

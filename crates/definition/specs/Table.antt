@@ -158,21 +158,9 @@ fresh hold =
 abbrev pub freed : Slot → Slot
 freed x = fresh (x .hold)
 
--- What stands for a slot past the list's end: the value that the checker's own reading of an index has there. No call reads it.
+-- What stands for a slot past the list's end. No call reads it.
 abbrev pub gap : Slot
-gap =
-    record {
-      state = Disconnected;
-      link = 0;
-      spsm = 0;
-      mps = 0;
-      mtu = 0;
-      account = record { policy = Every 0; credits = 0; received = 0 };
-      hold = 0;
-      peer = record { cid = 0; mps = 0; mtu = 0; credits = 0 };
-      assembly = record { have = 0; want = 0 };
-      queue = record { count = 0; lens = [] };
-    }
+gap = fresh 0
 
 abbrev pub slotAt : Table → ℕ → Slot
 slotAt t s = getD (t .slots) s gap

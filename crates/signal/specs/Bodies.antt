@@ -1,58 +1,117 @@
--- The bodies of the signals, read: fields of two octets in Core's order.
-use mathlib.Core.Bool.{Bool, true, false, cond}
+-- The bodies of the signals, read: fields of two octets in Core's order, each form with its section of Core Vol 3 Part A. A body whose
+-- length is not the form's is Decode.
 use mathlib.Core.List.{List}
 use Prim.Native.Nat.{ℕ}
 use lib.ListN.{length}
-use lib.Dec.{eqb, leb}
-use Rattle.signal.specs.Octets.{u16At}
+use lib.Dec.{eqb, ltb}
+use Rattle.lists.specs.Choose.{choose}
+use Rattle.octets.specs.Octets.{u16At}
 use Rattle.codes.specs.Codes.{resultOf}
 use Rattle.codes.specs.declared.ResultRead.{ResultRead}
 use Rattle.codes.specs.declared.ResultRead.the-variants.{Known, Unknown}
-use Rattle.signal.specs.declared.bodies.CommandRejectRes.{CommandRejectRes}
-use Rattle.signal.specs.declared.bodies.CommandRejectRes.the-variants as CommandRejectRes
-use Rattle.signal.specs.declared.bodies.DisconnectionReq.{DisconnectionReq}
-use Rattle.signal.specs.declared.bodies.DisconnectionReq.the-variants as DisconnectionReq
-use Rattle.signal.specs.declared.bodies.DisconnectionRes.{DisconnectionRes}
-use Rattle.signal.specs.declared.bodies.DisconnectionRes.the-variants as DisconnectionRes
-use Rattle.signal.specs.declared.bodies.ConnParamUpdateReq.{ConnParamUpdateReq}
-use Rattle.signal.specs.declared.bodies.ConnParamUpdateReq.the-variants as ConnParamUpdateReq
-use Rattle.signal.specs.declared.bodies.ConnParamUpdateRes.{ConnParamUpdateRes}
-use Rattle.signal.specs.declared.bodies.ConnParamUpdateRes.the-variants as ConnParamUpdateRes
-use Rattle.signal.specs.declared.bodies.LeCreditConnReq.{LeCreditConnReq}
-use Rattle.signal.specs.declared.bodies.LeCreditConnReq.the-variants as LeCreditConnReq
-use Rattle.signal.specs.declared.bodies.LeCreditConnRes.{LeCreditConnRes}
-use Rattle.signal.specs.declared.bodies.LeCreditConnRes.the-variants as LeCreditConnRes
-use Rattle.signal.specs.declared.bodies.LeCreditFlowInd.{LeCreditFlowInd}
-use Rattle.signal.specs.declared.bodies.LeCreditFlowInd.the-variants as LeCreditFlowInd
+use Rattle.signal.specs.declared.bodies.CommandRejectResRead.{CommandRejectResRead}
+use Rattle.signal.specs.declared.bodies.CommandRejectResRead.the-variants as CommandRejectResRead
+use Rattle.signal.specs.declared.bodies.DisconnectionReqRead.{DisconnectionReqRead}
+use Rattle.signal.specs.declared.bodies.DisconnectionReqRead.the-variants as DisconnectionReqRead
+use Rattle.signal.specs.declared.bodies.DisconnectionResRead.{DisconnectionResRead}
+use Rattle.signal.specs.declared.bodies.DisconnectionResRead.the-variants as DisconnectionResRead
+use Rattle.signal.specs.declared.bodies.ConnParamUpdateReqRead.{ConnParamUpdateReqRead}
+use Rattle.signal.specs.declared.bodies.ConnParamUpdateReqRead.the-variants as ConnParamUpdateReqRead
+use Rattle.signal.specs.declared.bodies.ConnParamUpdateResRead.{ConnParamUpdateResRead}
+use Rattle.signal.specs.declared.bodies.ConnParamUpdateResRead.the-variants as ConnParamUpdateResRead
+use Rattle.signal.specs.declared.bodies.LeCreditConnReqRead.{LeCreditConnReqRead}
+use Rattle.signal.specs.declared.bodies.LeCreditConnReqRead.the-variants as LeCreditConnReqRead
+use Rattle.signal.specs.declared.bodies.LeCreditConnResRead.{LeCreditConnResRead}
+use Rattle.signal.specs.declared.bodies.LeCreditConnResRead.the-variants as LeCreditConnResRead
+use Rattle.signal.specs.declared.bodies.LeCreditFlowIndRead.{LeCreditFlowIndRead}
+use Rattle.signal.specs.declared.bodies.LeCreditFlowIndRead.the-variants as LeCreditFlowIndRead
+use Rattle.signal.specs.declared.bodies.SignalRead.{SignalRead}
+use Rattle.signal.specs.declared.bodies.SignalRead.the-variants as SignalRead
+use Rattle.signal.specs.declared.forms.Signal.the-variants as Signal
 
--- the result codes of a connect response: 0, 2 and 4 to 11
-unfoldable pub resultKnown : ℕ → Bool
-resultKnown n = cond (eqb n 0) true (cond (eqb n 2) true (cond (leb 4 n) (leb n 11) false))
+-- 4.1: reason; longer bodies carry data
+unfoldable pub commandRejectRes : List ℕ → CommandRejectResRead
+commandRejectRes s = choose (ltb (length s) 2) CommandRejectResRead.Decode (CommandRejectResRead.Is (record { reason = u16At s 0 }))
 
-abbrev pub commandRejectRes : List ℕ → CommandRejectRes
-commandRejectRes s = cond (leb 2 (length s)) (CommandRejectRes.Is (u16At s 0)) CommandRejectRes.Bad
+-- 4.6: destination CID, source CID
+unfoldable pub disconnectionReq : List ℕ → DisconnectionReqRead
+disconnectionReq s = choose (eqb (length s) 4) (DisconnectionReqRead.Is (record { dcid = u16At s 0; scid = u16At s 2 })) DisconnectionReqRead.Decode
 
-abbrev pub disconnectionReq : List ℕ → DisconnectionReq
-disconnectionReq s = cond (eqb (length s) 4) (DisconnectionReq.Is (u16At s 0) (u16At s 2)) DisconnectionReq.Bad
+-- 4.7: destination CID, source CID
+unfoldable pub disconnectionRes : List ℕ → DisconnectionResRead
+disconnectionRes s = choose (eqb (length s) 4) (DisconnectionResRead.Is (record { dcid = u16At s 0; scid = u16At s 2 })) DisconnectionResRead.Decode
 
-abbrev pub disconnectionRes : List ℕ → DisconnectionRes
-disconnectionRes s = cond (eqb (length s) 4) (DisconnectionRes.Is (u16At s 0) (u16At s 2)) DisconnectionRes.Bad
+-- 4.20: interval min, interval max, latency, timeout
+unfoldable pub connParamUpdateReq : List ℕ → ConnParamUpdateReqRead
+connParamUpdateReq s =
+    choose (eqb (length s) 8)
+    (ConnParamUpdateReqRead.Is (record { min = u16At s 0; max = u16At s 2; latency = u16At s 4; timeout = u16At s 6 }))
+    ConnParamUpdateReqRead.Decode
 
-abbrev pub connParamUpdateReq : List ℕ → ConnParamUpdateReq
-connParamUpdateReq s = cond (eqb (length s) 8) (ConnParamUpdateReq.Is (u16At s 0) (u16At s 2) (u16At s 4) (u16At s 6)) ConnParamUpdateReq.Bad
+-- 4.21: result
+unfoldable pub connParamUpdateRes : List ℕ → ConnParamUpdateResRead
+connParamUpdateRes s = choose (eqb (length s) 2) (ConnParamUpdateResRead.Is (record { result = u16At s 0 })) ConnParamUpdateResRead.Decode
 
-abbrev pub connParamUpdateRes : List ℕ → ConnParamUpdateRes
-connParamUpdateRes s = cond (eqb (length s) 2) (ConnParamUpdateRes.Is (u16At s 0)) ConnParamUpdateRes.Bad
+-- 4.22: SPSM, source CID, MTU, MPS, initial credits
+unfoldable pub leCreditConnReq : List ℕ → LeCreditConnReqRead
+leCreditConnReq s =
+    choose (eqb (length s) 10)
+    (LeCreditConnReqRead.Is (record { spsm = u16At s 0; scid = u16At s 2; mtu = u16At s 4; mps = u16At s 6; credits = u16At s 8 }))
+    LeCreditConnReqRead.Decode
 
-abbrev pub leCreditConnReq : List ℕ → LeCreditConnReq
-leCreditConnReq s = cond (eqb (length s) 10) (LeCreditConnReq.Is (u16At s 0) (u16At s 2) (u16At s 4) (u16At s 6) (u16At s 8)) LeCreditConnReq.Bad
+-- 4.23: destination CID, MTU, MPS, initial credits, result
+abbrev pub resIf : ResultRead → List ℕ → LeCreditConnResRead
+resIf (Known c) s = LeCreditConnResRead.Is (record { dcid = u16At s 0; mtu = u16At s 2; mps = u16At s 4; credits = u16At s 6; result = c })
+resIf Unknown s = LeCreditConnResRead.Decode
 
-abbrev pub known : ResultRead → ℕ → ℕ → ℕ → ℕ → LeCreditConnRes
-known (Known r) a b c d = LeCreditConnRes.Is a b c d r
-known Unknown a b c d = LeCreditConnRes.Bad
+unfoldable pub leCreditConnRes : List ℕ → LeCreditConnResRead
+leCreditConnRes s = choose (eqb (length s) 10) (resIf (resultOf (u16At s 8)) s) LeCreditConnResRead.Decode
 
-abbrev pub leCreditConnRes : List ℕ → LeCreditConnRes
-leCreditConnRes s = cond (eqb (length s) 10) (known (resultOf (u16At s 8)) (u16At s 0) (u16At s 2) (u16At s 4) (u16At s 6)) LeCreditConnRes.Bad
+-- 4.24: CID, credits
+unfoldable pub leCreditFlowInd : List ℕ → LeCreditFlowIndRead
+leCreditFlowInd s = choose (eqb (length s) 4) (LeCreditFlowIndRead.Is (record { cid = u16At s 0; credits = u16At s 2 })) LeCreditFlowIndRead.Decode
 
-abbrev pub leCreditFlowInd : List ℕ → LeCreditFlowInd
-leCreditFlowInd s = cond (eqb (length s) 4) (LeCreditFlowInd.Is (u16At s 0) (u16At s 2)) LeCreditFlowInd.Bad
+abbrev pub fromCommandRejectRes : CommandRejectResRead → SignalRead
+fromCommandRejectRes CommandRejectResRead.Decode = SignalRead.Decode
+fromCommandRejectRes (CommandRejectResRead.Is f) = SignalRead.Is (Signal.CommandRejectRes f)
+
+abbrev pub fromDisconnectionReq : DisconnectionReqRead → SignalRead
+fromDisconnectionReq DisconnectionReqRead.Decode = SignalRead.Decode
+fromDisconnectionReq (DisconnectionReqRead.Is f) = SignalRead.Is (Signal.DisconnectionReq f)
+
+abbrev pub fromDisconnectionRes : DisconnectionResRead → SignalRead
+fromDisconnectionRes DisconnectionResRead.Decode = SignalRead.Decode
+fromDisconnectionRes (DisconnectionResRead.Is f) = SignalRead.Is (Signal.DisconnectionRes f)
+
+abbrev pub fromConnParamUpdateReq : ConnParamUpdateReqRead → SignalRead
+fromConnParamUpdateReq ConnParamUpdateReqRead.Decode = SignalRead.Decode
+fromConnParamUpdateReq (ConnParamUpdateReqRead.Is f) = SignalRead.Is (Signal.ConnParamUpdateReq f)
+
+abbrev pub fromConnParamUpdateRes : ConnParamUpdateResRead → SignalRead
+fromConnParamUpdateRes ConnParamUpdateResRead.Decode = SignalRead.Decode
+fromConnParamUpdateRes (ConnParamUpdateResRead.Is f) = SignalRead.Is (Signal.ConnParamUpdateRes f)
+
+abbrev pub fromLeCreditConnReq : LeCreditConnReqRead → SignalRead
+fromLeCreditConnReq LeCreditConnReqRead.Decode = SignalRead.Decode
+fromLeCreditConnReq (LeCreditConnReqRead.Is f) = SignalRead.Is (Signal.LeCreditConnReq f)
+
+abbrev pub fromLeCreditConnRes : LeCreditConnResRead → SignalRead
+fromLeCreditConnRes LeCreditConnResRead.Decode = SignalRead.Decode
+fromLeCreditConnRes (LeCreditConnResRead.Is f) = SignalRead.Is (Signal.LeCreditConnRes f)
+
+abbrev pub fromLeCreditFlowInd : LeCreditFlowIndRead → SignalRead
+fromLeCreditFlowInd LeCreditFlowIndRead.Decode = SignalRead.Decode
+fromLeCreditFlowInd (LeCreditFlowIndRead.Is f) = SignalRead.Is (Signal.LeCreditFlowInd f)
+
+-- a body by its code
+unfoldable pub signalOf : ℕ → List ℕ → SignalRead
+signalOf code s =
+    choose (eqb code 0x01) (fromCommandRejectRes (commandRejectRes s))
+    (choose (eqb code 0x06) (fromDisconnectionReq (disconnectionReq s))
+    (choose (eqb code 0x07) (fromDisconnectionRes (disconnectionRes s))
+    (choose (eqb code 0x12) (fromConnParamUpdateReq (connParamUpdateReq s))
+    (choose (eqb code 0x13) (fromConnParamUpdateRes (connParamUpdateRes s))
+    (choose (eqb code 0x14) (fromLeCreditConnReq (leCreditConnReq s))
+    (choose (eqb code 0x15) (fromLeCreditConnRes (leCreditConnRes s))
+    (choose (eqb code 0x16) (fromLeCreditFlowInd (leCreditFlowInd s))
+    SignalRead.NotSupported)))))))

@@ -1,6 +1,4 @@
-pub mod Octets
-pub mod Fuel
-pub mod Headers
-pub mod Parameters
+-- What signals are, from Core Vol 3 Part A 4, in its order and words.
+pub mod Forms
 pub mod Bodies
-pub mod Replies
+pub mod Parameters

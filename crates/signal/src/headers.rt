@@ -1,6 +1,0 @@
-// stub
-pub enum Checked {
-    Good,
-    Cut,
-    Past(u8),
-}

@@ -9,25 +9,25 @@ use borrow.Author.Tests.{eqb-true, not-false}
 use Rattle.lists.specs.Both.{and-left, and-right}
 use Rattle.sar.specs.declared.Joined.{Joined}
 use Rattle.sar.specs.declared.Joined.the-variants as Joined
-use Rattle.signal.specs.declared.headers.Checked.{Checked}
-use Rattle.signal.specs.declared.headers.Checked.the-variants.{Good, Cut, Past}
-use Rattle.signal.specs.declared.bodies.CommandRejectRes.{CommandRejectRes}
-use Rattle.signal.specs.declared.bodies.CommandRejectRes.the-variants as CommandRejectRes
-use Rattle.signal.specs.declared.bodies.DisconnectionReq.{DisconnectionReq}
-use Rattle.signal.specs.declared.bodies.DisconnectionReq.the-variants as DisconnectionReq
-use Rattle.signal.specs.declared.bodies.DisconnectionRes.{DisconnectionRes}
-use Rattle.signal.specs.declared.bodies.DisconnectionRes.the-variants as DisconnectionRes
-use Rattle.signal.specs.declared.bodies.ConnParamUpdateReq.{ConnParamUpdateReq}
-use Rattle.signal.specs.declared.bodies.ConnParamUpdateReq.the-variants as ConnParamUpdateReq
-use Rattle.signal.specs.declared.bodies.ConnParamUpdateRes.{ConnParamUpdateRes}
-use Rattle.signal.specs.declared.bodies.ConnParamUpdateRes.the-variants as ConnParamUpdateRes
-use Rattle.signal.specs.declared.bodies.LeCreditConnReq.{LeCreditConnReq}
-use Rattle.signal.specs.declared.bodies.LeCreditConnReq.the-variants as LeCreditConnReq
-use Rattle.signal.specs.declared.bodies.LeCreditConnRes.{LeCreditConnRes}
-use Rattle.signal.specs.declared.bodies.LeCreditConnRes.the-variants as LeCreditConnRes
-use Rattle.signal.specs.declared.bodies.LeCreditFlowInd.{LeCreditFlowInd}
-use Rattle.signal.specs.declared.bodies.LeCreditFlowInd.the-variants as LeCreditFlowInd
-use Rattle.signal.specs.declared.replies.Signal.{Signal}
+use Rattle.headers.specs.declared.Checked.{Checked}
+use Rattle.headers.specs.declared.Checked.the-variants.{Good, Cut, Past}
+use Rattle.signal.specs.declared.bodies.CommandRejectResRead.{CommandRejectResRead}
+use Rattle.signal.specs.declared.bodies.CommandRejectResRead.the-variants as CommandRejectRes
+use Rattle.signal.specs.declared.bodies.DisconnectionReqRead.{DisconnectionReqRead}
+use Rattle.signal.specs.declared.bodies.DisconnectionReqRead.the-variants as DisconnectionReq
+use Rattle.signal.specs.declared.bodies.DisconnectionResRead.{DisconnectionResRead}
+use Rattle.signal.specs.declared.bodies.DisconnectionResRead.the-variants as DisconnectionRes
+use Rattle.signal.specs.declared.bodies.ConnParamUpdateReqRead.{ConnParamUpdateReqRead}
+use Rattle.signal.specs.declared.bodies.ConnParamUpdateReqRead.the-variants as ConnParamUpdateReq
+use Rattle.signal.specs.declared.bodies.ConnParamUpdateResRead.{ConnParamUpdateResRead}
+use Rattle.signal.specs.declared.bodies.ConnParamUpdateResRead.the-variants as ConnParamUpdateRes
+use Rattle.signal.specs.declared.bodies.LeCreditConnReqRead.{LeCreditConnReqRead}
+use Rattle.signal.specs.declared.bodies.LeCreditConnReqRead.the-variants as LeCreditConnReq
+use Rattle.signal.specs.declared.bodies.LeCreditConnResRead.{LeCreditConnResRead}
+use Rattle.signal.specs.declared.bodies.LeCreditConnResRead.the-variants as LeCreditConnRes
+use Rattle.signal.specs.declared.bodies.LeCreditFlowIndRead.{LeCreditFlowIndRead}
+use Rattle.signal.specs.declared.bodies.LeCreditFlowIndRead.the-variants as LeCreditFlowInd
+use Rattle.signal.specs.declared.forms.Signal.{Signal}
 use Rattle.channel.specs.declared.ChannelState.{ChannelState}
 use Rattle.channel.specs.declared.ChannelState.the-variants.{Disconnected}
 use Rattle.channel.specs.declared.Given.the-variants.{Nothing, Is}
@@ -98,9 +98,9 @@ module _ (t : Table) (fit : Fit t) (link : ℕ) where
   joined-apart : (s count : ℕ) (x : Slot) → leb (t .n) s ≡ false → holder (slotAt t s) ≡ by link → (j : Joined) → Does (ApartSlot link) t (joined t s x count j)
   unfolding joined
   joined-apart s count x a h (Joined.Refused r) = change-does on s itself a (its h)
-  joined-apart s count x a h (Joined.Grow g) = change-does on s itself a (its h)
-  joined-apart s count x a h (Joined.Finish len) = change-does on s itself a (its h)
-  joined-apart s count x a h Joined.Full = change-does on s itself a (its h)
+  joined-apart s count x a h (Joined.Assembling g) = change-does on s itself a (its h)
+  joined-apart s count x a h (Joined.Finished len) = change-does on s itself a (its h)
+  joined-apart s count x a h Joined.Dropped = change-does on s itself a (its h)
 
   frame-apart : (room cid : ℕ) (head : List ℕ) (count : ℕ) → Does (ApartSlot link) t (dispatch t room link cid head count)
   unfolding dispatch
@@ -149,59 +149,59 @@ module _ (t : Table) (fit : Fit t) (link : ℕ) where
 
   -- ---- Signals.antt
 
-  reject-apart : (id : ℕ) (b : CommandRejectRes) → Does (ApartSlot link) t (onReject t id b)
+  reject-apart : (id : ℕ) (b : CommandRejectResRead) → Does (ApartSlot link) t (onReject t id b)
   unfolding onReject
-  reject-apart id CommandRejectRes.Bad = still-does on itself
-  reject-apart id (CommandRejectRes.Is reason) = still-does on itself
+  reject-apart id CommandRejectRes.Decode = still-does on itself
+  reject-apart id (CommandRejectRes.Is res) = still-does on itself
 
-  disconnectionReq-apart : (id : ℕ) (b : DisconnectionReq) → Does (ApartSlot link) t (onDisconnectionReq t link id b)
+  disconnectionReq-apart : (id : ℕ) (b : DisconnectionReqRead) → Does (ApartSlot link) t (onDisconnectionReq t link id b)
   unfolding onDisconnectionReq
-  disconnectionReq-apart id DisconnectionReq.Bad = still-does on itself
-  disconnectionReq-apart id (DisconnectionReq.Is dcid scid) =
+  disconnectionReq-apart id DisconnectionReq.Decode = still-does on itself
+  disconnectionReq-apart id (DisconnectionReq.Is req) =
       else-does on _ _ _ itself λ a. else-does on _ _ _ itself λ b.
-      change-does on (slotOf dcid) itself (cid-slot t dcid (not-false _ a)) (its (of (λ k. not (isDisconnected k)) refl (slotAt t (slotOf dcid)) link (not-false _ b)))
+      change-does on (slotOf (req .dcid)) itself (cid-slot t (req .dcid) (not-false _ a)) (its (of (λ k. not (isDisconnected k)) refl (slotAt t (slotOf (req .dcid))) link (not-false _ b)))
 
-  disconnectionRes-apart : (id : ℕ) (b : DisconnectionRes) → Does (ApartSlot link) t (onDisconnectionRes t link id b)
+  disconnectionRes-apart : (id : ℕ) (b : DisconnectionResRead) → Does (ApartSlot link) t (onDisconnectionRes t link id b)
   unfolding onDisconnectionRes
-  disconnectionRes-apart id DisconnectionRes.Bad = still-does on itself
-  disconnectionRes-apart id (DisconnectionRes.Is dcid scid) =
+  disconnectionRes-apart id DisconnectionRes.Decode = still-does on itself
+  disconnectionRes-apart id (DisconnectionRes.Is res) =
       else-does on _ _ _ itself λ a. else-does on _ _ _ itself λ b.
-      change-does on (slotOf scid) itself (cid-slot t scid (not-false _ a)) (its (of isDisconnecting refl (slotAt t (slotOf scid)) link (not-false _ b)))
+      change-does on (slotOf (res .scid)) itself (cid-slot t (res .scid) (not-false _ a)) (its (of isDisconnecting refl (slotAt t (slotOf (res .scid))) link (not-false _ b)))
 
-  parameters-apart : (id : ℕ) (b : ConnParamUpdateReq) → Does (ApartSlot link) t (onParameters t id b)
+  parameters-apart : (id : ℕ) (b : ConnParamUpdateReqRead) → Does (ApartSlot link) t (onParameters t id b)
   unfolding onParameters
-  parameters-apart id ConnParamUpdateReq.Bad = still-does on itself
-  parameters-apart id (ConnParamUpdateReq.Is min max latency timeout) = else-does on _ _ _ itself λ _. still-does on itself
+  parameters-apart id ConnParamUpdateReq.Decode = still-does on itself
+  parameters-apart id (ConnParamUpdateReq.Is req) = else-does on _ _ _ itself λ _. still-does on itself
 
-  parameterResponse-apart : (id : ℕ) (b : ConnParamUpdateRes) → Does (ApartSlot link) t (onParameterResponse t id b)
+  parameterResponse-apart : (id : ℕ) (b : ConnParamUpdateResRead) → Does (ApartSlot link) t (onParameterResponse t id b)
   unfolding onParameterResponse
-  parameterResponse-apart id ConnParamUpdateRes.Bad = still-does on itself
-  parameterResponse-apart id (ConnParamUpdateRes.Is result) = still-does on itself
+  parameterResponse-apart id ConnParamUpdateRes.Decode = still-does on itself
+  parameterResponse-apart id (ConnParamUpdateRes.Is res) = still-does on itself
 
-  connReq-apart : (listening : Bool) (id : ℕ) (b : LeCreditConnReq) → Does (ApartSlot link) t (onConnReq t link listening id b)
+  connReq-apart : (listening : Bool) (id : ℕ) (b : LeCreditConnReqRead) → Does (ApartSlot link) t (onConnReq t link listening id b)
   unfolding onConnReq
-  connReq-apart listening id LeCreditConnReq.Bad = still-does on itself
-  connReq-apart listening id (LeCreditConnReq.Is spsm scid mtu mps credits) =
+  connReq-apart listening id LeCreditConnReq.Decode = still-does on itself
+  connReq-apart listening id (LeCreditConnReq.Is req) =
       else-does on _ _ _ itself λ _. else-does on _ _ _ itself λ _. else-does on _ _ _ itself λ _. else-does on _ _ _ itself λ a.
       change-does on _ itself a (free (free-slot t fit a))
 
-  connRes-apart : (id : ℕ) (b : LeCreditConnRes) → Does (ApartSlot link) t (onConnRes t link id b)
+  connRes-apart : (id : ℕ) (b : LeCreditConnResRead) → Does (ApartSlot link) t (onConnRes t link id b)
   unfolding onConnRes
-  connRes-apart id LeCreditConnRes.Bad = still-does on itself
-  connRes-apart id (LeCreditConnRes.Is dcid mtu mps credits result) =
+  connRes-apart id LeCreditConnRes.Decode = still-does on itself
+  connRes-apart id (LeCreditConnRes.Is res) =
       if-does on (λ _. sweep-does on (attemptOf link) (λ x e. its (of isConnecting refl x link e))) λ a.
       let s : ℕ = found (attemptBy link id) t in
       let h = of isConnecting refl (slotAt t s) link (and-left (attemptOf link (slotAt t s)) _ (found-passes t fit (attemptBy link id) a)) in
       if-does on (λ _. change-does on s itself a (its h)) λ _. change-does on s itself a (its h)
 
-  credits-apart : (id : ℕ) (b : LeCreditFlowInd) → Does (ApartSlot link) t (onCredits t link id b)
+  credits-apart : (id : ℕ) (b : LeCreditFlowIndRead) → Does (ApartSlot link) t (onCredits t link id b)
   unfolding onCredits
-  credits-apart id LeCreditFlowInd.Bad = still-does on itself
-  credits-apart id (LeCreditFlowInd.Is cid credits) =
+  credits-apart id LeCreditFlowInd.Decode = still-does on itself
+  credits-apart id (LeCreditFlowInd.Is ind) =
       else-does on _ _ _ itself λ a.
-      let s : ℕ = found (connectedTo link cid) t in
+      let s : ℕ = found (connectedTo link (ind .cid)) t in
       let x : Slot = slotAt t s in
-      let e = found-passes t fit (connectedTo link cid) a in
+      let e = found-passes t fit (connectedTo link (ind .cid)) a in
       let h : holder x ≡ by link = in-use isConnected refl (x .state) (x .link) (and-left (isConnected (x .state)) _ e) ∙ ap by (eqb-true (x .link) link (and-left (eqb (x .link) link) _ (and-right (isConnected (x .state)) _ e))) in
       if-does on (λ _. change-does on s itself a (its h)) λ _. change-does on s itself a (its h)
 

@@ -8,13 +8,16 @@ use lib.ListN.{replicate, take, drop, set}
 use Rattle.lists.specs.Choose.{choose}
 use Rattle.lists.specs.First.{first}
 use Rattle.lists.specs.Every.{every}
+use Rattle.lists.specs.Fuel.{whole}
 use Rattle.credit.specs.declared.CreditFlowPolicy.the-variants.{Every}
 use Rattle.credit.specs.Account.{due, grantOf}
-use Rattle.sar.specs.Stub.{grown, joinStep, frameCount, planSend}
+use Rattle.cutting.specs.Cutting.{ceil, frameCount, framesLength, planSend}
+use Rattle.sar.specs.Joining.{reached, firstStep, assembled, joinStep}
 use Rattle.codes.specs.declared.Refusal.the-variants as Refusal
 use Rattle.codes.specs.Codes.{resultOf}
-use Rattle.signal.specs.Fuel.{whole}
-use Rattle.signal.specs.Headers.{headersOf, restOf}
+use Rattle.headers.specs.Headers.{headersOf, restOf}
+use Rattle.signal.specs.Bodies.{commandRejectRes, disconnectionReq, disconnectionRes, connParamUpdateReq, connParamUpdateRes, leCreditConnReq, leCreditConnRes, leCreditFlowInd}
+use Rattle.signal.specs.Parameters.{parametersValid}
 use Rattle.channel.specs.declared.Answer.{Answer}
 use Rattle.channel.specs.declared.Answer.the-variants.{Done, Refused, At, Link, Due, Frames, Job, Event}
 use Rattle.channel.specs.declared.ChannelState.{ChannelState}
@@ -120,7 +123,7 @@ module _ (id a b c x y e : ℕ) where
     over : at 13 .table ≡ record { slots = replicate 16 (fresh 0); n = 2; d = 1; m = 29; identifier = 3; spsms = set (replicate 32 0) 16 1 }
 
   channel : Channel
-  unfolding run outcomes after decide serve registerSpsm signalled checked headersOf whole handled onConnReq nextPending acceptPending dispatch joined joinStep grown receive taken grantIn grantOf due send planned planSend frameCount frames laterFrames disconnect disconnecting nextDisconnect disconnected decRef jobs bare verdict wellFormed slotFits every first only choose make parts moves move fill fills written
+  unfolding run outcomes after decide serve registerSpsm signalled checked headersOf whole handled onConnReq leCreditConnReq nextPending acceptPending dispatch joined joinStep firstStep reached assembled receive taken grantIn grantOf due send planned planSend frameCount ceil framesLength frames laterFrames disconnect disconnecting nextDisconnect disconnected decRef jobs bare verdict wellFormed slotFits every first only choose make parts moves move fill fills written
   channel =
       record {
         answered = refl;
@@ -170,7 +173,7 @@ module _ (id a b e : ℕ) where
     job : take 4 (drop 18 (later 13 .memory)) ≡ e ∷ 9 ∷ 9 ∷ 9 ∷ []
 
   nextPhone : NextPhone
-  unfolding run outcomes after decide serve registerSpsm signalled checked headersOf whole handled onConnReq onDisconnectionReq nextPending acceptPending dispatch joined joinStep grown receive taken grantIn grantOf due nextDisconnect decRef jobs bare verdict wellFormed slotFits every first only choose make parts moves move fill fills written
+  unfolding run outcomes after decide serve registerSpsm signalled checked headersOf whole handled onConnReq leCreditConnReq onDisconnectionReq disconnectionReq nextPending acceptPending dispatch joined joinStep firstStep reached assembled receive taken grantIn grantOf due nextDisconnect decRef jobs bare verdict wellFormed slotFits every first only choose make parts moves move fill fills written
   nextPhone = record { answered = refl; half = refl; closed = refl; cleared = refl; response = refl; alone = refl; job = refl }
 
 -- ---- two phones' signals. Each asks for a channel of its own; a response that matches none frees the attempts of its link alone. Of a PDU
@@ -225,6 +228,6 @@ module _ (id : ℕ) where
     reply : take 10 (when 12 .memory) ≡ 6 ∷ 0 ∷ 5 ∷ 0 ∷ 0x01 ∷ id ∷ 2 ∷ 0 ∷ 0 ∷ 0 ∷ []
 
   signalled-so : Signalled
-  unfolding run outcomes after decide serve create signalled checked headersOf whole handled onConnRes resultOf onCredits onParameters onDisconnectionRes onReject onParameterResponse disconnect disconnecting jobs bare verdict wellFormed slotFits every Rattle.lists.specs.First.first only choose make parts moves move fill fills written
+  unfolding run outcomes after decide serve create signalled checked headersOf whole handled onConnRes leCreditConnRes resultOf onCredits leCreditFlowInd onParameters connParamUpdateReq parametersValid onDisconnectionRes disconnectionRes onReject commandRejectRes onParameterResponse connParamUpdateRes disconnect disconnecting jobs bare verdict wellFormed slotFits every Rattle.lists.specs.First.first only choose make parts moves move fill fills written
   signalled-so =
       record { answered = refl; asked = refl; request = refl; unmatched = refl; matched = refl; first = refl; rest = refl; others = refl; own = refl; reply = refl }

@@ -15,27 +15,27 @@ use Rattle.credit.specs.declared.Grant.the-variants as Grant
 use Rattle.credit.specs.Account.{granted}
 use Rattle.sar.specs.declared.Joined.{Joined}
 use Rattle.sar.specs.declared.Joined.the-variants as Joined
-use Rattle.sar.specs.declared.Plan.{Plan}
-use Rattle.sar.specs.declared.Plan.the-variants as Plan
-use Rattle.signal.specs.declared.headers.Checked.{Checked}
-use Rattle.signal.specs.declared.headers.Checked.the-variants.{Good, Cut, Past}
-use Rattle.signal.specs.declared.bodies.CommandRejectRes.{CommandRejectRes}
-use Rattle.signal.specs.declared.bodies.CommandRejectRes.the-variants as CommandRejectRes
-use Rattle.signal.specs.declared.bodies.DisconnectionReq.{DisconnectionReq}
-use Rattle.signal.specs.declared.bodies.DisconnectionReq.the-variants as DisconnectionReq
-use Rattle.signal.specs.declared.bodies.DisconnectionRes.{DisconnectionRes}
-use Rattle.signal.specs.declared.bodies.DisconnectionRes.the-variants as DisconnectionRes
-use Rattle.signal.specs.declared.bodies.ConnParamUpdateReq.{ConnParamUpdateReq}
-use Rattle.signal.specs.declared.bodies.ConnParamUpdateReq.the-variants as ConnParamUpdateReq
-use Rattle.signal.specs.declared.bodies.ConnParamUpdateRes.{ConnParamUpdateRes}
-use Rattle.signal.specs.declared.bodies.ConnParamUpdateRes.the-variants as ConnParamUpdateRes
-use Rattle.signal.specs.declared.bodies.LeCreditConnReq.{LeCreditConnReq}
-use Rattle.signal.specs.declared.bodies.LeCreditConnReq.the-variants as LeCreditConnReq
-use Rattle.signal.specs.declared.bodies.LeCreditConnRes.{LeCreditConnRes}
-use Rattle.signal.specs.declared.bodies.LeCreditConnRes.the-variants as LeCreditConnRes
-use Rattle.signal.specs.declared.bodies.LeCreditFlowInd.{LeCreditFlowInd}
-use Rattle.signal.specs.declared.bodies.LeCreditFlowInd.the-variants as LeCreditFlowInd
-use Rattle.signal.specs.declared.replies.Signal.{Signal}
+use Rattle.cutting.specs.declared.Plan.{Plan}
+use Rattle.cutting.specs.declared.Plan.the-variants as Plan
+use Rattle.headers.specs.declared.Checked.{Checked}
+use Rattle.headers.specs.declared.Checked.the-variants.{Good, Cut, Past}
+use Rattle.signal.specs.declared.bodies.CommandRejectResRead.{CommandRejectResRead}
+use Rattle.signal.specs.declared.bodies.CommandRejectResRead.the-variants as CommandRejectRes
+use Rattle.signal.specs.declared.bodies.DisconnectionReqRead.{DisconnectionReqRead}
+use Rattle.signal.specs.declared.bodies.DisconnectionReqRead.the-variants as DisconnectionReq
+use Rattle.signal.specs.declared.bodies.DisconnectionResRead.{DisconnectionResRead}
+use Rattle.signal.specs.declared.bodies.DisconnectionResRead.the-variants as DisconnectionRes
+use Rattle.signal.specs.declared.bodies.ConnParamUpdateReqRead.{ConnParamUpdateReqRead}
+use Rattle.signal.specs.declared.bodies.ConnParamUpdateReqRead.the-variants as ConnParamUpdateReq
+use Rattle.signal.specs.declared.bodies.ConnParamUpdateResRead.{ConnParamUpdateResRead}
+use Rattle.signal.specs.declared.bodies.ConnParamUpdateResRead.the-variants as ConnParamUpdateRes
+use Rattle.signal.specs.declared.bodies.LeCreditConnReqRead.{LeCreditConnReqRead}
+use Rattle.signal.specs.declared.bodies.LeCreditConnReqRead.the-variants as LeCreditConnReq
+use Rattle.signal.specs.declared.bodies.LeCreditConnResRead.{LeCreditConnResRead}
+use Rattle.signal.specs.declared.bodies.LeCreditConnResRead.the-variants as LeCreditConnRes
+use Rattle.signal.specs.declared.bodies.LeCreditFlowIndRead.{LeCreditFlowIndRead}
+use Rattle.signal.specs.declared.bodies.LeCreditFlowIndRead.the-variants as LeCreditFlowInd
+use Rattle.signal.specs.declared.forms.Signal.{Signal}
 use Rattle.channel.specs.declared.Answer.the-variants.{Done, Refused}
 use Rattle.channel.specs.declared.ChannelState.{ChannelState}
 use Rattle.channel.specs.declared.ChannelState.the-variants.{Disconnected, Connecting, PeerConnecting, Connected, ConnectFailed, PeerDisconnecting, Disconnecting}
@@ -186,59 +186,59 @@ module _ (t : Table) (fit : Fit t) where
 
   -- ---- Signals.antt
 
-  reject-safe : {l : Holder} (id : ℕ) (b : CommandRejectRes) → Safe t l (onReject t id b)
+  reject-safe : {l : Holder} (id : ℕ) (b : CommandRejectResRead) → Safe t l (onReject t id b)
   unfolding onReject
-  reject-safe id CommandRejectRes.Bad = still-does on itself
-  reject-safe id (CommandRejectRes.Is reason) = still-does on itself
+  reject-safe id CommandRejectRes.Decode = still-does on itself
+  reject-safe id (CommandRejectRes.Is res) = still-does on itself
 
-  disconnectionReq-safe : {l : Holder} (link id : ℕ) (b : DisconnectionReq) → Safe t l (onDisconnectionReq t link id b)
+  disconnectionReq-safe : {l : Holder} (link id : ℕ) (b : DisconnectionReqRead) → Safe t l (onDisconnectionReq t link id b)
   unfolding onDisconnectionReq
-  disconnectionReq-safe link id DisconnectionReq.Bad = still-does on itself
-  disconnectionReq-safe link id (DisconnectionReq.Is dcid scid) =
+  disconnectionReq-safe link id DisconnectionReq.Decode = still-does on itself
+  disconnectionReq-safe link id (DisconnectionReq.Is req) =
       else-does on _ _ _ itself λ a. else-does on _ _ _ itself λ b.
-      change-does on (slotOf dcid) itself (cid-slot t dcid (not-false _ a))
-      (kept (own (λ k. not (isDisconnected k)) refl (slotOf dcid) (and-left (not (isDisconnected (slotAt t (slotOf dcid) .state))) _ (not-false _ b))) refl)
+      change-does on (slotOf (req .dcid)) itself (cid-slot t (req .dcid) (not-false _ a))
+      (kept (own (λ k. not (isDisconnected k)) refl (slotOf (req .dcid)) (and-left (not (isDisconnected (slotAt t (slotOf (req .dcid)) .state))) _ (not-false _ b))) refl)
 
-  disconnectionRes-safe : {l : Holder} (link id : ℕ) (b : DisconnectionRes) → Safe t l (onDisconnectionRes t link id b)
+  disconnectionRes-safe : {l : Holder} (link id : ℕ) (b : DisconnectionResRead) → Safe t l (onDisconnectionRes t link id b)
   unfolding onDisconnectionRes
-  disconnectionRes-safe link id DisconnectionRes.Bad = still-does on itself
-  disconnectionRes-safe link id (DisconnectionRes.Is dcid scid) =
-      else-does on _ _ _ itself λ a. else-does on _ _ _ itself λ _. change-does on (slotOf scid) itself (cid-slot t scid (not-false _ a)) wiped
+  disconnectionRes-safe link id DisconnectionRes.Decode = still-does on itself
+  disconnectionRes-safe link id (DisconnectionRes.Is res) =
+      else-does on _ _ _ itself λ a. else-does on _ _ _ itself λ _. change-does on (slotOf (res .scid)) itself (cid-slot t (res .scid) (not-false _ a)) wiped
 
-  parameters-safe : {l : Holder} (id : ℕ) (b : ConnParamUpdateReq) → Safe t l (onParameters t id b)
+  parameters-safe : {l : Holder} (id : ℕ) (b : ConnParamUpdateReqRead) → Safe t l (onParameters t id b)
   unfolding onParameters
-  parameters-safe id ConnParamUpdateReq.Bad = still-does on itself
-  parameters-safe id (ConnParamUpdateReq.Is min max latency timeout) = else-does on _ _ _ itself λ _. still-does on itself
+  parameters-safe id ConnParamUpdateReq.Decode = still-does on itself
+  parameters-safe id (ConnParamUpdateReq.Is req) = else-does on _ _ _ itself λ _. still-does on itself
 
-  parameterResponse-safe : {l : Holder} (id : ℕ) (b : ConnParamUpdateRes) → Safe t l (onParameterResponse t id b)
+  parameterResponse-safe : {l : Holder} (id : ℕ) (b : ConnParamUpdateResRead) → Safe t l (onParameterResponse t id b)
   unfolding onParameterResponse
-  parameterResponse-safe id ConnParamUpdateRes.Bad = still-does on itself
-  parameterResponse-safe id (ConnParamUpdateRes.Is result) = still-does on itself
+  parameterResponse-safe id ConnParamUpdateRes.Decode = still-does on itself
+  parameterResponse-safe id (ConnParamUpdateRes.Is res) = still-does on itself
 
-  connReq-safe : {l : Holder} (link : ℕ) (listening : Bool) (id : ℕ) (b : LeCreditConnReq) → Safe t l (onConnReq t link listening id b)
+  connReq-safe : {l : Holder} (link : ℕ) (listening : Bool) (id : ℕ) (b : LeCreditConnReqRead) → Safe t l (onConnReq t link listening id b)
   unfolding onConnReq
-  connReq-safe link listening id LeCreditConnReq.Bad = still-does on itself
-  connReq-safe link listening id (LeCreditConnReq.Is spsm scid mtu mps credits) =
+  connReq-safe link listening id LeCreditConnReq.Decode = still-does on itself
+  connReq-safe link listening id (LeCreditConnReq.Is req) =
       else-does on _ _ _ itself λ _. else-does on _ _ _ itself λ _. else-does on _ _ _ itself λ _. else-does on _ _ _ itself λ a.
       change-does on _ itself a (allotted (free-slot t fit a) refl)
 
-  connRes-safe : {l : Holder} (link id : ℕ) (b : LeCreditConnRes) → Safe t l (onConnRes t link id b)
+  connRes-safe : {l : Holder} (link id : ℕ) (b : LeCreditConnResRead) → Safe t l (onConnRes t link id b)
   unfolding onConnRes
-  connRes-safe link id LeCreditConnRes.Bad = still-does on itself
-  connRes-safe link id (LeCreditConnRes.Is dcid mtu mps credits result) =
+  connRes-safe link id LeCreditConnRes.Decode = still-does on itself
+  connRes-safe link id (LeCreditConnRes.Is res) =
       if-does on (λ _. sweep-does on (attemptOf link) (λ x _. wiped)) λ a.
       let s : ℕ = found (attemptBy link id) t in
       let x : Slot = slotAt t s in
       let e = own isConnecting refl s (and-left (isConnecting (x .state)) _ (and-left (attemptOf link x) _ (found-passes t fit (attemptBy link id) a))) in
       if-does on (λ _. change-does on s itself a (kept e refl)) λ _. change-does on s itself a (kept e refl)
 
-  credits-safe : {l : Holder} (link id : ℕ) (b : LeCreditFlowInd) → Safe t l (onCredits t link id b)
+  credits-safe : {l : Holder} (link id : ℕ) (b : LeCreditFlowIndRead) → Safe t l (onCredits t link id b)
   unfolding onCredits
-  credits-safe link id LeCreditFlowInd.Bad = still-does on itself
-  credits-safe link id (LeCreditFlowInd.Is cid credits) =
+  credits-safe link id LeCreditFlowInd.Decode = still-does on itself
+  credits-safe link id (LeCreditFlowInd.Is ind) =
       else-does on _ _ _ itself λ a.
-      let s : ℕ = found (connectedTo link cid) t in
-      let e = own isConnected refl s (and-left (isConnected (slotAt t s .state)) _ (found-passes t fit (connectedTo link cid) a)) in
+      let s : ℕ = found (connectedTo link (ind .cid)) t in
+      let e = own isConnected refl s (and-left (isConnected (slotAt t s .state)) _ (found-passes t fit (connectedTo link (ind .cid)) a)) in
       if-does on (λ _. change-does on s itself a (kept e refl)) λ _. change-does on s itself a (kept refl refl)
 
   handled-safe : {l : Holder} (link : ℕ) (listening central : Bool) (code id : ℕ) (body : List ℕ) → Safe t l (handled t link listening central code id body)
@@ -267,9 +267,9 @@ module _ (t : Table) (fit : Fit t) where
       → (j : Joined) → Safe t (by k) (joined t s x count j)
   unfolding joined
   joined-safe k s count x a b c d (Joined.Refused r) = change-does on s itself a (kept b refl)
-  joined-safe k s count x a b c d (Joined.Grow g) = change-does on s itself a (mine c d)
-  joined-safe k s count x a b c d (Joined.Finish len) = change-does on s itself a (mine c d)
-  joined-safe k s count x a b c d Joined.Full = change-does on s itself a (kept c refl)
+  joined-safe k s count x a b c d (Joined.Assembling g) = change-does on s itself a (mine c d)
+  joined-safe k s count x a b c d (Joined.Finished len) = change-does on s itself a (mine c d)
+  joined-safe k s count x a b c d Joined.Dropped = change-does on s itself a (kept c refl)
 
   frame-safe : (room link cid : ℕ) (head : List ℕ) (count : ℕ) → Safe t (by link) (dispatch t room link cid head count)
   unfolding dispatch

@@ -9,10 +9,12 @@ use native.Mathlib.Omega.{arith}
 use Rattle.lists.specs.Choose.{choose}
 use Rattle.lists.specs.First.{first}
 use Rattle.lists.specs.Every.{every}
+use Rattle.lists.specs.Fuel.{whole}
 use Rattle.credit.specs.Account.{due, grantOf}
-use Rattle.sar.specs.Stub.{grown, joinStep, frameCount, planSend}
-use Rattle.signal.specs.Fuel.{whole}
-use Rattle.signal.specs.Headers.{headersOf}
+use Rattle.cutting.specs.Cutting.{ceil, frameCount, framesLength, planSend}
+use Rattle.sar.specs.Joining.{reached, firstStep, assembled, joinStep}
+use Rattle.headers.specs.Headers.{headersOf}
+use Rattle.signal.specs.Bodies.{leCreditConnReq}
 use Rattle.definition.specs.Mem.{fill, move, moves, parts, fills, written}
 use Rattle.definition.specs.Table.{slotFits, wellFormed}
 use Rattle.definition.specs.Outcome.{only, verdict}
@@ -33,7 +35,7 @@ made-well = refl
 
 -- Two such runs with different job octets are alike: in life 0 of link 1.
 alike : (id a b c x y e a′ b′ c′ x′ y′ e′ : ℕ) → AlikeRuns 1 0 0 start (calls id a b c x y e) (calls id a′ b′ c′ x′ y′ e′)
-unfolding overAfter after decide serve registerSpsm signalled checked headersOf whole handled onConnReq nextPending acceptPending dispatch joined joinStep grown receive taken grantIn grantOf due send planned planSend frameCount frames laterFrames disconnect disconnecting nextDisconnect disconnected decRef jobs bare verdict wellFormed slotFits every first only choose make parts moves move fill fills written
+unfolding overAfter after decide serve registerSpsm signalled checked headersOf whole handled onConnReq leCreditConnReq nextPending acceptPending dispatch joined joinStep firstStep reached assembled receive taken grantIn grantOf due send planned planSend frameCount ceil framesLength frames laterFrames disconnect disconnecting nextDisconnect disconnected decRef jobs bare verdict wellFormed slotFits every first only choose make parts moves move fill fills written
 alike id a b c x y e a′ b′ c′ x′ y′ e′ = (
   same,
   (
@@ -64,5 +66,5 @@ module _ (id a b c x y e : ℕ) where
     over : marksOf 1 0 start (calls id a b c x y e) .over ≡ 1
 
   marks : Marked
-  unfolding marksFrom marked overAfter after decide serve registerSpsm signalled checked headersOf whole handled onConnReq nextPending acceptPending dispatch joined joinStep grown receive taken grantIn grantOf due send planned planSend frameCount frames laterFrames disconnect disconnecting nextDisconnect disconnected decRef jobs bare carrier verdict wellFormed slotFits every first only choose make parts moves move fill fills written
+  unfolding marksFrom marked overAfter after decide serve registerSpsm signalled checked headersOf whole handled onConnReq leCreditConnReq nextPending acceptPending dispatch joined joinStep firstStep reached assembled receive taken grantIn grantOf due send planned planSend frameCount ceil framesLength frames laterFrames disconnect disconnecting nextDisconnect disconnected decRef jobs bare carrier verdict wellFormed slotFits every first only choose make parts moves move fill fills written
   marks = record { half = refl; memory = refl; room = refl; over = refl }

@@ -8,7 +8,7 @@ use lib.ListN.{length, replicate}
 use Rattle.lists.specs.First.{first}
 use Rattle.lists.specs.Bits.{bitset, count}
 use Rattle.codes.specs.declared.Refusal.the-variants.{BadTable, BadRoom, BadSpsm}
-use Rattle.signal.specs.Writer.{encodeOf}
+use Rattle.writer.specs.Writer.{encodeOf}
 use Rattle.signal.specs.declared.forms.Signal.{Signal}
 use Rattle.signal.specs.declared.forms.Signal.the-variants.{ConnParamUpdateReq, ConnParamUpdateRes}
 use Rattle.channel.specs.Limits.{slotsMost, spsmMost}

@@ -17,7 +17,7 @@ use Rattle.sar.specs.Joining.{isIdle, idle, assembled, joinStep}
 use Rattle.cutting.specs.declared.Plan.{Plan}
 use Rattle.cutting.specs.declared.Plan.the-variants as Plan
 use Rattle.cutting.specs.Cutting.{planSend}
-use Rattle.signal.specs.Writer.{encodeOf}
+use Rattle.writer.specs.Writer.{encodeOf}
 use Rattle.signal.specs.declared.forms.Signal.the-variants.{LeCreditFlowInd}
 use Rattle.channel.specs.declared.Answer.the-variants.{Done, Refused, Frames, Job}
 use Rattle.channel.specs.declared.ChannelState.{ChannelState}

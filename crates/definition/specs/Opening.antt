@@ -5,7 +5,7 @@ use Prim.Native.Nat.{ℕ, _-_}
 use lib.Dec.{eqb, leb, ltb}
 use Rattle.codes.specs.declared.Refusal.the-variants.{NotFound, InsufficientSpace, NoChannelAvailable, ConnectError, Disconnected, Held}
 use Rattle.credit.specs.Account.{newAccount}
-use Rattle.signal.specs.Writer.{encodeOf}
+use Rattle.writer.specs.Writer.{encodeOf}
 use Rattle.signal.specs.declared.forms.Signal.the-variants.{LeCreditConnReq}
 use Rattle.channel.specs.Limits.{frameHead, jobHead}
 use Rattle.channel.specs.declared.Answer.the-variants.{Done, Refused, At, Opened}

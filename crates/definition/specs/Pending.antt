@@ -8,7 +8,7 @@ use Rattle.codes.specs.declared.LeCreditConnResultCode.the-variants.{Success, N
 use Rattle.codes.specs.declared.Refusal.the-variants.{NotFound, InsufficientSpace, Disconnected, Held}
 use Rattle.credit.specs.Account.{newAccount}
 use Rattle.signal.specs.Forms.{rejectRes}
-use Rattle.signal.specs.Writer.{encodeOf}
+use Rattle.writer.specs.Writer.{encodeOf}
 use Rattle.signal.specs.declared.forms.Signal.the-variants.{LeCreditConnRes}
 use Rattle.channel.specs.Limits.{frameHead, jobHead}
 use Rattle.channel.specs.declared.Answer.the-variants.{Done, Refused, At, Link}

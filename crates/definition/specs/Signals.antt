@@ -10,12 +10,12 @@ use Rattle.codes.specs.declared.LeCreditConnResultCode.the-variants as Result
 use Rattle.codes.specs.Codes.{resultNumber}
 use Rattle.codes.specs.declared.Refusal.{Refusal}
 use Rattle.codes.specs.declared.Refusal.the-variants.{NotFound, InvalidValue, Decode, NotSupported, ConnectError}
-use Rattle.signal.specs.Headers.{headersOf, bodyIn}
+use Rattle.headers.specs.Headers.{headersOf, bodyIn}
 use Rattle.signal.specs.Bodies.{commandRejectRes, disconnectionReq, disconnectionRes, connParamUpdateReq, connParamUpdateRes, leCreditConnReq, leCreditConnRes, leCreditFlowInd}
 use Rattle.signal.specs.Parameters.{parametersValid}
-use Rattle.signal.specs.Writer.{encodeOf}
-use Rattle.signal.specs.declared.headers.Checked.{Checked}
-use Rattle.signal.specs.declared.headers.Checked.the-variants.{Good, Cut, Past}
+use Rattle.writer.specs.Writer.{encodeOf}
+use Rattle.headers.specs.declared.Checked.{Checked}
+use Rattle.headers.specs.declared.Checked.the-variants.{Good, Cut, Past}
 use Rattle.signal.specs.declared.bodies.CommandRejectResRead.{CommandRejectResRead}
 use Rattle.signal.specs.declared.bodies.CommandRejectResRead.the-variants as CommandRejectRes
 use Rattle.signal.specs.declared.bodies.DisconnectionReqRead.{DisconnectionReqRead}

@@ -61,15 +61,15 @@ assembled a = choose (isIdle a) 0 (a .have)
 abbrev pub queueAt : ℕ → ℕ → ℕ
 queueAt place queued = suc queued * place
 
--- a job that one frame carries goes straight to its place; one that was assembled goes there, and the place for assembly is zeroed
+-- a job that one frame carries goes straight to its place at `at`; one that was assembled goes there, and the place for assembly is zeroed
 unfoldable pub finish : ℕ → Assembly → ℕ → List ℕ → List ℕ → List ℕ
-finish place a queued xs p =
-    choose (isIdle a) (sets xs (queueAt place queued) (drop 2 p))
-    (sets (sets (sets xs (queueAt place queued) (part xs 0 (a .have))) (queueAt place queued + a .have) p) 0 (replicate place 0))
+finish place a at xs p =
+    choose (isIdle a) (sets xs at (drop 2 p))
+    (sets (sets (sets xs at (part xs 0 (a .have))) (at + a .have) p) 0 (replicate place 0))
 
 -- a refusal leaves the part to the caller, who leaves Connected
 unfoldable pub joinPart : ℕ → Assembly → ℕ → Joined → List ℕ → List ℕ → List ℕ
 joinPart place a queued (Refused r) xs p = xs
 joinPart place a queued Dropped xs p = sets xs 0 (replicate place 0)
-joinPart place a queued (Finished n) xs p = finish place a queued xs p
+joinPart place a queued (Finished n) xs p = finish place a (queueAt place queued) xs p
 joinPart place a queued (Assembling b) xs p = sets xs (assembled a) (jobOctets a p)

@@ -1,5 +1,5 @@
-// The table by value: slots read and stored, the one search, freeing, identifiers, and the 0x40 rule. Total: a slot past the end reads
-// as an unused one and takes no store. Each contract is the equation with the function of that name in the crate `definition`.
+// The table by value: slots read and stored, the one search, freeing, identifiers, the 0x40 rule, and what a call gives back. Total: a
+// slot past the end reads as an unused one and takes no store. Each contract is the equation with the function of that name in the crate `definition`.
 ghost use mathlib.Core.Path.{_≡_};
 ghost use Prim.Native.Nat.{_+_, _<_, min};
 ghost use lib.Dec.{eqb};
@@ -7,13 +7,17 @@ ghost use Rattle.lists.specs.Choose.{choose};
 ghost use Rattle.channel.specs.Limits.{slotsMost};
 ghost use Rattle.channel.specs.declared.Answer.the-variants.{Done};
 ghost use Rattle.definition.specs.Table.{slotAt, putSlot, found, freed, index, cidOf, isCid, slotOf, nextId, spent};
-ghost use Rattle.definition.specs.Outcome.{sweep};
+ghost use Rattle.definition.specs.Outcome.{sweep, refuse, done};
+ghost use Rattle.slots.specs.Served.{served, servedOf};
 ghost use Rattle.slot.specs.Want.{wanted};
+use channel::Answer;
 use channel::ChannelIndex;
 use channel::Cid;
 use channel::SLOTS;
+use channel::Served;
 use channel::Slot;
 use channel::Table;
+use codes::Refusal;
 use slot::Want;
 
 // ---- slots
@@ -151,4 +155,38 @@ pub fn slot_of(cid: Cid) -> ChannelIndex
         return ChannelIndex(0);
     }
     ChannelIndex((cid.0 - 0x40) as u8)
+}
+
+// ---- what a call gives back
+
+// Nothing changes, and the call is refused.
+pub fn refused(t: Table, r: Refusal) -> Served
+    ensures { λ x. ⌜ x ≡ servedOf (refuse t r) ⌝ }
+{
+    still(t, Answer::Refused(r), 0)
+}
+
+// Nothing changes, and there is nothing to tell.
+pub fn done(t: Table) -> Served
+    ensures { λ x. ⌜ x ≡ servedOf (done t) ⌝ }
+{
+    still(t, Answer::Done, 0)
+}
+
+// No slot changes; so many octets were written.
+pub fn still(t: Table, a: Answer, octets: usize) -> Served
+    ensures { λ x. ⌜ x ≡ served a t octets ⌝ }
+{
+    Served {
+        answer: a,
+        table: t,
+        octets,
+    }
+}
+
+// Slot s becomes x; so many octets were written.
+pub fn changed(t: Table, s: usize, x: Slot, a: Answer, octets: usize) -> Served
+    ensures { λ r. ⌜ r ≡ served a (putSlot t s x) octets ⌝ }
+{
+    still(put_slot(t, s, x), a, octets)
 }

@@ -3,8 +3,10 @@
 ghost use mathlib.Core.Path.{_≡_};
 ghost use mathlib.Core.List.{[]};
 ghost use lib.ListN.{length};
+ghost use Prim.Native.Nat.{_≤_};
+ghost use Rattle.channel.specs.Limits.{packetLeast, packetMost, depthMost};
 ghost use Rattle.definition.specs.Ending.{servedOf, end, endOf};
-ghost use Rattle.definition.specs.Pending.{settled, mtuOf, mpsOf, creditsOf, accepted, nextPending, acceptPending};
+ghost use Rattle.definition.specs.Pending.{settled, mtuOf, mpsOf, creditsOf, acceptedAs, nextPending, acceptPending};
 use channel::Answer;
 use channel::ChannelIndex;
 use channel::ChannelState;
@@ -59,5 +61,102 @@ pub fn settled(usual: u16, g: Setting) -> u16
     match g {
         Setting::Default => usual,
         Setting::Is(n) => n,
+    }
+}
+
+// Our MTU, MPS and initial credits in an accept or a create.
+pub fn mtu_of(t: Table, c: L2capChannelConfig) -> u16
+    requires { ⌜ (packetLeast ≤ t .m) × (t .m ≤ packetMost) ⌝ }
+    ensures { λ r. ⌜ r ≡ mtuOf t c ⌝ }
+{
+    let g = c.mtu;
+    settled((t.m - 6) as u16, g)
+}
+
+pub fn mps_of(t: Table, c: L2capChannelConfig) -> u16
+    requires { ⌜ (packetLeast ≤ t .m) × (t .m ≤ packetMost) ⌝ }
+    ensures { λ r. ⌜ r ≡ mpsOf t c ⌝ }
+{
+    let g = c.mps;
+    settled((t.m - 4) as u16, g)
+}
+
+pub fn credits_of(t: Table, c: L2capChannelConfig) -> u16
+    requires { ⌜ t .d ≤ depthMost ⌝ }
+    ensures { λ r. ⌜ r ≡ creditsOf t c ⌝ }
+{
+    let g = c.credits;
+    settled(t.d as u16, g)
+}
+
+// The slot once it is accepted.
+fn accepted(x: Slot, mps: u16, mtu: u16, account: CreditFlowControl) -> Slot
+    ensures { λ r. ⌜ r ≡ acceptedAs mps mtu account x ⌝ }
+{
+    let peer = x.peer;
+    let assembly = x.assembly;
+    let queue = x.queue;
+    Slot {
+        state: ChannelState::Connected,
+        link: x.link,
+        spsm: x.spsm,
+        mps,
+        mtu,
+        account,
+        hold: x.hold,
+        peer,
+        assembly,
+        queue,
+    }
+}
+
+// Accepts a pending connection: our numbers, a new account, and the response.
+pub fn accept_pending(
+    t: Table,
+    signal: &mut [u8],
+    slot: ChannelIndex,
+    c: L2capChannelConfig,
+) -> Served
+    ensures { λ r. ⌜ end r [] (now (signal .exit)) [] ≡ endOf t [] [] (now (signal .entry)) [] (acceptPending t (length (now (signal .entry))) (slot .0) c) ⌝ }
+{
+    let s = slots::number(slot);
+    match gate::gate(
+        t,
+        Given::Nothing,
+        Given::Is(signal.len()),
+        Given::Nothing,
+        Given::Is(s),
+    ) {
+        Verdict::Stop(r) => slots::refused(t, r),
+        Verdict::Pass => {
+            let mps = mps_of(t, c);
+            let mtu = mtu_of(t, c);
+            if t.m - 4 < mps as usize {
+                return slots::refused(t, Refusal::InsufficientSpace);
+            }
+            if t.m - 6 < mtu as usize {
+                return slots::refused(t, Refusal::InsufficientSpace);
+            }
+            let x = slots::slot_at(t, s);
+            let k = x.state;
+            if !state::is_peer_connecting(k) {
+                return slots::refused(t, Refusal::NotFound);
+            }
+            if x.hold == 0 {
+                return slots::refused(t, Refusal::Held);
+            }
+            let credits = credits_of(t, c);
+            let p = c.policy;
+            let y = accepted(x, mps, mtu, CreditFlowControl::new(p, credits));
+            let res = LeCreditConnRes {
+                dcid: slots::cid_of(slot).0,
+                mtu,
+                mps,
+                credits,
+                result: LeCreditConnResultCode::Success,
+            };
+            let n = reply::reply(signal, state::identifier_of(k), Signal::LeCreditConnRes(res));
+            slots::changed(t, s, y, Answer::Link(x.link), n)
+        }
     }
 }

@@ -10,6 +10,13 @@ use Rattle.lists.specs.Choose.{choose}
 use Rattle.writer.specs.declared.SignalWritten.{SignalWritten}
 use Rattle.writer.specs.declared.SignalWritten.the-variants.{NoRoom, Octets}
 use Rattle.writer.specs.Writer.{writtenOf, outOf, Writes}
+use Rattle.channel.specs.declared.Answer.{Answer}
+use Rattle.channel.specs.declared.Slot.{Slot}
+use Rattle.channel.specs.declared.Table.{Table}
+use Rattle.definition.specs.Mem.{given}
+use Rattle.definition.specs.Table.{width, putSlot}
+use Rattle.definition.specs.Outcome.{change}
+use Rattle.definition.specs.Ending.{end, endOf, gave, written-given, sizes-given, written-none, parts-none}
 
 pub record Replied (l xs : List ℕ) (n : ℕ) (out : List ℕ) : Type 0 where
   pub octets : n ≡ length xs
@@ -28,3 +35,9 @@ refused {l} {xs} {out} {r} h w e =
     let f = le-ltb (length l) 18 h in
     let a : NoRoom ≡ Octets (length xs) = sym e ∙ w .answer ∙ rw f in
     let z : _≡_ {A = ℕ} 0 1 = cc in omega arith
+
+-- a slot changes without a move, and given octets are written
+pub end-slot-given : (t t′ : Table) (s : ℕ) (x : Slot) (a : Answer) (jobs room out job xs : List ℕ)
+    → endOf t jobs room out job (change t′ s x [] a (given xs ∷ [])) ≡ end (gave a (putSlot t′ s x) (length xs)) room (sets out 0 xs) job
+end-slot-given t t′ s x a jobs room out job xs =
+    rw (written-given jobs room out xs, sizes-given xs, written-none jobs room job, parts-none jobs (width t) s room)

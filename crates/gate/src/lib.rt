@@ -2,13 +2,13 @@
 // equation with the function of that name in the crate `definition`; specs/Passed.antt says what a call may rely on behind the gate.
 ghost use mathlib.Core.Path.{_≡_};
 ghost use mathlib.Core.Bool.{not};
-ghost use Prim.Native.Nat.{suc, _-_, _*_, _≤_, min};
+ghost use Prim.Native.Nat.{_-_, _*_, _≤_, min};
 ghost use lib.Dec.{eqb, leb, ltb};
 ghost use Rattle.lists.specs.Every.{every};
 ghost use Rattle.channel.specs.Limits.{slotsMost, depthMost, packetMost, jobHead};
 ghost use Rattle.definition.specs.Table.{placeOf, live, sizesFit, slotFits, wellFormed};
 ghost use Rattle.definition.specs.Outcome.{fails, verdict};
-ghost use Rattle.gate.specs.Sizes.{Sized};
+ghost use Rattle.gate.specs.Sizes.{Sized, partWidth};
 use channel::Given;
 use channel::SLOTS;
 use channel::Slot;
@@ -35,7 +35,7 @@ pub fn place_size(m: usize) -> usize
 // The octets of a slot's part of the room: a place for assembly, then D for finished jobs.
 pub fn part_size(d: usize, m: usize) -> usize
     requires { ⌜ (d ≤ depthMost) × (m ≤ packetMost) ⌝ }
-    ensures { λ r. ⌜ r ≡ suc d * (m - jobHead) ⌝ }
+    ensures { λ r. ⌜ r ≡ partWidth d m ⌝ }
 {
     (d + 1) * place_size(m)
 }
@@ -43,7 +43,7 @@ pub fn part_size(d: usize, m: usize) -> usize
 // The octets of the room.
 pub fn room_size(n: usize, d: usize, m: usize) -> usize
     requires { ⌜ Sized n d m ⌝ }
-    ensures { λ r. ⌜ r ≡ n * (suc d * (m - jobHead)) ⌝ }
+    ensures { λ r. ⌜ r ≡ n * partWidth d m ⌝ }
 {
     n * part_size(d, m)
 }

@@ -15,7 +15,13 @@ pub fn inc_ref(t: Table, slot: ChannelIndex) -> Served
     ensures { λ r. ⌜ r ≡ servedOf (incRef t (slot .0)) ⌝ }
 {
     let s = slots::number(slot);
-    match gate::gate(t, Given::Nothing, Given::Nothing, Given::Nothing, Given::Is(s)) {
+    match gate::gate(
+        t,
+        Given::Nothing,
+        Given::Nothing,
+        Given::Nothing,
+        Given::Is(s),
+    ) {
         Verdict::Stop(r) => Served {
             answer: Answer::Refused(r),
             table: t,

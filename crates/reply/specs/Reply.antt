@@ -39,5 +39,6 @@ refused {l} {xs} {out} {r} h w e =
 -- a slot changes without a move, and given octets are written
 pub end-slot-given : (t t′ : Table) (s : ℕ) (x : Slot) (a : Answer) (jobs room out job xs : List ℕ)
     → endOf t jobs room out job (change t′ s x [] a (given xs ∷ [])) ≡ end (gave a (putSlot t′ s x) (length xs)) room (sets out 0 xs) job
+unfolding endOf
 end-slot-given t t′ s x a jobs room out job xs =
     rw (written-given jobs room out xs, sizes-given xs, written-none jobs room job, parts-none jobs (width t) s room)

@@ -1,20 +1,12 @@
 // The attention set: a bit for each slot that calls, the number of them, and the lowest (N when none calls).
 // The set is built from the last slot down; the counts are those of its bits (crate lists, Bits).
 ghost use mathlib.Core.Path.{_≡_};
-ghost use Prim.Native.Nat.{min};
 ghost use Rattle.lists.specs.Bits.{bit, bitset, count};
-ghost use Rattle.channel.specs.Limits.{slotsMost};
 ghost use Rattle.channel.specs.declared.Answer.the-variants.{Attention};
 ghost use Rattle.definition.specs.Table.{live, found, calls};
 use channel::Answer;
 use channel::SLOTS;
 use channel::Table;
-
-fn in_use(n: usize) -> usize
-    ensures { λ r. ⌜ r ≡ min n slotsMost ⌝ }
-{
-    if n < SLOTS { n } else { SLOTS }
-}
 
 fn bit_of(b: bool) -> u16
     ensures { λ r. ⌜ r ≡ bit b ⌝ }
@@ -26,7 +18,7 @@ fn bit_of(b: bool) -> u16
 pub fn attention_set(t: Table) -> u16
     ensures { λ r. ⌜ r ≡ bitset calls (live t) ⌝ }
 {
-    let mut i = in_use(t.n);
+    let mut i = slot::capped(t.n, SLOTS);
     let mut a: u16 = 0;
     while 0 < i {
         i -= 1;
@@ -47,7 +39,7 @@ pub fn attention(t: Table) -> Answer
         return Answer::Attention {
             set,
             count,
-            lowest: in_use(t.n) as u8,
+            lowest: slot::capped(t.n, SLOTS) as u8,
         };
     }
     Answer::Attention {

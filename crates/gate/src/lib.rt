@@ -2,10 +2,10 @@
 // equation with the function of that name in the crate `definition`; specs/Passed.antt says what a call may rely on behind the gate.
 ghost use mathlib.Core.Path.{_≡_};
 ghost use mathlib.Core.Bool.{not};
-ghost use Prim.Native.Nat.{_-_, _*_, _≤_, min};
+ghost use Prim.Native.Nat.{_-_, _*_, _≤_};
 ghost use lib.Dec.{eqb, leb, ltb};
 ghost use Rattle.lists.specs.Every.{every};
-ghost use Rattle.channel.specs.Limits.{slotsMost, depthMost, packetMost, jobHead};
+ghost use Rattle.channel.specs.Limits.{depthMost, packetMost, jobHead};
 ghost use Rattle.definition.specs.Table.{placeOf, live, sizesFit, slotFits, wellFormed};
 ghost use Rattle.definition.specs.Outcome.{fails, verdict};
 ghost use Rattle.gate.specs.Sizes.{Sized, partWidth};
@@ -50,16 +50,10 @@ pub fn room_size(n: usize, d: usize, m: usize) -> usize
 
 // ---- refusal 1
 
-fn in_use(n: usize) -> usize
-    ensures { λ r. ⌜ r ≡ min n slotsMost ⌝ }
-{
-    if n < SLOTS { n } else { SLOTS }
-}
-
 fn slots_fit(t: Table) -> bool
     ensures { λ r. ⌜ r ≡ every (slotFits (t .d) (placeOf t)) (live t) ⌝ }
 {
-    let n = in_use(t.n);
+    let n = slot::capped(t.n, SLOTS);
     let d = t.d;
     let place = place_size(t.m);
     let mut i = 0;

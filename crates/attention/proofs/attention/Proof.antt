@@ -1,15 +1,15 @@
 -- `attention::attention` meets its contract: the ones of the set are the slots that call (ones-count), and the zeros below its lowest one
 -- the lowest of them (trailing-first); where no bit is set none calls (empty-first).
-use Rattle.attention.specs.Says.{attention-is}
-use Rattle.definition.specs.Table.{live, calls}
-use Rattle.channel.specs.Limits.{slotsMost}
-use Rattle.lists.specs.Bits.{ones-count, trailing-first, empty-first}
+use mathlib.Core.Path.{_≡_, sym, ap, _∙_}
+use Prim.Native.Nat.{_≤_}
+use native.Mathlib.Omega.{arith}
+use borrow.Author.Needs.{needs}
 use lib.ListN.{length, length-map, length-take}
 use lib.Count.{ones, ones-le, trailing-le}
-use native.Mathlib.Omega.{arith}
-use Prim.Native.Nat.{_≤_}
-use mathlib.Core.Path.{_≡_, sym, ap, _∙_}
-use borrow.Author.Needs.{needs}
+use Rattle.lists.specs.Bits.{ones-count, trailing-first, empty-first}
+use Rattle.channel.specs.Limits.{slotsMost}
+use Rattle.definition.specs.Table.{live, calls}
+use Rattle.attention.specs.Says.{attention-is}
 use Rattle.attention.proofs.attention.Statement.{statement}
 use Rattle.attention.proofs.attention.Tie as tie
 
@@ -22,8 +22,8 @@ attention-set-requires c κs = search needs
 cast-count : tie.Need-cast-count
 cast-count c = omega (arith, ones-le 16 (c .attention-set .result) (omega arith))
 
-in-use-requires : tie.Need-in-use-requires
-in-use-requires c κs = search needs
+capped-requires : tie.Need-capped-requires
+capped-requires c κs = search needs
 
 cast-t7 : tie.Need-cast-t7
 cast-t7 c = search needs
@@ -35,7 +35,7 @@ returns c =
     let q = c .before .before .attention-set .ensures in
     let l = live (s .args .t) in
     let z = sym q ∙ c .before .if1 .taken in
-    attention-is q (ap ones q ∙ ones-count calls l) (c .in-use .ensures ∙ sym (empty-first calls l z ∙ rw (length-take, e)))
+    attention-is q (ap ones q ∙ ones-count calls l) (c .capped .ensures ∙ sym (empty-first calls l z ∙ rw (length-take, e)))
 
 cast-t8 : tie.Need-cast-t8
 cast-t8 c = omega (arith, trailing-le 16 (c .before .attention-set .result))
@@ -52,4 +52,4 @@ returns-2 c =
 pub attention-spec : {M : Type 1} → statement M
 attention-spec =
     tie.close
-    (tie.spec attention-set-requires cast-count in-use-requires cast-t7 returns cast-t8 returns-2)
+    (tie.spec attention-set-requires cast-count capped-requires cast-t7 returns cast-t8 returns-2)

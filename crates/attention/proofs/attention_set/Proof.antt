@@ -1,12 +1,12 @@
 -- `attention::attention_set` meets its contract: a is the set of the slots from i on (Set), which leaves a bit for each slot below i.
-use Rattle.definition.specs.Table.{live, calls}
-use Rattle.channel.specs.Limits.{slotsMost}
-use Rattle.lists.specs.Bits.{bitset-width, bit-le, Set, set-none, set-more, set-all}
-use lib.ListN.{length, drop, length-map, length-take, length-drop}
-use borrow.Author.Needs.{needs}
-use native.Mathlib.Omega.{arith}
-use Prim.Native.Nat.{_-_, _≤_, _<_, _^_, min}
 use mathlib.Core.Path.{_≡_, sym, _∙_}
+use Prim.Native.Nat.{_-_, _≤_, _<_, _^_, min}
+use native.Mathlib.Omega.{arith}
+use borrow.Author.Needs.{needs}
+use lib.ListN.{length, drop, length-map, length-take, length-drop}
+use Rattle.lists.specs.Bits.{bitset-width, bit-le, Set, set-none, set-more, set-all}
+use Rattle.channel.specs.Limits.{slotsMost}
+use Rattle.definition.specs.Table.{live, calls}
 use Rattle.attention.proofs.attention_set.Statement.{statement}
 use Rattle.attention.proofs.attention_set.Tie as tie
 
@@ -25,8 +25,8 @@ below c h =
     let k : length (drop (c .loop .i) l) ≤ slotsMost - 1 = rw (length-drop, length-take) (omega (arith, long (c .before .before))) in
     rw (c .loop .inv .1 .is) (bitset-width calls (slotsMost - 1) (drop (c .loop .i) l) k)
 
-in-use-requires : tie.Need-in-use-requires Inv-loop μ-loop
-in-use-requires c κs = search needs
+capped-requires : tie.Need-capped-requires Inv-loop μ-loop
+capped-requires c κs = search needs
 
 loop-holds : tie.Need-loop-holds Inv-loop μ-loop
 loop-holds c =
@@ -78,7 +78,7 @@ attention-set-spec =
     (tie.spec
     Inv-loop
     μ-loop
-    in-use-requires
+    capped-requires
     loop-holds
     sub-i
     mul-x

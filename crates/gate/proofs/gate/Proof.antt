@@ -1,11 +1,10 @@
 -- `gate::gate` meets its contract: the definition's tests in its order, each by what its function ensures.
-use Rattle.gate.specs.Sizes.{formed-sizes}
-use Rattle.definition.specs.Outcome.{verdict}
-use Rattle.lists.specs.Choose.{choose}
+use mathlib.Core.Path.{sym, _∙_}
 use borrow.Author.Tests.{not-false}
-use mathlib.Core.Bool.{not}
-use mathlib.Core.Path.{sym, ap, _∙_}
 use borrow.Author.Needs.{needs}
+use Rattle.lists.specs.Choose.{choose}
+use Rattle.definition.specs.Outcome.{verdict}
+use Rattle.gate.specs.Sizes.{formed-sizes}
 use Rattle.gate.proofs.gate.Statement.{statement}
 use Rattle.gate.proofs.gate.Tie as tie
 

@@ -115,19 +115,23 @@ fn reaching(g: Given, k: usize) -> bool
 pub fn gate(t: Table, room: Given, signal: Given, link: Given, slot: Given) -> Verdict
     ensures { λ r. ⌜ r ≡ verdict t room signal link slot ⌝ }
 {
-    if !well_formed(t) {
+    let formed = well_formed(t);
+    let short = below(signal, 18);
+    let beyond = above(link, 0x0EFF);
+    let no_slot = reaching(slot, t.n);
+    if !formed {
         return Verdict::Stop(Refusal::BadTable);
     }
     if other_than(room, room_size(t.n, t.d, t.m)) {
         return Verdict::Stop(Refusal::BadRoom);
     }
-    if below(signal, 18) {
+    if short {
         return Verdict::Stop(Refusal::NoRoom);
     }
-    if above(link, 0x0EFF) {
+    if beyond {
         return Verdict::Stop(Refusal::BadHandle);
     }
-    if reaching(slot, t.n) {
+    if no_slot {
         return Verdict::Stop(Refusal::BadSlot);
     }
     Verdict::Pass

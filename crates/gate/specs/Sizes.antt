@@ -1,6 +1,6 @@
 -- What sizes within the limits tell: how large a slot's part of the room and the room are, and where a part lies in it.
 -- The products are bounded here, once; what follows is arithmetic.
-use mathlib.Core.Path.{_≡_, refl, sym}
+use mathlib.Core.Path.{_≡_, refl}
 use mathlib.Core.Bool.{Bool, true, false, _&&_, false≢true}
 use Prim.Native.Nat.{ℕ, suc, _+_, _-_, _*_, _≤_, _<_}
 use native.Mathlib.Nat.{mul-le-mul, mul-le-mul-right, suc-mul}
@@ -8,7 +8,7 @@ use native.Mathlib.Omega.{arith}
 use borrow.Author.Tests.{leb-true}
 use Rattle.channel.specs.Limits.{slotsMost, depthMost, packetLeast, packetMost, jobHead}
 use Rattle.channel.specs.declared.Table.{Table}
-use Rattle.definition.specs.Table.{sizesFit, wellFormed, slotFits, placeOf, width, roomSize, live}
+use Rattle.definition.specs.Table.{sizesFit, wellFormed, slotFits, placeOf, width, live}
 use Rattle.lists.specs.Every.{every}
 
 -- a table of n slots, d waiting jobs a slot and packets of m octets

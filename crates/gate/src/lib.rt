@@ -2,10 +2,10 @@
 // equation with the function of that name in the crate `definition`; specs/Passed.antt says what a call may rely on behind the gate.
 ghost use mathlib.Core.Path.{_≡_};
 ghost use mathlib.Core.Bool.{not};
-ghost use Prim.Native.Nat.{_-_, _*_, _≤_, min};
+ghost use Prim.Native.Nat.{_-_, _*_, _≤_};
 ghost use lib.Dec.{eqb, leb, ltb};
 ghost use Rattle.lists.specs.Every.{every};
-ghost use Rattle.channel.specs.Limits.{slotsMost, depthMost, packetMost, jobHead};
+ghost use Rattle.channel.specs.Limits.{depthMost, packetMost, jobHead};
 ghost use Rattle.definition.specs.Table.{placeOf, live, sizesFit, slotFits, wellFormed};
 ghost use Rattle.definition.specs.Outcome.{fails, verdict};
 ghost use Rattle.gate.specs.Sizes.{Sized, partWidth};
@@ -50,16 +50,10 @@ pub fn room_size(n: usize, d: usize, m: usize) -> usize
 
 // ---- refusal 1
 
-fn in_use(n: usize) -> usize
-    ensures { λ r. ⌜ r ≡ min n slotsMost ⌝ }
-{
-    if n < SLOTS { n } else { SLOTS }
-}
-
 fn slots_fit(t: Table) -> bool
     ensures { λ r. ⌜ r ≡ every (slotFits (t .d) (placeOf t)) (live t) ⌝ }
 {
-    let n = in_use(t.n);
+    let n = slot::capped(t.n, SLOTS);
     let d = t.d;
     let place = place_size(t.m);
     let mut i = 0;
@@ -121,19 +115,23 @@ fn reaching(g: Given, k: usize) -> bool
 pub fn gate(t: Table, room: Given, signal: Given, link: Given, slot: Given) -> Verdict
     ensures { λ r. ⌜ r ≡ verdict t room signal link slot ⌝ }
 {
-    if !well_formed(t) {
+    let formed = well_formed(t);
+    let short = below(signal, 18);
+    let beyond = above(link, 0x0EFF);
+    let no_slot = reaching(slot, t.n);
+    if !formed {
         return Verdict::Stop(Refusal::BadTable);
     }
     if other_than(room, room_size(t.n, t.d, t.m)) {
         return Verdict::Stop(Refusal::BadRoom);
     }
-    if below(signal, 18) {
+    if short {
         return Verdict::Stop(Refusal::NoRoom);
     }
-    if above(link, 0x0EFF) {
+    if beyond {
         return Verdict::Stop(Refusal::BadHandle);
     }
-    if reaching(slot, t.n) {
+    if no_slot {
         return Verdict::Stop(Refusal::BadSlot);
     }
     Verdict::Pass

@@ -3,9 +3,9 @@
 use mathlib.Core.Path.{_≡_, refl, sym, _∙_, ap, ap₂}
 use mathlib.Core.List.{List, [], _∷_, _++_, append-assoc, append-nil, map}
 use Prim.Native.Nat.{ℕ, zero, suc, _+_, _-_, _*_, _≤_}
-use native.Mathlib.Nat.{suc-mul, zero-mul, zero-add, add-zero, add-comm}
+use native.Mathlib.Nat.{suc-mul, zero-mul, zero-add, add-comm}
 use native.Mathlib.Omega.{arith}
-use lib.ListN.{length, take, drop, replicate, take-append-drop, length-take, length-drop, length-append, length-map, length-replicate, drop-of-length-le}
+use lib.ListN.{length, take, drop, replicate, length-take, length-append, length-map, length-replicate, drop-of-length-le}
 use lib.Seq.{sets, sets-eq, drop-drop, take-add, length-sets, take-at, drop-at}
 use borrow.Rule.Slice.PartMut.{midOf, putMid, post-is}
 use Rattle.octets.specs.Octets.{part}

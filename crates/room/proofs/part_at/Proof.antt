@@ -1,7 +1,7 @@
 -- `room::part_at` meets its contract: the product is small (room-most).
-use Rattle.gate.specs.Sizes.{width-most, room-most}
 use native.Mathlib.Omega.{arith}
 use borrow.Author.Needs.{needs}
+use Rattle.gate.specs.Sizes.{width-most, room-most}
 use Rattle.room.proofs.part_at.Statement.{statement}
 use Rattle.room.proofs.part_at.Tie as tie
 

@@ -1,17 +1,17 @@
 -- `room::wipe_all` meets its contract: the slots below i have made their moves (Swept), and the array has SLOTS slots.
-use Rattle.room.specs.Swept.{Swept, swept-none, swept-more, swept-all}
-use Rattle.room.specs.Placed.{placed}
-use Rattle.slot.specs.Want.{wanted}
-use Rattle.definition.specs.Table.{width}
-use Rattle.definition.specs.Mem.{wipe}
-use Rattle.channel.specs.Limits.{slotsMost}
-use Rattle.lists.specs.Choose.{choose}
-use lib.ListN.{length, length-map}
-use borrow.Author.Needs.{needs}
-use native.Mathlib.Omega.{arith}
-use Prim.Native.Nat.{_≤_, _-_}
 use mathlib.Core.List.{[], _∷_}
 use mathlib.Core.Path.{_≡_, sym, _∙_}
+use Prim.Native.Nat.{_≤_, _-_}
+use native.Mathlib.Omega.{arith}
+use borrow.Author.Needs.{needs}
+use lib.ListN.{length, length-map}
+use Rattle.lists.specs.Choose.{choose}
+use Rattle.channel.specs.Limits.{slotsMost}
+use Rattle.definition.specs.Table.{width}
+use Rattle.definition.specs.Mem.{wipe}
+use Rattle.slot.specs.Want.{wanted}
+use Rattle.room.specs.Swept.{Swept, swept-none, swept-more, swept-all}
+use Rattle.room.specs.Placed.{placed}
 use Rattle.room.proofs.wipe_all.Statement.{statement}
 use Rattle.room.proofs.wipe_all.Tie as tie
 

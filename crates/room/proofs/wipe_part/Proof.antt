@@ -1,14 +1,14 @@
 -- `room::wipe_part` meets its contract: the part is lent (parts-lent), and zeros from its start to its end wipe it (wiped).
-use Rattle.room.specs.Parts.{wiped, parts-lent}
-use Rattle.gate.specs.Sizes.{partWidth}
-use Rattle.definition.specs.Mem.{moves, move}
-use Rattle.octets.specs.Sets.{mid-part, part-length}
+use mathlib.Core.Path.{_≡_, ap, _∙_}
+use Prim.Native.Nat.{_+_, _-_, _*_}
+use borrow.Author.Needs.{needs}
 use borrow.Rule.Slice.PartMut.{midOf}
 use lib.ListN.{length, replicate}
 use lib.Seq.{sets}
-use Prim.Native.Nat.{_+_, _-_, _*_}
-use mathlib.Core.Path.{_≡_, ap, _∙_}
-use borrow.Author.Needs.{needs}
+use Rattle.octets.specs.Sets.{mid-part, part-length}
+use Rattle.definition.specs.Mem.{moves, move}
+use Rattle.gate.specs.Sizes.{partWidth}
+use Rattle.room.specs.Parts.{wiped, parts-lent}
 use Rattle.room.proofs.wipe_part.Statement.{statement}
 use Rattle.room.proofs.wipe_part.Tie as tie
 

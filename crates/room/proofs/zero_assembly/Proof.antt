@@ -1,9 +1,8 @@
 -- `room::zero_assembly` meets its contract: the part is lent (parts-lent), and zeros go to its first place.
-use Rattle.room.specs.Parts.{parts-lent}
-use Rattle.gate.specs.Sizes.{partWidth}
-use Rattle.definition.specs.Mem.{moves, move, fill}
-use Prim.Native.Nat.{_+_, _-_, _*_}
 use borrow.Author.Needs.{needs}
+use Rattle.definition.specs.Mem.{moves, move, fill}
+use Rattle.gate.specs.Sizes.{partWidth}
+use Rattle.room.specs.Parts.{parts-lent}
 use Rattle.room.proofs.zero_assembly.Statement.{statement}
 use Rattle.room.proofs.zero_assembly.Tie as tie
 

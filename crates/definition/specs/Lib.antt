@@ -9,3 +9,10 @@ pub mod Frames
 pub mod Asking
 pub mod Calls
 pub mod Ending
+pub mod Numbers
+pub mod Run
+pub mod Public
+pub mod Forms
+pub mod Safe
+pub mod Apart
+pub mod Example

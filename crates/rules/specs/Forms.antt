@@ -1,14 +1,14 @@
 -- The three forms of an outcome and the gate before them, as steps: what a call's proof cites. Each is a law of lists.
 use mathlib.Core.Path.{_≡_, refl, sym, ap, _∙_, subst}
 use mathlib.Core.Bool.{Bool, true, false, not, false≢true}
-use mathlib.Core.List.{List, [], _∷_, _++_, map}
-use Prim.Native.Nat.{ℕ, zero, suc, _≤_, _<_, min}
+use mathlib.Core.List.{List, [], _∷_, map}
+use Prim.Native.Nat.{ℕ, zero, suc, _≤_, _<_}
 use native.Mathlib.Nat.{not-suc-le-zero, le-of-suc-le-suc}
 use native.Mathlib.Omega.{arith}
-use lib.Dec.{leb}
-use lib.ListN.{length, getD, take, drop, set, length-set, length-take, length-map, length-append, length-drop}
-use lib.Seq.{getD-take, take-set-lt, take-nil}
-use borrow.Author.Tests.{leb-false, ltb-false}
+use lib.Dec.{eqb, leb}
+use lib.ListN.{length, getD, take, set, length-set, length-take, length-map, length-append, length-drop}
+use lib.Seq.{getD-take, take-set-lt}
+use borrow.Author.Tests.{leb-false}
 use Rattle.lists.specs.Choose.{choose, if-cases}
 use Rattle.lists.specs.First.{first}
 use Rattle.lists.specs.Each.{mapFirst}
@@ -20,10 +20,10 @@ use Rattle.channel.specs.declared.Slot.{Slot}
 use Rattle.channel.specs.declared.Table.{Table}
 use Rattle.channel.specs.declared.Verdict.{Verdict}
 use Rattle.definition.specs.Mem.{Fill, Move, wipe}
-use Rattle.definition.specs.Table.{gap, slotAt, live, found, isDisconnected, freed, spent}
+use Rattle.definition.specs.Table.{gap, slotAt, live, found, isDisconnected, freed, spent, roomSize, wellFormed}
 use Rattle.definition.specs.Outcome.{Outcome, still, change, sweep, only, refuse, fails, verdict, passed, gate}
 use Rattle.rules.specs.Tests.{begun, begun-live}
-use Rattle.rules.specs.Step.{Goes, Step, hold, free, Steps, rest, next, Numbered, kept, Stepped}
+use Rattle.rules.specs.Step.{Goes, Step, hold, free, Steps, rest, next, Numbered, kept, passes, Stepped}
 
 -- ---- lists of slots
 
@@ -68,11 +68,11 @@ length-mapFirst n f xs = simp (length-append, length-map, length-take, length-dr
 -- ---- the forms
 
 -- nothing changes but the output
-pub stepped-still : (t : Table) (k : ℕ) (a : Answer) (out : List Fill) → Stepped t k (still t a out)
-stepped-still t k a out = record { n = refl; d = refl; m = refl; long = refl; identifier = kept; slots = rest }
+pub stepped-still : (t : Table) (k : ℕ) (a : Answer) (out : List Fill) → passes a ≡ true → Stepped t k (still t a out)
+stepped-still t k a out ok = record { answer = ok; n = refl; d = refl; m = refl; long = refl; identifier = kept; slots = rest }
 
-pub stepped-spent : (t : Table) (k : ℕ) (a : Answer) (out : List Fill) → Numbered t (spent t .identifier) out → Stepped t k (still (spent t) a out)
-stepped-spent t k a out i = record { n = refl; d = refl; m = refl; long = refl; identifier = i; slots = rest }
+pub stepped-spent : (t : Table) (k : ℕ) (a : Answer) (out : List Fill) → passes a ≡ true → Numbered t (spent t .identifier) out → Stepped t k (still (spent t) a out)
+stepped-spent t k a out ok i = record { answer = ok; n = refl; d = refl; m = refl; long = refl; identifier = i; slots = rest }
 
 -- one slot changes, in the table as it was or with an identifier used
 module _ (t : Table) (k s : ℕ) (y : Slot) (ms : List Move) (h : s < t .n) (l : t .n ≤ length (t .slots)) (p : Step t k (slotAt t s) y ms) where
@@ -81,11 +81,11 @@ module _ (t : Table) (k s : ℕ) (y : Slot) (ms : List Move) (h : s < t .n) (l :
       rw (take-set-lt (t .n) (t .slots) s y h)
       (steps-set (live t) s y ms (rw (live-length t l) h) (subst (λ (x : Slot). Step t k x y ms) (sym (live-at t s h)) p))
 
-  pub stepped-change : (a : Answer) (out : List Fill) → Stepped t k (change t s y ms a out)
-  stepped-change a out = record { n = refl; d = refl; m = refl; long = length-set (t .slots) s y; identifier = kept; slots = one }
+  pub stepped-change : (a : Answer) (out : List Fill) → passes a ≡ true → Stepped t k (change t s y ms a out)
+  stepped-change a out ok = record { answer = ok; n = refl; d = refl; m = refl; long = length-set (t .slots) s y; identifier = kept; slots = one }
 
-  pub stepped-change-spent : (a : Answer) (out : List Fill) → Numbered t (spent t .identifier) out → Stepped t k (change (spent t) s y ms a out)
-  stepped-change-spent a out i = record { n = refl; d = refl; m = refl; long = length-set (t .slots) s y; identifier = i; slots = one }
+  pub stepped-change-spent : (a : Answer) (out : List Fill) → passes a ≡ true → Numbered t (spent t .identifier) out → Stepped t k (change (spent t) s y ms a out)
+  stepped-change-spent a out ok i = record { answer = ok; n = refl; d = refl; m = refl; long = length-set (t .slots) s y; identifier = i; slots = one }
 
 -- a connection that has begun, or begins, goes on
 pub goes-on : {x y : Slot} → isDisconnected (x .state) ≡ false → begun (y .state) ≡ true → y .mtu ≡ x .mtu → Goes x y
@@ -97,10 +97,11 @@ unfolding choose
 swept t k x true = free (x .hold)
 swept t k x false = hold (x .hold)
 
-pub stepped-sweep : (t : Table) (k : ℕ) (p : Slot → Bool) (a : Answer) → Stepped t k (sweep t p a)
-stepped-sweep t k p a =
+pub stepped-sweep : (t : Table) (k : ℕ) (p : Slot → Bool) (a : Answer) → passes a ≡ true → Stepped t k (sweep t p a)
+stepped-sweep t k p a ok =
     let f : Slot → Slot = λ x. choose (p x) (freed x) x in
     record {
+      answer = ok;
       n = refl;
       d = refl;
       m = refl;
@@ -119,13 +120,25 @@ in-use : (t : Table) (slot : Given) → fails (λ s. leb (t .n) s) slot ≡ fals
 in-use t Nothing e = tt
 in-use t (Is s) e = leb-false (t .n) s e
 
-pub stepped-gate : (t : Table) (k : ℕ) (room signal link slot : Given) {o : Outcome} → (InUse t slot → Stepped t k o) → Stepped t k (gate t room signal link slot o)
+-- In a run neither refusal 1 nor refusal 2 comes: the table is well-formed, and a room that is lent has the right length.
+pub stepped-gate : (t : Table) (k : ℕ) (room signal link slot : Given) {o : Outcome} → wellFormed t ≡ true → fails (λ size. not (eqb size (roomSize t))) room ≡ false
+    → (InUse t slot → Stepped t k o) → Stepped t k (gate t room signal link slot o)
 unfolding verdict
-stepped-gate t k room signal link slot {o} f =
-    if-cases P _ (λ e. stop) (λ e. if-cases P _ (λ e. stop) (λ e. if-cases P _ (λ e. stop) (λ e. if-cases P _ (λ e. stop) (λ e. if-cases P _ (λ e. stop) (λ e. f (in-use t slot e))))))
+stepped-gate t k room signal link slot {o} well sized f =
+    if-cases P _ (λ e. absurd (false≢true (sym (ap not well) ∙ e)))
+    (λ _. if-cases P _ (λ e. absurd (false≢true (sym sized ∙ e)))
+    (λ _. if-cases P _ (λ _. stepped-still t k _ _ refl)
+    (λ _. if-cases P _ (λ _. stepped-still t k _ _ refl)
+    (λ _. if-cases P _ (λ _. stepped-still t k _ _ refl) (λ e. f (in-use t slot e))))))
   where
     P : Verdict → Type 0
     P v = Stepped t k (passed t v o)
 
-    stop : {r : Refusal} → Stepped t k (refuse t r)
-    stop = stepped-still t k _ _
+-- and for whatever else holds of an outcome
+pub gate-cases : (P : Outcome → Type 0) (t : Table) (room signal link slot : Given) {o : Outcome} → ((r : Refusal) → P (refuse t r)) → (InUse t slot → P o) → P (gate t room signal link slot o)
+unfolding verdict
+gate-cases P t room signal link slot {o} stop f =
+    if-cases Q _ (λ _. stop _) (λ _. if-cases Q _ (λ _. stop _) (λ _. if-cases Q _ (λ _. stop _) (λ _. if-cases Q _ (λ _. stop _) (λ _. if-cases Q _ (λ _. stop _) (λ e. f (in-use t slot e))))))
+  where
+    Q : Verdict → Type 0
+    Q v = P (passed t v o)

@@ -1,19 +1,17 @@
 -- What is true of every state that a run reaches, the octets of the room apart: a made table has it, and every call keeps it.
 use mathlib.Core.Path.{_≡_, refl, sym, ap, _∙_, subst}
-use mathlib.Core.Bool.{Bool, true, false, _&&_, not, false≢true}
-use mathlib.Core.List.{List, [], _∷_, _++_, map}
-use Prim.Native.Nat.{ℕ, zero, suc, _+_, _-_, _*_, _≤_, _<_}
+use mathlib.Core.Bool.{true, not}
+use mathlib.Core.List.{List, [], _∷_, map}
+use Prim.Native.Nat.{ℕ, zero, suc, _+_, _-_, _≤_, _<_}
 use native.Mathlib.Nat.{not-suc-le-zero, le-of-suc-le-suc}
 use native.Mathlib.Omega.{arith}
 use lib.Dec.{eqb, leb}
-use lib.ListN.{length, getD, take, drop, replicate, length-replicate, length-map, length-append, take-append-drop}
+use lib.ListN.{length, getD, take, drop, replicate, length-map, length-append, take-append-drop}
 use lib.Seq.{sets, length-sets}
 use borrow.Author.Tests.{leb-true, le-leb, eqb-true, eqb-false, not-false}
-use Rattle.lists.specs.Choose.{choose, if-cases}
+use Rattle.lists.specs.Choose.{if-cases}
 use Rattle.lists.specs.Every.{every}
-use Rattle.credit.specs.Account.{creditSum}
 use Rattle.channel.specs.Limits.{slotsMost, depthMost, packetLeast, packetMost, creditsMost}
-use Rattle.channel.specs.declared.Answer.{Answer}
 use Rattle.channel.specs.declared.Answer.the-variants.{Done}
 use Rattle.channel.specs.declared.Slot.{Slot}
 use Rattle.channel.specs.declared.Table.{Table}
@@ -22,11 +20,11 @@ use Rattle.definition.specs.Table.{placeOf, width, roomSize, gap, fresh, slotAt
 use Rattle.definition.specs.Outcome.{Outcome}
 use Rattle.definition.specs.Asking.{Made, make, blank}
 use Rattle.definition.specs.Calls.{Call, jobs, bare, decide}
-use Rattle.rules.specs.Run.{State, Asked, after, outcome, made, Fits, Reached, start, next}
+use Rattle.rules.specs.Run.{State, Asked, after, Fits, Reached, start, next}
 use Rattle.rules.specs.Tests.{and-left, and-right, and-both}
-use Rattle.rules.specs.Step.{Steps, Numbered, kept, refused, told, Stepped}
+use Rattle.rules.specs.Step.{Numbered, kept, refused, told, Stepped}
 use Rattle.rules.specs.Forms.{live-at, live-length}
-use Rattle.rules.specs.Sound.{Holding, Sound, AllSound}
+use Rattle.rules.specs.Sound.{Sound, AllSound}
 use Rattle.rules.specs.Every.{decide-steps}
 use Rattle.rules.specs.Keep.{sound-fresh, steps-sound}
 
@@ -133,7 +131,7 @@ module _ (js : List ℕ) where
 -- ---- a call keeps it
 
 pub good-steps : {t : Table} {room : List ℕ} (g : Good t room) (c : Call) → Fits c → (out job : ℕ) → Stepped t (length (jobs t c)) (decide t (bare t c) (length (jobs t c)) (length room) out job)
-good-steps {t} {room} g c f out job = decide-steps t c (within g) (few g) (slot-sound g) f (length room) out job
+good-steps {t} {room} g c f out job = decide-steps t c (length room) (within g) (good-formed g) (g .size) (few g) (slot-sound g) f out job
 
 pub good-stepped : {t : Table} {room : List ℕ} → Good t room → {k : ℕ} {o : Outcome} → Stepped t k o → (js : List ℕ) → Good (o .table) (parts (λ x. x) js (width t) (o .parts) room)
 good-stepped {t} {room} g {k} {o} p js =
@@ -166,13 +164,13 @@ good-made n d m room =
     if-cases P (not (sizesFit n d m)) (λ _ e. let z : _≡_ {A = ℕ} 0 1 = cc in absurd (omega arith))
     (λ fits. if-cases P (not (eqb (length room) (roomSize (blank n d m)))) (λ _ e. let z : _≡_ {A = ℕ} 0 1 = cc in absurd (omega arith))
     (λ same e.
-        record {
-          sizes = not-false (sizesFit n d m) fits;
-          long = refl;
-          identifier = omega arith;
-          slots = all-take d (m - 6) n (replicate slotsMost (fresh 0)) (all-fresh d (m - 6) slotsMost);
-          size = length-map room (λ _. 0) ∙ eqb-true (length room) (roomSize (blank n d m)) (not-false _ same);
-        }))
+    record {
+      sizes = not-false (sizesFit n d m) fits;
+      long = refl;
+      identifier = omega arith;
+      slots = all-take d (m - 6) n (replicate slotsMost (fresh 0)) (all-fresh d (m - 6) slotsMost);
+      size = length-map room (λ _. 0) ∙ eqb-true (length room) (roomSize (blank n d m)) (not-false _ same);
+    }))
   where
     P : Made → Type 0
     P o = o .answer ≡ Done → Good (o .table) (o .room)

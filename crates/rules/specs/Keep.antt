@@ -1,12 +1,12 @@
 -- Every kind of step keeps a slot sound. The credit account's own laws carry the sum; the rest is arithmetic and two laws of lists.
-use mathlib.Core.Path.{_≡_, refl, sym, ap, _∙_, subst, subst₂}
-use mathlib.Core.Bool.{Bool, true, false, _&&_, false≢true}
+use mathlib.Core.Path.{_≡_, refl, sym, ap, _∙_, subst₂}
+use mathlib.Core.Bool.{Bool, true, false, false≢true}
 use mathlib.Core.List.{List, [], _∷_, _++_}
-use Prim.Native.Nat.{ℕ, zero, suc, _+_, _-_, _≤_, _<_}
+use Prim.Native.Nat.{ℕ, zero, suc, _-_, _≤_}
 use native.Mathlib.Numerals.{add-one}
 use native.Mathlib.Omega.{arith}
 use lib.Dec.{leb}
-use lib.ListN.{length, take, drop, set, length-set, length-append, length-drop, length-replicate}
+use lib.ListN.{take, drop, set, length-set, length-append, length-drop}
 use lib.Seq.{take-nil}
 use borrow.Author.Tests.{le-leb}
 use Rattle.lists.specs.Every.{every}
@@ -14,13 +14,12 @@ use Rattle.credit.specs.declared.CreditFlowControl.{CreditFlowControl}
 use Rattle.credit.specs.Account.{creditSum}
 use Rattle.credit.specs.AccountLaws.{received-sum, grant-settles}
 use Rattle.sar.specs.declared.Assembly.{Assembly}
-use Rattle.channel.specs.Limits.{creditsMost, depthMost}
-use Rattle.channel.specs.declared.ChannelState.{ChannelState}
+use Rattle.channel.specs.Limits.{creditsMost}
 use Rattle.channel.specs.declared.Queue.{Queue}
 use Rattle.channel.specs.declared.Slot.{Slot}
 use Rattle.channel.specs.declared.Table.{Table}
 use Rattle.definition.specs.Mem.{Move}
-use Rattle.definition.specs.Table.{placeOf, fresh, isDisconnected, isPeerConnecting, withHold}
+use Rattle.definition.specs.Table.{placeOf, fresh, withHold}
 use Rattle.definition.specs.Frames.{idle}
 use Rattle.rules.specs.Tests.{and-left, and-right, and-both, begun, begun-live}
 use Rattle.rules.specs.Step.{Accounting, same, use-one, grant, Jobs, keep, leave, grow, finish, hand, Goes, Step, hold, go, accept, free, allocate, Steps, rest, next}

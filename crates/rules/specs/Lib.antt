@@ -8,3 +8,4 @@ pub mod Join
 pub mod Every
 pub mod Keep
 pub mod Good
+pub mod Rules

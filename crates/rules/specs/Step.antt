@@ -1,10 +1,12 @@
 -- What a call may do to one slot and to that slot's part of the room, and to all of them: the few kinds of change from which every
 -- rule follows. Rests on nothing but the definition's own words.
 use mathlib.Core.Path.{_≡_}
-use mathlib.Core.Bool.{Bool, true, false}
+use mathlib.Core.Bool.{Bool, true, false, _&&_, not}
 use mathlib.Core.List.{List, [], _∷_}
 use Prim.Native.Nat.{ℕ, _+_, _≤_, _<_}
+use lib.Dec.{eqb}
 use lib.ListN.{length}
+use Rattle.codes.specs.Codes.{refusalNumber}
 use Rattle.credit.specs.declared.CreditFlowControl.{CreditFlowControl}
 use Rattle.credit.specs.declared.Grant.the-variants.{Credits}
 use Rattle.credit.specs.Account.{received, granted, grantOf, creditSum}
@@ -12,6 +14,8 @@ use Rattle.sar.specs.declared.Assembly.{Assembly}
 use Rattle.signal.specs.Replies.{encodeOf}
 use Rattle.signal.specs.declared.replies.Signal.{Signal}
 use Rattle.channel.specs.Limits.{creditsMost}
+use Rattle.channel.specs.declared.Answer.{Answer}
+use Rattle.channel.specs.declared.Answer.the-variants.{Done, Refused, At, Link, Opened, Due, Frames, Job, Attention, Number, Event}
 use Rattle.channel.specs.declared.Queue.{Queue}
 use Rattle.channel.specs.declared.Slot.{Slot}
 use Rattle.channel.specs.declared.Table.{Table}
@@ -88,9 +92,30 @@ pub data Numbered (t : Table) : ℕ → List Fill → Type 0 where
   refused : Numbered t (spent t .identifier) []
   told : (s : Signal) → Numbered t (spent t .identifier) (given (encodeOf (nextId t) s) ∷ [])
 
+-- ---- the answer
+
+-- The paper's number for an answer: 0, or the refusal's.
+abbrev pub number : Answer → ℕ
+number Done = 0
+number (Refused r) = refusalNumber r
+number (At i) = 0
+number (Link link) = 0
+number Opened = 0
+number (Due link i) = 0
+number (Frames link n) = 0
+number (Job link copied len) = 0
+number (Attention set n lowest) = 0
+number (Number n) = 0
+number (Event min max latency timeout) = 0
+
+-- neither refusal 1 nor refusal 2
+abbrev pub passes : Answer → Bool
+passes a = not (eqb (number a) 1) && not (eqb (number a) 2)
+
 -- ---- a call
 
 pub record Stepped (t : Table) (k : ℕ) (o : Outcome) : Type 0 where
+  pub answer : passes (o .answer) ≡ true
   pub n : o .table .n ≡ t .n
   pub d : o .table .d ≡ t .d
   pub m : o .table .m ≡ t .m

@@ -83,7 +83,7 @@ module _ (t : Table) (k : ℕ) (x : Slot) where
       }
 
   -- what has not begun holds nothing before and after
-  jobs-quiet : {a : Assembly} {q : Queue} {ms : List Move} → Jobs t k x a q ms → begun (x .state) ≡ false → (x .assembly ≡ idle) × (x .queue .count ≡ 0) → (a ≡ idle) × (q .count ≡ 0)
+  pub jobs-quiet : {a : Assembly} {q : Queue} {ms : List Move} → Jobs t k x a q ms → begun (x .state) ≡ false → (x .assembly ≡ idle) × (x .queue .count ≡ 0) → (a ≡ idle) × (q .count ≡ 0)
   jobs-quiet keep f h = h
   jobs-quiet leave f h = (refl, h .1)
   jobs-quiet (grow b e l w) f h = absurd (false≢true (sym f ∙ b))

@@ -9,3 +9,6 @@ pub mod Every
 pub mod Keep
 pub mod Good
 pub mod Rules
+pub mod Places
+pub mod RoomRule
+pub mod Bench

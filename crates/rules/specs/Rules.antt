@@ -125,7 +125,7 @@ call-change s a g f i h =
     subst₂ (λ (x y : Slot). Change (s .table) (length (jobs (s .table) (a .call))) x y) (live-at (s .table) i h) (live-at (outcome s a .table) i (rw (p .n) h))
     (steps-at (p .slots) i)
 
-same-n : (s : State) (a : Asked) → Good (s .table) (s .room) → Fits (a .call) → after s a .table .n ≡ s .table .n
+pub same-n : (s : State) (a : Asked) → Good (s .table) (s .room) → Fits (a .call) → after s a .table .n ≡ s .table .n
 unfolding after
 same-n s a g f = good-steps g (a .call) f (a .out) (a .job) .n
 

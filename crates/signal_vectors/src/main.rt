@@ -108,6 +108,15 @@ fn answer(pdu: &[u8], head: &mut [u8], out: &mut [u8]) -> usize {
     }
 }
 
+// Whether what comes of a PDU is what is wanted: the five octets of `head`, then the signal written again.
+fn agrees(pdu: &[u8], wanted: &[u8]) -> bool {
+    let mut head = [0u8; 5];
+    let mut out = [0u8; 18];
+    let k = least(answer(pdu, &mut head, &mut out), 18);
+    let h = least(wanted.len(), 5);
+    check::same(&head, &wanted[..h]) & check::same(&out[..k], &wanted[h..])
+}
+
 struct Tally {
     same: u64,
     different: u64,
@@ -123,11 +132,7 @@ fn replay(line: &[u8], t: Tally) -> Tally {
     let n = spelled(&line[..at], &mut pdu);
     let mut wanted = [0u8; 64];
     let m = spelled(&line[at + 1..], &mut wanted);
-    let mut head = [0u8; 5];
-    let mut out = [0u8; 18];
-    let k = least(answer(&pdu[..n], &mut head, &mut out), 18);
-    let h = least(m, 5);
-    if check::same(&head, &wanted[..h]) & check::same(&out[..k], &wanted[h..m]) {
+    if agrees(&pdu[..n], &wanted[..m]) {
         return Tally {
             same: std::num::wrapping_add_u64(t.same, 1),
             different: t.different,

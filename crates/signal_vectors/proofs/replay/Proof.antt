@@ -1,4 +1,4 @@
--- `signal_vectors::replay` is safe: each part ends where a number says that does not pass what it is a part of.
+-- `signal_vectors::replay` is safe: each part ends at a number that does not pass what it is a part of.
 use native.Mathlib.Omega.{arith}
 use lib.ListN.{length-take}
 use borrow.Author.Needs.{needs}
@@ -41,53 +41,17 @@ spelled-requires-2 c κs = search needs
 array-share-prefix-pdu : tie.Need-array-share-prefix-pdu
 array-share-prefix-pdu c = search needs
 
-slice-aggregate-answer : tie.Need-slice-aggregate-answer
-slice-aggregate-answer c = rw length-take (omega arith)
-
-slice-aggregate-answer-2 : tie.Need-slice-aggregate-answer-2
-slice-aggregate-answer-2 c = search needs
-
-slice-aggregate-answer-3 : tie.Need-slice-aggregate-answer-3
-slice-aggregate-answer-3 c = search needs
-
-answer-requires : tie.Need-answer-requires
-answer-requires c κs = search needs
-
-least-requires : tie.Need-least-requires
-least-requires c κs = search needs
-
-least-requires-2 : tie.Need-least-requires-2
-least-requires-2 c κs = search needs
-
-slice-aggregate-same : tie.Need-slice-aggregate-same
-slice-aggregate-same c = search needs
+slice-aggregate-agrees : tie.Need-slice-aggregate-agrees
+slice-aggregate-agrees c = rw length-take (omega arith)
 
 array-share-prefix-wanted : tie.Need-array-share-prefix-wanted
 array-share-prefix-wanted c = search needs
 
-slice-aggregate-same-2 : tie.Need-slice-aggregate-same-2
-slice-aggregate-same-2 c = rw length-take (omega arith)
+slice-aggregate-agrees-2 : tie.Need-slice-aggregate-agrees-2
+slice-aggregate-agrees-2 c = rw length-take (omega arith)
 
-same-requires : tie.Need-same-requires
-same-requires c κs = search needs
-
-array-share-prefix-out : tie.Need-array-share-prefix-out
-array-share-prefix-out c = search needs
-
-slice-aggregate-same-3 : tie.Need-slice-aggregate-same-3
-slice-aggregate-same-3 c = rw length-take (omega arith)
-
-sub-same : tie.Need-sub-same
-sub-same c = search needs
-
-part-same-start : tie.Need-part-same-start
-part-same-start c = search needs
-
-part-same-end : tie.Need-part-same-end
-part-same-end c = search needs
-
-same-requires-2 : tie.Need-same-requires-2
-same-requires-2 c κs = search needs
+agrees-requires : tie.Need-agrees-requires
+agrees-requires c κs = search needs
 
 wrapping-add-u64-requires : tie.Need-wrapping-add-u64-requires
 wrapping-add-u64-requires c κs = search needs
@@ -126,22 +90,10 @@ replay-spec =
     slice-aggregate-spelled-3
     spelled-requires-2
     array-share-prefix-pdu
-    slice-aggregate-answer
-    slice-aggregate-answer-2
-    slice-aggregate-answer-3
-    answer-requires
-    least-requires
-    least-requires-2
-    slice-aggregate-same
+    slice-aggregate-agrees
     array-share-prefix-wanted
-    slice-aggregate-same-2
-    same-requires
-    array-share-prefix-out
-    slice-aggregate-same-3
-    sub-same
-    part-same-start
-    part-same-end
-    same-requires-2
+    slice-aggregate-agrees-2
+    agrees-requires
     wrapping-add-u64-requires
     returns-2
     write-all-requires

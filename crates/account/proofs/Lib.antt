@@ -1,0 +1,3 @@
+-- The two walks, which the four proofs share.
+mod InPlace
+mod Through

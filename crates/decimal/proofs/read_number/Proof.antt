@@ -1,6 +1,6 @@
 -- `decimal::read_number` meets its contract: what is read so far goes on with the rest (Reading), and each return makes the tests of the definition.
-use Prim.Native.Nat.{_≤_, _<_, _-_, _*_}
-use mathlib.Core.Path.{_≡_, sym, _∙_}
+use Prim.Native.Nat.{_≤_, _-_}
+use mathlib.Core.Path.{sym, _∙_}
 use lib.ListN.{length, getD}
 use borrow.Author.Tests.{lt-ltb, le-ltb, not-true, not-false}
 use Rattle.lists.specs.Choose.{choose}

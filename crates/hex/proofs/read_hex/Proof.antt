@@ -1,10 +1,10 @@
 -- `hex::read_hex` meets its contract: the loop writes the octets of the word (Writing), each of two digits (octets-at).
-use Prim.Native.Nat.{_+_, _*_, _-_, _≤_, _<_}
-use mathlib.Core.Path.{_≡_, refl, sym, _∙_}
+use Prim.Native.Nat.{_+_, _*_, _-_, _≤_}
+use mathlib.Core.Path.{_≡_, sym, _∙_}
 use mathlib.Core.Bool.{true}
 use borrow.Author.Tests.{not-true, not-false}
 use native.Mathlib.Nat.{zero-add}
-use lib.ListN.{length, getD}
+use lib.ListN.{getD}
 use Rattle.lists.specs.Choose.{choose}
 use Rattle.octets.specs.Sets.{Writing, writing-none, writing-more, writing-end}
 use Rattle.hex.specs.Hex.{isHexWord, octetsOf, hexRead, hexOctets}

@@ -1,10 +1,10 @@
 -- `hex::write_hex` meets its contract: the octets passed are written (Writes), two digits each (digits-more).
-use Prim.Native.Nat.{_-_, _≤_, _<_}
+use Prim.Native.Nat.{_-_, _≤_}
 use mathlib.Core.Path.{refl, ap, _∙_}
 use lib.ListN.{length, take}
-use lib.Seq.{take-length, take-all, length-sets}
+use lib.Seq.{take-all, length-sets}
 use Rattle.rows.specs.Rows.{Writes, writes-append}
-use Rattle.hex.specs.Hex.{hexDigits, hexText}
+use Rattle.hex.specs.Hex.{hexDigits}
 use Rattle.hex.specs.HexLaws.{digits-more, text-none, text-digits}
 use borrow.Author.Needs.{needs}
 use native.Mathlib.Omega.{arith}

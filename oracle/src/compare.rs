@@ -32,6 +32,7 @@ pub struct Counts {
     pub states: BTreeMap<String, usize>,
     pub kinds: BTreeMap<Kind, usize>,
     pub not_run: BTreeMap<&'static str, usize>,
+    pub marks: BTreeMap<&'static str, usize>,
 }
 
 impl Counts {
@@ -60,6 +61,9 @@ impl Counts {
             for kind in &step.kinds {
                 *self.kinds.entry(*kind).or_default() += 1;
             }
+            for mark in &step.marks {
+                *self.marks.entry(mark).or_default() += 1;
+            }
             for why in &step.not_run {
                 *self.not_run.entry(why).or_default() += 1;
             }
@@ -78,6 +82,9 @@ impl Counts {
         text += &list("calls by letter", &self.letters);
         text += &list("rows by the original's answer", &self.answers);
         text += &list("slots viewed by state", &self.states);
+        for (mark, count) in &self.marks {
+            text += &format!("reached {count} times: {mark}\n");
+        }
         for (kind, count) in &self.kinds {
             text += &format!("difference {:2}, {} times: {}\n", kind.number(), count, kind.title());
         }

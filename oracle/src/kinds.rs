@@ -122,7 +122,11 @@ pub fn verdict(view: &View, oldest_job: Option<&[u8]>, call: &Call) -> Option<Ve
         (Call::Register { spsm: 0 | 256.. }, _) => refusal(Kind::SpsmIgnored, 5, false),
         (Call::NextPending { link, .. }, _) => {
             let lowest = view.slots.iter().find(|slot| pending(slot) && slot.link == *link);
-            if lowest.is_some_and(|slot| slot.hold > 0) { refusal(Kind::HeldPanic, 22, false) } else { None }
+            if lowest.is_some_and(|slot| slot.hold > 0) {
+                refusal(Kind::HeldPanic, 22, false)
+            } else {
+                None
+            }
         }
         (Call::Accept { config, .. }, Some(slot)) => accept(view, slot, config),
         (Call::Reject { result, .. }, Some(slot)) if listed(*result) && pending(slot) && slot.hold == 0 => {
@@ -195,7 +199,11 @@ fn drop_pending(slot: &SlotView) -> Option<Verdict> {
 fn opened(slot: &SlotView, link: u16, up: bool) -> Option<Verdict> {
     if slot.free() {
         let own = slot.stale == Stale::All && slot.link == link;
-        if up && !own { refusal(Kind::OpenedPanic, 18, false) } else { None }
+        if up && !own {
+            refusal(Kind::OpenedPanic, 18, false)
+        } else {
+            None
+        }
     } else if slot.link != link {
         refusal(if up { Kind::OpenedPanic } else { Kind::OpenedOrder }, 8, true)
     } else if up && slot.state == State::Connected && slot.hold > 0 {
@@ -296,7 +304,11 @@ pub fn signal_verdicts<'a>(link: u16, pdu: &[u8], before: impl Iterator<Item = &
 
 /// The CID that the original has stored in a slot: 0 once it was closed.
 fn stored_cid(slot: usize, record: &SlotView) -> u16 {
-    if record.free() && record.stale != Stale::All { 0 } else { BASE_ID + slot as u16 }
+    if record.free() && record.stale != Stale::All {
+        0
+    } else {
+        BASE_ID + slot as u16
+    }
 }
 
 pub fn signal_verdict(view: &View, link: u16, signal: &[u8]) -> Option<Verdict> {
@@ -316,7 +328,11 @@ pub fn signal_verdict(view: &View, link: u16, signal: &[u8]) -> Option<Verdict> 
         0x07 => {
             let record = &view.slots[view.slot_of(u16::from_le_bytes([scid_low, scid_high]))?];
             let other = matches!(record.state, State::Disconnecting { .. }) && record.link != link;
-            if other { refusal(Kind::ResponseAnyLink, 0, true) } else { None }
+            if other {
+                refusal(Kind::ResponseAnyLink, 0, true)
+            } else {
+                None
+            }
         }
         _ => None,
     }
@@ -326,7 +342,8 @@ pub fn signal_verdict(view: &View, link: u16, signal: &[u8]) -> Option<Verdict> 
 pub fn left_in(record: &SlotView) -> Vec<Kind> {
     let settled = record.settled();
     let mut kinds = Vec::new();
-    if (SlotView { jobs: settled.jobs.clone(), have: settled.have, want: settled.want, stale: settled.stale, ..record.clone() }) != settled {
+    if (SlotView { jobs: settled.jobs.clone(), have: settled.have, want: settled.want, stale: settled.stale, ..record.clone() }) != settled
+    {
         kinds.push(Kind::NumbersLeft);
     }
     if record.jobs != settled.jobs {

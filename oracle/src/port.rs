@@ -58,6 +58,10 @@ impl Port for Program {
             other => return Err(format!("{program}: the first line is {other:?}")),
         }
         let rows: Vec<String> = lines.collect();
-        if status.success() { Ok(rows) } else { Err(format!("{program}: {status} after {} rows", rows.len())) }
+        if status.success() {
+            Ok(rows)
+        } else {
+            Err(format!("{program}: {status} after {} rows", rows.len()))
+        }
     }
 }

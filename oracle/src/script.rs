@@ -1,6 +1,7 @@
 //! A script judged: each call with what the original printed, what the port must print, and the differences that the list foretells.
 //! Where the list says that the tables part, the script ends.
 
+use crate::depth::marks;
 use crate::kinds::{left_in, signal_verdicts, verdict, Kind, Verdict};
 use crate::play;
 use language::{can_be_made, Call, Eyes, Feed, Manner, Reply, Row, State, View, HIGHEST_LINK};
@@ -25,6 +26,12 @@ pub struct Step {
     pub port: Vec<Option<String>>,
     pub kinds: Vec<Kind>,
     pub not_run: Vec<&'static str>,
+    /// What deep place this call met.
+    pub marks: Vec<&'static str>,
+    /// The link of the slot that the call names by number or CID, where it isn't free.
+    pub owner: Option<u16>,
+    /// No assembly is open on the slot that the call names.
+    pub idle: bool,
     /// The original panicked and the list doesn't say so.
     pub surprise: bool,
 }
@@ -78,7 +85,7 @@ impl Step {
         let original = reply.lines();
         let port = original.iter().cloned().map(Some).collect();
         let not_run = reply.rows.iter().filter_map(|row| row.not_run).collect();
-        Self { call, original, port, kinds: Vec::new(), not_run, surprise: false }
+        Self { call, original, port, kinds: Vec::new(), not_run, marks: Vec::new(), owner: None, idle: true, surprise: false }
     }
 }
 
@@ -123,6 +130,16 @@ impl Feed for Judge<'_> {
 impl Before {
     fn judge(self, reply: &Reply) -> (Step, bool) {
         let mut step = Step::plain(self.call.clone(), reply);
+        if !self.call.only_looks() {
+            step.marks = marks(&self.view, &self.call, reply);
+        }
+        let cid = match self.call {
+            Call::Frame { cid, .. } => self.view.slot_of(cid),
+            _ => None,
+        };
+        let named = self.call.slot().map(usize::from).or(cid).and_then(|slot| self.view.slots.get(slot));
+        step.owner = named.filter(|record| !record.free()).map(|record| record.link);
+        step.idle = named.is_none_or(|record| record.settled().want == 0);
         let verdicts = self.verdicts(reply);
         let mut parted = false;
         for (line, verdict) in step.port.iter_mut().zip(&verdicts) {

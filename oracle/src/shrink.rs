@@ -5,7 +5,7 @@ use crate::compare::{batch, Difference};
 use crate::play::SIZES;
 use crate::port::Port;
 use crate::script::Script;
-use language::{signals, Call, Config};
+use language::{signals, Call, Config, BASE_ID, HIGHEST_LINK, SLOTS};
 
 /// The most tries for one script.
 const TRIES: usize = 3_000;
@@ -23,6 +23,7 @@ pub fn shrink(port: &mut dyn Port, calls: &[Call]) -> Option<(Script, Difference
     loop {
         let before = shrinker.size();
         shrinker.leave_out();
+        shrinker.move_down();
         shrinker.simplify();
         if shrinker.size() == before || shrinker.tries > TRIES {
             return Some(shrinker.best);
@@ -74,7 +75,26 @@ impl Shrinker<'_> {
         }
     }
 
+    /// Leaves one call out that others lean on: the slots above one move down by one, as the call may have been there to take that slot,
+    /// or the responses that follow name one identifier less, as the call may have used one.
+    fn move_down(&mut self) {
+        let mut at = 1;
+        while at < self.best.0.steps.len() {
+            let mut calls = self.best.0.calls();
+            calls.remove(at);
+            let sooner: Vec<Call> = calls.iter().map(with_identifier_less).collect();
+            let moved = (0..highest_slot(&calls)).any(|gone| {
+                let lower: Vec<Call> = calls.iter().map(|call| without_slot(call, gone)).collect();
+                self.attempt(&lower)
+            });
+            if !moved && (sooner == calls || !self.attempt(&sooner)) {
+                at += 1;
+            }
+        }
+    }
+
     fn simplify(&mut self) {
+        self.rename_links();
         let mut at = 0;
         while at < self.best.0.steps.len() {
             let calls = self.best.0.calls();
@@ -87,6 +107,79 @@ impl Shrinker<'_> {
                 at += 1;
             }
         }
+    }
+}
+
+impl Shrinker<'_> {
+    /// Gives the links the numbers 1, 2, .. in the order in which they come up.
+    fn rename_links(&mut self) {
+        let mut calls = self.best.0.calls();
+        let mut links: Vec<u16> = Vec::new();
+        for link in calls.iter_mut().filter_map(link_mut).filter(|link| **link <= HIGHEST_LINK) {
+            let at = links.iter().position(|known| known == link).unwrap_or_else(|| {
+                links.push(*link);
+                links.len() - 1
+            });
+            *link = at as u16 + 1;
+        }
+        if links.iter().zip(1..).any(|(link, number)| *link != number) {
+            self.attempt(&calls);
+        }
+    }
+}
+
+/// The slots that calls name, at most.
+fn highest_slot(calls: &[Call]) -> u16 {
+    calls.iter().filter_map(Call::slot).max().unwrap_or(0).min(SLOTS)
+}
+
+/// The call on a table in which slot `gone` isn't there, so that those above it are one lower.
+fn without_slot(call: &Call, gone: u16) -> Call {
+    let lower = |number: u16, base: u16| if number > base + gone && number < base + SLOTS { number - 1 } else { number };
+    let mut call = call.clone();
+    if let Some(slot) = slot_mut(&mut call) {
+        *slot = lower(*slot, 0);
+    }
+    match &mut call {
+        Call::Frame { cid, .. } | Call::DisconnectByCid { cid } => *cid = lower(*cid, BASE_ID),
+        Call::Signal { pdu, .. } if matches!(pdu[..], [0x06 | 0x07, _, 4, 0, _, _, _, _]) => {
+            let at = if pdu[0] == 0x06 { 4 } else { 6 };
+            let cid = lower(u16::from_le_bytes([pdu[at], pdu[at + 1]]), BASE_ID);
+            pdu[at..at + 2].copy_from_slice(&cid.to_le_bytes());
+        }
+        _ => {}
+    }
+    call
+}
+
+/// A connect response to the identifier before.
+fn with_identifier_less(call: &Call) -> Call {
+    let mut call = call.clone();
+    if let Call::Signal { pdu, .. } = &mut call {
+        if let [0x15, identifier @ 2..=255, ..] = &mut pdu[..] {
+            *identifier -= 1;
+        }
+    }
+    call
+}
+
+fn slot_mut(call: &mut Call) -> Option<&mut u16> {
+    use Call::*;
+    match call {
+        Accept { slot, .. } | Reject { slot, .. } | DropPending { slot } | Opened { slot, .. } | GiveUp { slot } => Some(slot),
+        AddHold { slot } | Release { slot } | Disconnect { slot } | Send { slot, .. } | Take { slot, .. } => Some(slot),
+        Queries { slot } | Room { slot } => Some(slot),
+        _ => None,
+    }
+}
+
+fn link_mut(call: &mut Call) -> Option<&mut u16> {
+    use Call::*;
+    match call {
+        Signal { link, .. } | NextPending { link, .. } | RejectStep { link } | Create { link, .. } => Some(link),
+        Opened { link, .. } | LinkDown { link } | Frame { link, .. } => Some(link),
+        ParameterRequest { link, .. } | ParameterResponse { link, .. } => Some(link),
+        _ => None,
     }
 }
 
@@ -106,7 +199,14 @@ fn simpler(call: &Call) -> Vec<Call> {
                 let kept: Vec<&[u8]> = parts.iter().enumerate().filter(|(at, _)| *at != out).map(|(_, part)| *part).collect();
                 kept.concat()
             });
-            fewer.map(again).collect()
+            // A plain request: the peer of document 01's bench, with its own identifier and CID.
+            let plain = match pdu[..] {
+                [0x14, identifier, 10, 0, 0x80, 0, low, high, ..] => {
+                    Some(vec![0x14, identifier, 10, 0, 0x80, 0, low, high, 0x64, 0, 0x17, 0, 5, 0])
+                }
+                _ => None,
+            };
+            fewer.chain(plain.filter(|plain| *plain != pdu)).map(again).collect()
         }
         Call::Frame { link, cid, payload } => shorter(&payload).into_iter().map(|payload| Call::Frame { link, cid, payload }).collect(),
         Call::Send { slot, sdu } => shorter(&sdu).into_iter().map(|sdu| Call::Send { slot, sdu }).collect(),

@@ -5,8 +5,11 @@ use oracle::faults::{Fault, Faulty};
 use oracle::kinds::Kind;
 use oracle::play::quiet;
 use oracle::port::{Port, Program};
-use oracle::run::{run, Extent, Found};
+use oracle::record::{record, Recorded};
+use oracle::rng::Rng;
+use oracle::run::{run, script, Extent, Found};
 use oracle::script::Script;
+use oracle::twin::Twin;
 use std::process::ExitCode;
 use std::time::Duration;
 
@@ -14,6 +17,8 @@ const USAGE: &str = "usage:
   compare run [options] -- COMMAND [WORDS..]   the original against a program that is given scripts and prints rows
   compare self [options]                       the original against itself
   compare faults [options]                     each planted fault has to be found
+  compare twin [options] -- COMMAND [WORDS..]  demand 3: the program against itself, with other job octets in one life of one link
+  compare record [options] -- FOLDER            the original's answers as files
   compare kinds                                the list of differences
 options:
   --seed N         0 takes one from the clock; it is printed (1)
@@ -106,8 +111,10 @@ fn faults(extent: &Extent) -> ExitCode {
             Ok(found) if !found.differences.is_empty() => {
                 let (script, difference) = &found.differences[0];
                 println!("found: {} ({} calls; smallest script {} lines)", fault.title(), found.counts.calls, script.steps.len());
-                print!("{}", script.text());
-                println!("must print: {}\nprinted:    {}", difference.expected, difference.got);
+                if script.steps.len() < 30 {
+                    print!("{}", script.text());
+                    println!("must print: {}\nprinted:    {}", difference.expected, difference.got);
+                }
             }
             _ => {
                 println!("missed: {}", fault.title());
@@ -116,7 +123,50 @@ fn faults(extent: &Extent) -> ExitCode {
         }
     }
     println!("{} planted faults found, {missed} missed", Fault::ALL.len() - missed);
-    if missed == 0 { ExitCode::SUCCESS } else { ExitCode::FAILURE }
+    if missed == 0 {
+        ExitCode::SUCCESS
+    } else {
+        ExitCode::FAILURE
+    }
+}
+
+fn twin(port: &mut dyn Port, extent: &Extent) -> ExitCode {
+    println!("seed {}", extent.seed);
+    let (mut calls, mut pairs, mut number) = (0, 0, 0);
+    while calls < extent.calls {
+        let made = script(extent, number);
+        let twin = Twin::new(&made, &mut Rng::new(extent.seed ^ number));
+        number += 1;
+        let Some(twin) = twin else { continue };
+        (calls, pairs) = (calls + 2 * twin.calls(), pairs + 1);
+        match twin.run(port) {
+            Ok(None) => {}
+            Ok(Some(difference)) => {
+                println!("script {number}: {difference}");
+                return ExitCode::FAILURE;
+            }
+            Err(why) => {
+                println!("{why}");
+                return ExitCode::FAILURE;
+            }
+        }
+    }
+    println!("{pairs} pairs of runs, {calls} calls: nothing differs but the chosen link's own octets");
+    ExitCode::SUCCESS
+}
+
+fn record_into(folder: &str, extent: &Extent) -> ExitCode {
+    match record(std::path::Path::new(folder), extent) {
+        Ok(made) => {
+            let Recorded { files, scripts, calls, lines, settled } = made;
+            println!("{files} files, {scripts} scripts, {calls} calls, {lines} rows, {settled} of them settled");
+            ExitCode::SUCCESS
+        }
+        Err(error) => {
+            println!("{folder}: {error}");
+            ExitCode::FAILURE
+        }
+    }
 }
 
 fn kinds() -> ExitCode {
@@ -136,10 +186,11 @@ fn main() -> ExitCode {
     };
     quiet();
     match what.as_str() {
-        "run" if !words.command.is_empty() => {
-            compare(&mut Program::new(words.command, Duration::from_secs(words.limit)), &words.extent)
-        }
+        "run" if !words.command.is_empty() => compare(&mut Program::new(words.command, Duration::from_secs(words.limit)), &words.extent),
+        "twin" if words.command.is_empty() => twin(&mut Faulty(Fault::None), &words.extent),
+        "twin" => twin(&mut Program::new(words.command, Duration::from_secs(words.limit)), &words.extent),
         "self" => compare(&mut Faulty(Fault::None), &words.extent),
+        "record" if words.command.len() == 1 => record_into(&words.command[0], &words.extent),
         "faults" => faults(&words.extent),
         "kinds" => kinds(),
         _ => {

@@ -3,6 +3,7 @@
 
 mod numbers;
 mod opening;
+mod outside;
 mod signals;
 mod traffic;
 
@@ -28,25 +29,24 @@ pub enum Theme {
     Holds,
 }
 
-const THEMES: [Theme; 12] = [
-    Theme::Mixed,
-    Theme::Mixed,
-    Theme::Opening,
-    Theme::Jobs,
-    Theme::Jobs,
-    Theme::Jobs,
-    Theme::Credits,
-    Theme::Closing,
-    Theme::Closing,
-    Theme::Signals,
-    Theme::Wrap,
-    Theme::Holds,
-];
+/// The themes of a script by chance; the two that start with hundreds of plain calls are rare.
+fn theme(rng: &mut Rng) -> Theme {
+    match rng.below(60) {
+        0 => Theme::Wrap,
+        1 => Theme::Holds,
+        2..=13 => Theme::Mixed,
+        14..=20 => Theme::Opening,
+        21..=37 => Theme::Jobs,
+        38..=45 => Theme::Credits,
+        46..=54 => Theme::Closing,
+        _ => Theme::Signals,
+    }
+}
 
 /// How a run makes its scripts.
 #[derive(Clone, Copy, Debug)]
 pub struct Plan {
-    /// Calls that the list of differences speaks of are made too.
+    /// The last calls are made from the list of differences.
     pub outside: bool,
     /// A view of the whole table after every call, or after one in so many.
     pub view_every: usize,
@@ -107,7 +107,7 @@ const MOVES: [(Move, [usize; 6]); 29] = [
     (Move::Opened, [5, 10, 3, 3, 6, 3]),
     (Move::GiveUp, [1, 4, 0, 0, 2, 1]),
     (Move::AddHold, [2, 3, 1, 1, 2, 1]),
-    (Move::Release, [2, 2, 1, 1, 5, 1]),
+    (Move::Release, [4, 5, 3, 3, 8, 3]),
     (Move::Disconnect, [2, 1, 1, 1, 8, 1]),
     (Move::DisconnectByCid, [1, 1, 0, 0, 3, 1]),
     (Move::LinkDown, [1, 2, 1, 1, 5, 1]),
@@ -138,7 +138,7 @@ impl Generator {
     pub fn new(seed: u64, plan: Plan) -> Self {
         let mut rng = Rng::new(seed);
         let (n, d, m) = sizes(&mut rng);
-        let theme = rng.pick(&THEMES);
+        let theme = theme(&mut rng);
         let links = (0..rng.between(1, 4)).map(|_| numbers::link(&mut rng)).collect();
         let left = rng.between(plan.longest / 3, plan.longest);
         let mut made = Self { rng, plan, theme, n, d, m, links, left, ahead: VecDeque::new() };
@@ -220,7 +220,11 @@ impl Generator {
             return Some(self.rng.below(view.slots.len()) as u16);
         }
         let fit: Vec<u16> = (0..view.n()).filter(|slot| test(&view.slots[usize::from(*slot)])).collect();
-        if fit.is_empty() { None } else { Some(self.rng.pick(&fit)) }
+        if fit.is_empty() {
+            None
+        } else {
+            Some(self.rng.pick(&fit))
+        }
     }
 
     fn a_link(&mut self) -> u16 {
@@ -231,7 +235,11 @@ impl Generator {
     /// The link of a slot, most of the time.
     fn link_of(&mut self, view: &View, slot: u16) -> u16 {
         let record = &view.slots[usize::from(slot)];
-        if record.free() || self.rng.chance(3) { self.a_link() } else { record.link }
+        if record.free() || self.rng.chance(3) {
+            self.a_link()
+        } else {
+            record.link
+        }
     }
 
     /// Looks after a call: the whole view, and now and then the places, the queries and the attention set.
@@ -258,9 +266,13 @@ impl Source for Generator {
             return None;
         }
         self.left -= 1;
-        for _ in 0..200 {
-            let Some(call) = self.propose(view) else { continue };
-            if self.plan.outside || self.inside(view, &call) {
+        // A script that leaves the domain goes deep first: most entries of the list end it.
+        let outside = self.plan.outside && self.left < 12;
+        let settled = view.settled();
+        for _ in 0..400 {
+            let proposed = if outside && self.rng.chance(60) { self.outside(&settled) } else { self.propose(&settled) };
+            let Some(call) = proposed else { continue };
+            if outside || self.inside(view, &call) {
                 self.look();
                 return Some(call);
             }

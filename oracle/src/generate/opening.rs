@@ -5,9 +5,21 @@ use language::{Call, State, View, BASE_ID};
 
 impl Generator {
     pub(super) fn play(&mut self, chosen: Move, view: &View) -> Option<Call> {
-        let pending = |hold: bool| move |slot: &language::SlotView| matches!(slot.state, State::PeerConnecting(_)) && (slot.hold > 0) == hold;
+        let pending =
+            |hold: bool| move |slot: &language::SlotView| matches!(slot.state, State::PeerConnecting(_)) && (slot.hold > 0) == hold;
+        let full = !view.slots.iter().any(|slot| slot.free() && slot.hold == 0);
         let call = match chosen {
-            Move::Register => Call::Register { spsm: if self.rng.chance(80) { self.rng.between(1, 255) as u16 } else { numbers::spsm(&mut self.rng) } },
+            // A full table refuses every opening: that is seen often enough.
+            Move::PeerRequest | Move::Create if full && self.rng.chance(75) => return None,
+            // Moves that always can be made are made again each time that others can't: they would take the script over.
+            Move::Register | Move::RejectStep | Move::LinkDown | Move::ParameterRequest | Move::ParameterResponse | Move::Wrong
+                if self.rng.chance(70) =>
+            {
+                return None
+            }
+            Move::Register => {
+                Call::Register { spsm: if self.rng.chance(80) { self.rng.between(1, 255) as u16 } else { numbers::spsm(&mut self.rng) } }
+            }
             Move::PeerRequest => self.signal_line(|this| Some((this.a_link(), this.peer_request())))?,
             Move::Response => self.signal_line(|this| this.response(view))?,
             Move::PeerCredits => self.signal_line(|this| this.credits(view))?,
@@ -43,18 +55,26 @@ impl Generator {
             }
             Move::Opened => {
                 let unheld = |slot: &language::SlotView| slot.state == State::Connected && slot.hold == 0;
-                let wanted = |slot: &language::SlotView| matches!(slot.state, State::Connecting(_) | State::ConnectFailed(_)) || unheld(slot);
+                let wanted =
+                    |slot: &language::SlotView| matches!(slot.state, State::Connecting(_) | State::ConnectFailed(_)) || unheld(slot);
                 let slot = self.slot_where(view, wanted)?;
                 let link = self.link_of(view, slot);
                 Call::Opened { slot, link, up: self.rng.chance(92) }
             }
             Move::GiveUp => {
-                let slot = self.slot_where(view, |slot| matches!(slot.state, State::Connecting(_) | State::ConnectFailed(_)) || slot.hold == 0 && !slot.free())?;
+                let slot = self.slot_where(view, |slot| {
+                    matches!(slot.state, State::Connecting(_) | State::ConnectFailed(_)) || slot.hold == 0 && !slot.free()
+                })?;
                 Call::GiveUp { slot }
             }
-            Move::AddHold => Call::AddHold { slot: self.rng.below(view.slots.len()) as u16 },
+            Move::AddHold => {
+                let slot = self.slot_where(view, |slot| !slot.free())?;
+                Call::AddHold { slot }
+            }
             Move::Release => {
-                let slot = self.slot_where(view, |slot| slot.hold > 0)?;
+                // A free slot that is held can't be used again until its last hold is released.
+                let only_free = self.rng.chance(50);
+                let slot = self.slot_where(view, |slot| slot.hold > 0 && (slot.free() || !only_free))?;
                 Call::Release { slot }
             }
             Move::Disconnect => {
@@ -62,13 +82,17 @@ impl Generator {
                 Call::Disconnect { slot }
             }
             Move::DisconnectByCid => {
-                let cid = match self.slot_where(view, |slot| slot.state == State::Connected) {
-                    Some(slot) if self.rng.chance(85) => BASE_ID + slot,
-                    _ => self.rng.pick(&[0, 1, 0x3f, BASE_ID + self.n, 65_535]),
-                };
+                let slot = self.slot_where(view, |slot| slot.state == State::Connected)?;
+                let cid = if self.rng.chance(85) { BASE_ID + slot } else { self.rng.pick(&[0, 1, 0x3f, BASE_ID + self.n, 65_535]) };
                 Call::DisconnectByCid { cid }
             }
-            Move::LinkDown => Call::LinkDown { link: self.a_link() },
+            Move::LinkDown => {
+                let link = match self.slot_where(view, |slot| !slot.free()) {
+                    Some(slot) => self.link_of(view, slot),
+                    None => self.a_link(),
+                };
+                Call::LinkDown { link }
+            }
             Move::NextDisconnect => {
                 if !view.slots.iter().any(language::SlotView::disconnect_due) && self.rng.chance(85) {
                     return None;

@@ -18,14 +18,30 @@ impl Generator {
     }
 
     fn identifier(&mut self) -> u8 {
-        if self.rng.chance(95) { self.rng.between(1, 255) as u8 } else { 0 }
+        if self.rng.chance(95) {
+            self.rng.between(1, 255) as u8
+        } else {
+            0
+        }
     }
 
     pub(super) fn peer_request(&mut self) -> Vec<u8> {
         let identifier = self.identifier();
         let rng = &mut self.rng;
-        let fields = [numbers::spsm(rng), numbers::peer_cid(rng), numbers::peer_mtu(rng, self.m), numbers::peer_mps(rng, self.m), numbers::peer_credits(rng)];
+        let fields = [
+            numbers::spsm(rng),
+            numbers::peer_cid(rng),
+            numbers::peer_mtu(rng, self.m),
+            numbers::peer_mps(rng, self.m),
+            numbers::peer_credits(rng),
+        ];
         signal(0x14, identifier, &fields)
+    }
+
+    /// A disconnect request or response by its two CIDs.
+    pub(super) fn disconnect(&mut self, code: u8, dcid: u16, scid: u16) -> Vec<u8> {
+        let identifier = self.identifier();
+        signal(code, identifier, &[dcid, scid])
     }
 
     /// A response to one of our attempts: mostly to its identifier.
@@ -38,7 +54,8 @@ impl Generator {
         };
         let rng = &mut self.rng;
         let result = if rng.chance(75) { 0 } else { numbers::result(rng) };
-        let fields = [numbers::peer_cid(rng), numbers::peer_mtu(rng, self.m), numbers::peer_mps(rng, self.m), numbers::peer_credits(rng), result];
+        let fields =
+            [numbers::peer_cid(rng), numbers::peer_mtu(rng, self.m), numbers::peer_mps(rng, self.m), numbers::peer_credits(rng), result];
         Some((link, signal(0x15, identifier, &fields)))
     }
 

@@ -17,22 +17,18 @@ impl Generator {
     fn first_frame(&mut self, record: &SlotView) -> Vec<u8> {
         let rng = &mut self.rng;
         let (mtu, most) = (usize::from(record.mtu), usize::from(self.m) - 2);
-        let length = match rng.below(20) {
-            0 => mtu + 1,
-            1 => rng.pick(&[65_535, mtu + 2]),
-            2 | 3 => mtu,
-            4 => mtu.saturating_sub(1),
-            5 | 6 => 0,
-            7 => 1,
-            8 if self.plan.outside => return rng.octets(1),
-            9 if self.plan.outside => return Vec::new(),
+        let length = match rng.below(40) {
+            0 => rng.pick(&[mtu + 1, mtu + 2, 65_535]),
+            1..=5 => mtu,
+            6 | 7 => mtu.saturating_sub(1),
+            8..=10 => 0,
+            11 | 12 => 1,
             _ => rng.between(0, mtu.min(40)),
         };
         let carried = match rng.below(10) {
             0..=3 => length,
             4 => length.saturating_sub(1),
             5 => 0,
-            6 if self.plan.outside => length + rng.between(1, 3),
             _ => rng.between(0, length.min(300)),
         };
         let mut payload = (length as u16).to_le_bytes().to_vec();
@@ -44,12 +40,12 @@ impl Generator {
     fn joining_frame(&mut self, record: &SlotView) -> Vec<u8> {
         let rng = &mut self.rng;
         let rest = usize::from(record.want) - usize::from(record.have.min(record.want));
-        let carried = match rng.below(16) {
+        let carried = match rng.below(40) {
             0 => rest + 1,
-            1 => 0,
-            2 => 1,
-            3 | 4 => rest.saturating_sub(1),
-            5..=9 => rest,
+            1 | 2 => 0,
+            3..=6 => 1,
+            7..=11 => rest.saturating_sub(1),
+            12..=27 => rest,
             _ => rng.between(0, rest),
         };
         rng.octets(carried.min(usize::from(self.m)))

@@ -4,6 +4,8 @@
 mod answers;
 mod calls;
 mod signals;
+#[cfg(test)]
+mod tests;
 mod tracks;
 
 use crate::channel_manager::{ChannelManager, ChannelStorage};
@@ -99,10 +101,11 @@ fn storages(n: usize) -> Box<RefCell<[ChannelStorage<Octets>]>> {
     }
 }
 
-fn run<const M: usize>(n: usize, manner: Manner, feed: &mut dyn Feed) {
+/// Makes a table and lends its driver.
+fn with_driver<const M: usize, R>(n: usize, manner: Manner, use_it: impl FnOnce(&mut Driver<'_, M>) -> R) -> R {
     let records = storages(n);
     let links = RefCell::new([const { ConnectionStorage::new() }; 1]);
-    let channels = ChannelManager::<Pool<M>>::new(&*records);
+    let channels = ChannelManager::<Pool<M>>::new(&records);
     let connections = ConnectionManager::<Pool<M>>::new(&links);
     let air = Air::default();
     let mut driver = Driver {
@@ -114,10 +117,16 @@ fn run<const M: usize>(n: usize, manner: Manner, feed: &mut dyn Feed) {
         attempts: (0..n).map(|_| None).collect(),
         tracks: Tracks::default(),
     };
-    while let Some(call) = feed.next(&driver) {
-        let reply = driver.call(&call);
-        feed.answered(reply);
-    }
+    use_it(&mut driver)
+}
+
+fn run<const M: usize>(n: usize, manner: Manner, feed: &mut dyn Feed) {
+    with_driver::<M, _>(n, manner, |driver| {
+        while let Some(call) = feed.next(driver) {
+            let reply = driver.call(&call);
+            feed.answered(reply);
+        }
+    });
 }
 
 macro_rules! sizes {

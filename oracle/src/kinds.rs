@@ -98,14 +98,14 @@ impl Kind {
 #[derive(Clone, Debug, PartialEq, Eq)]
 pub struct Verdict {
     pub kind: Kind,
-    /// What document 01 has the port print; none where that isn't foretold.
-    pub row: Option<String>,
+    /// What document 01 has the port print.
+    pub row: String,
     /// The tables differ from here on.
     pub parts: bool,
 }
 
 fn refusal(kind: Kind, number: u16, parts: bool) -> Option<Verdict> {
-    Some(Verdict { kind, row: Some(Row::number(number).to_string()), parts })
+    Some(Verdict { kind, row: Row::number(number).to_string(), parts })
 }
 
 /// The verdict on a call other than `S`, from the table before it and the oldest job of the slot that it names.
@@ -216,7 +216,7 @@ fn opened(slot: &SlotView, link: u16, up: bool) -> Option<Verdict> {
 
 fn frame(view: &View, link: u16, cid: u16, payload: &[u8]) -> Option<Verdict> {
     if payload.len() > usize::from(view.m) {
-        return Some(Verdict { kind: Kind::NoPacket, row: None, parts: true });
+        return no_packet(view, link, cid);
     }
     let slot = &view.slots[view.slot_of(cid)?];
     if slot.state != State::Connected {
@@ -236,6 +236,18 @@ fn frame(view: &View, link: u16, cid: u16, payload: &[u8]) -> Option<Verdict> {
         return refusal(Kind::LongerThanLength, 9, true);
     }
     None
+}
+
+/// A payload that no packet holds never reaches the original's channels. It is past every length that document 01 allows: 9 at the latest.
+fn no_packet(view: &View, link: u16, cid: u16) -> Option<Verdict> {
+    let (number, parts) = match view.slot_of(cid).map(|slot| &view.slots[slot]) {
+        None => (7, false),
+        Some(slot) if slot.state != State::Connected => (0, false),
+        Some(slot) if slot.link != link => (8, false),
+        Some(slot) if slot.credits == 0 => (10, false),
+        Some(_) => (9, true),
+    };
+    refusal(Kind::NoPacket, number, parts)
 }
 
 /// The frames of document 01 for an SDU that is sent: the only rows that this list has to work out itself.
@@ -264,7 +276,7 @@ fn send(view: &View, slot: &SlotView, sdu: &[u8]) -> Option<Verdict> {
     } else if mps < 23 {
         refusal(Kind::SmallMps, 20, sent)
     } else if paid && !fits {
-        Some(Verdict { kind: Kind::LongFrame, row: Some(cut(sdu, slot.peer_mps, slot.peer_cid).to_string()), parts: true })
+        Some(Verdict { kind: Kind::LongFrame, row: cut(sdu, slot.peer_mps, slot.peer_cid).to_string(), parts: true })
     } else {
         None
     }
@@ -279,10 +291,10 @@ fn take(slot: &SlotView, oldest_job: Option<&[u8]>, size: usize) -> Option<Verdi
     let waits = oldest_job.is_some();
     match slot.state {
         State::Disconnecting { .. } | State::PeerDisconnecting(_) => {
-            Some(Verdict { kind: Kind::TakeWhileClosing, row: Some(taken.to_string()), parts: waits })
+            Some(Verdict { kind: Kind::TakeWhileClosing, row: taken.to_string(), parts: waits })
         }
         State::Connected if waits && slot.received == 0 && grants(slot) => {
-            Some(Verdict { kind: Kind::ZeroGrant, row: Some(taken.to_string()), parts: true })
+            Some(Verdict { kind: Kind::ZeroGrant, row: taken.to_string(), parts: true })
         }
         _ => None,
     }
@@ -323,7 +335,7 @@ pub fn signal_verdict(view: &View, link: u16, signal: &[u8]) -> Option<Verdict> 
             let (_, record) = hit.filter(|(_, record)| !record.is_of(link))?;
             let kind = if record.free() { Kind::ClosedHit } else { Kind::DisconnectAnyLink };
             let reject = Row::number(0).octets(vec![0x06, 0x00, 0x05, 0x00, 0x01, identifier, 0x02, 0x00, 0x02, 0x00]);
-            Some(Verdict { kind, row: Some(reject.to_string()), parts: true })
+            Some(Verdict { kind, row: reject.to_string(), parts: true })
         }
         0x07 => {
             let record = &view.slots[view.slot_of(u16::from_le_bytes([scid_low, scid_high]))?];

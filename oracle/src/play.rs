@@ -34,16 +34,38 @@ fn skipped(call: &Call, answer: Answer, why: &'static str) -> Reply {
     (0..call.rows()).map(|_| Row::new(answer).not_run(why)).collect::<Vec<_>>().into()
 }
 
-/// Keeps the panics of the original, which the driver catches, off the screen. A panic of our own code still shows.
+/// Keeps the panics of the original, which the driver catches, off the screen. A panic of the driver or of a stand-in would be caught like
+/// one and taken for it: it ends the program instead.
 pub fn quiet() {
-    let usual = std::panic::take_hook();
-    std::panic::set_hook(Box::new(move |info| {
-        let ours = info.location().is_some_and(|at| at.file().starts_with("src/") || at.file().contains("oracle/src"));
-        if ours {
-            usual(info);
-        }
-    }));
+    static ONCE: std::sync::Once = std::sync::Once::new();
+    ONCE.call_once(|| {
+        let usual = std::panic::take_hook();
+        std::panic::set_hook(Box::new(move |info| {
+            let file = info.location().map_or("", |at| at.file());
+            let of_the_driver = file.contains("original/src/") || file.contains("stand-ins/");
+            let of_the_original = !of_the_driver && ORIGINAL.iter().any(|name| file.ends_with(name));
+            if !of_the_original {
+                usual(info);
+            }
+            if of_the_driver {
+                std::process::abort();
+            }
+        }));
+    });
 }
+
+/// The files of the original in which code runs.
+const ORIGINAL: [&str; 9] = [
+    "/channel_manager.rs",
+    "/codec.rs",
+    "/connection.rs",
+    "/connection_manager.rs",
+    "/cursor.rs",
+    "/l2cap.rs",
+    "/pdu.rs",
+    "/l2cap/sar.rs",
+    "/types/l2cap.rs",
+];
 
 /// Plays a script and gives each call with its reply, in order.
 pub fn play(calls: impl IntoIterator<Item = Call>, manner: Manner, mut seen: impl FnMut(&Call, &Reply)) {

@@ -47,7 +47,8 @@ pub fn record(folder: &Path, extent: &Extent) -> std::io::Result<Recorded> {
 fn is_sample(made: &Script) -> bool {
     let foretold = made.steps.iter().all(|step| step.port.iter().all(Option::is_some));
     let inside = made.steps.iter().all(|step| step.call.only_looks() || step.kinds.is_empty() && step.not_run.is_empty());
-    foretold && inside && made.text().len() <= 8_000
+    let printed: usize = made.steps.iter().flat_map(|step| &step.original).map(String::len).sum();
+    foretold && inside && made.text().len() + printed <= 12_000
 }
 
 /// The three files of one number.

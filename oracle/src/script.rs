@@ -22,7 +22,7 @@ pub struct Step {
     pub call: Call,
     /// What the original printed.
     pub original: Vec<String>,
-    /// What the port must print, line for line; none where the list doesn't foretell it.
+    /// What the port must print, line for line; none for the signals of a PDU behind one at which the tables part.
     pub port: Vec<Option<String>>,
     pub kinds: Vec<Kind>,
     pub not_run: Vec<&'static str>,
@@ -146,7 +146,7 @@ impl Before {
             if parted {
                 *line = None;
             } else if let Some(verdict) = verdict {
-                *line = verdict.row.clone();
+                *line = Some(verdict.row.clone());
                 parted = verdict.parts;
             }
         }

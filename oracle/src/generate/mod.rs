@@ -11,7 +11,7 @@ use crate::kinds::{signal_verdict, verdict};
 use crate::play::SIZES;
 use crate::rng::Rng;
 use crate::script::Source;
-use language::{can_be_made, signals as parts, Call, SlotView, View};
+use language::{can_be_made, signals as parts, Call, SlotView, View, BASE_ID};
 use std::collections::VecDeque;
 
 /// What a script is about: it weighs the moves.
@@ -243,15 +243,22 @@ impl Generator {
     }
 
     /// Looks after a call: the whole view, and now and then the places, the queries and the attention set.
-    fn look(&mut self) {
+    fn look(&mut self, call: &Call) {
         if self.rng.below(self.plan.view_every) == 0 {
             self.ahead.push_back(Call::View);
         }
-        let slot = self.rng.below(usize::from(self.n)) as u16;
-        match self.rng.below(30) {
-            0 => self.ahead.push_back(Call::Room { slot }),
-            1 => self.ahead.push_back(Call::Queries { slot }),
-            2 => self.ahead.push_back(Call::Attention),
+        let any = self.rng.below(usize::from(self.n)) as u16;
+        // The places of the slot that the call was about, where it names one.
+        let named = match call {
+            Call::Frame { cid, .. } => cid.checked_sub(BASE_ID),
+            _ => call.slot(),
+        };
+        let slot = named.filter(|slot| *slot < self.n).unwrap_or(any);
+        match self.rng.below(24) {
+            0 | 1 => self.ahead.push_back(Call::Room { slot }),
+            2 => self.ahead.push_back(Call::Room { slot: any }),
+            3 => self.ahead.push_back(Call::Queries { slot }),
+            4 => self.ahead.push_back(Call::Attention),
             _ => {}
         }
     }
@@ -273,7 +280,7 @@ impl Source for Generator {
             let proposed = if outside && self.rng.chance(60) { self.outside(&settled) } else { self.propose(&settled) };
             let Some(call) = proposed else { continue };
             if outside || self.inside(view, &call) {
-                self.look();
+                self.look(&call);
                 return Some(call);
             }
         }

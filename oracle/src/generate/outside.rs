@@ -80,8 +80,8 @@ impl Generator {
                 self.signal_line(|this| Some((link, this.disconnect(0x07, 0x40, BASE_ID + slot))))
             }
             Kind::NoPacket => {
-                let slot = self.one_of(view, |slot| slot.state == State::Connected)?;
-                let (link, length) = (view.slots[usize::from(slot)].link, usize::from(self.m) + self.rng.between(1, 9));
+                let slot = self.rng.below(view.slots.len()) as u16;
+                let (link, length) = (self.link_of(view, slot), usize::from(self.m) + self.rng.between(1, 9));
                 Some(Call::Frame { link, cid: BASE_ID + slot, payload: self.rng.octets(length) })
             }
             Kind::NumbersLeft | Kind::JobsLeft | Kind::AssemblyLeft => {

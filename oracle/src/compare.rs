@@ -131,11 +131,11 @@ pub fn batch(port: &mut dyn Port, scripts: &[Script]) -> Result<Vec<(usize, Diff
                 at += lines;
             }
         }
-        Err(why) if scripts.len() == 1 => return Err(why),
-        _ if scripts.len() == 1 => {
-            differences.extend(check(&scripts[0], &rows.unwrap_or_default()).err().map(|difference| (0, difference)));
+        Err(why) => return Err(why),
+        Ok(rows) if scripts.len() == 1 => {
+            differences.extend(check(&scripts[0], &rows).err().map(|difference| (0, difference)));
         }
-        _ => {
+        Ok(_) => {
             for (number, script) in scripts.iter().enumerate() {
                 let alone = batch(port, std::slice::from_ref(script))?;
                 differences.extend(alone.into_iter().map(|(_, difference)| (number, difference)));

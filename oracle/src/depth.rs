@@ -72,6 +72,17 @@ pub fn marks(view: &View, call: &Call, reply: &Reply) -> Vec<&'static str> {
     if view.slots.iter().any(|slot| slot.jobs.len() == usize::from(view.d) && !slot.free()) {
         marks.push("a full queue");
     }
+    if view.slots.len() > 3 && view.slots.iter().all(|slot| slot.state == State::Connected) {
+        marks.push("four slots or more, all connected");
+    }
+    let attempt = |slot: &language::SlotView| match slot.state {
+        State::Connecting(identifier) => Some(identifier),
+        _ => None,
+    };
+    let waiting: Vec<u8> = view.slots.iter().filter_map(attempt).collect();
+    if (1..waiting.len()).any(|at| waiting[..at].contains(&waiting[at])) {
+        marks.push("two attempts with one identifier");
+    }
     if view.slots.iter().any(|slot| slot.free() && slot.hold > 0) {
         marks.push("a free slot that is held");
     }

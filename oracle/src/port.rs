@@ -45,23 +45,26 @@ impl Port for Program {
             let _ = done.send(read.map(|_| String::from_utf8_lossy(&text).into_owned()));
         });
         let read = rows.recv_timeout(self.limit);
-        if read.is_err() {
+        let late = read.is_err();
+        if late {
             let _ = child.kill();
         }
         let status = child.wait().map_err(|error| error.to_string())?;
         // A program that stops reading leaves the writer with an error: the missing rows show it.
         let _ = writer.join();
-        let text = read.map_err(|_| format!("{program}: no end after {} s", self.limit.as_secs()))?.map_err(|error| error.to_string())?;
+        let text = read.or_else(|_| rows.recv()).map_err(|error| error.to_string())?.map_err(|error| error.to_string())?;
         let mut lines = text.lines().map(str::to_string);
         match lines.next() {
-            Some(header) if header == "answer octets" => {}
-            other => return Err(format!("{program}: the first line is {other:?}")),
+            Some(header) if header != "answer octets" => return Err(format!("{program}: the first line is {header:?}")),
+            _ => {}
         }
-        let rows: Vec<String> = lines.collect();
-        if status.success() {
-            Ok(rows)
-        } else {
-            Err(format!("{program}: {status} after {} rows", rows.len()))
+        let mut rows: Vec<String> = lines.collect();
+        // A program that dies or hangs differs where its rows end: the comparison shows the call and makes the script small.
+        if late {
+            rows.push(format!("no row after {} s", self.limit.as_secs()));
+        } else if !status.success() {
+            rows.push(format!("no row: {status}"));
         }
+        Ok(rows)
     }
 }

@@ -11,7 +11,7 @@ use crate::kinds::{signal_verdict, verdict};
 use crate::play::SIZES;
 use crate::rng::Rng;
 use crate::script::Source;
-use language::{can_be_made, signals as parts, Call, SlotView, View, BASE_ID};
+use language::{can_be_made, signals as parts, Call, Config, SlotView, View, BASE_ID};
 use std::collections::VecDeque;
 
 /// What a script is about: it weighs the moves.
@@ -27,6 +27,8 @@ pub enum Theme {
     Wrap,
     /// Starts with a slot at 250 or so holds.
     Holds,
+    /// Starts with every slot Connected, over all links.
+    Full,
 }
 
 /// The themes of a script by chance; the two that start with hundreds of plain calls are rare.
@@ -37,8 +39,9 @@ fn theme(rng: &mut Rng) -> Theme {
         2..=13 => Theme::Mixed,
         14..=20 => Theme::Opening,
         21..=37 => Theme::Jobs,
-        38..=45 => Theme::Credits,
-        46..=54 => Theme::Closing,
+        38..=43 => Theme::Credits,
+        44..=50 => Theme::Closing,
+        51..=55 => Theme::Full,
         _ => Theme::Signals,
     }
 }
@@ -158,7 +161,13 @@ impl Generator {
         let link = self.links[0];
         match self.theme {
             Theme::Wrap => {
-                for _ in 0..self.rng.between(245, 256) {
+                // An attempt that waits while all other identifiers are used meets the next one with its own.
+                let waits = self.rng.chance(50);
+                if waits {
+                    self.ahead.push_back(Call::Create { link, spsm: 128, config: Config::default() });
+                }
+                let used = if waits { 254 } else { self.rng.between(245, 256) };
+                for _ in 0..used {
                     let result = self.rng.pick(&[0, 1]);
                     self.ahead.push_back(Call::ParameterResponse { link, result });
                 }
@@ -169,13 +178,26 @@ impl Generator {
                     self.ahead.push_back(Call::AddHold { slot });
                 }
             }
+            Theme::Full => (0..self.n).for_each(|slot| self.open(slot)),
             _ => {}
         }
     }
 
+    /// Opens the lowest slot of a table that has all below it open.
+    fn open(&mut self, slot: u16) {
+        let link = self.links[usize::from(slot) % self.links.len()];
+        let pdu = self.request_from(0x40 + slot);
+        let mut config = numbers::config(&mut self.rng, self.m);
+        config.mtu = config.mtu.filter(|mtu| *mtu <= self.m - 6);
+        config.mps = config.mps.filter(|mps| *mps <= self.m - 4);
+        self.ahead.push_back(Call::Signal { link, listening: true, central: true, pdu });
+        self.ahead.push_back(Call::NextPending { link, up: true });
+        self.ahead.push_back(Call::Accept { slot, config });
+    }
+
     fn weight(&self, weights: &[usize; 6]) -> usize {
         match self.theme {
-            Theme::Mixed | Theme::Wrap | Theme::Holds => weights[0],
+            Theme::Mixed | Theme::Wrap | Theme::Holds | Theme::Full => weights[0],
             Theme::Opening => weights[1],
             Theme::Jobs => weights[2],
             Theme::Credits => weights[3],

@@ -73,9 +73,9 @@ pub fn config(rng: &mut Rng, m: u16) -> Config {
         _ => None,
     };
     let policy = match rng.below(10) {
-        0 => Some(Policy::Every(rng.pick(&[0, 2, 65_535]))),
+        0 => Some(Policy::Every(rng.pick(&[0, 0, 2, 65_535]))),
         1 => Some(Policy::Every(rng.pick(&[1, 3, 5]))),
-        2 => Some(Policy::MinThreshold(rng.pick(&[0, 65_535]))),
+        2 => Some(Policy::MinThreshold(rng.pick(&[0, 65_535, 65_535]))),
         3 => Some(Policy::MinThreshold(rng.pick(&[1, 2, 3, 5]))),
         _ => None,
     };

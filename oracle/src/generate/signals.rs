@@ -26,15 +26,19 @@ impl Generator {
     }
 
     pub(super) fn peer_request(&mut self) -> Vec<u8> {
+        let (spsm, cid) = (numbers::spsm(&mut self.rng), numbers::peer_cid(&mut self.rng));
+        self.request(spsm, cid)
+    }
+
+    /// A request that an empty slot takes: its SPSM is registered.
+    pub(super) fn request_from(&mut self, peer_cid: u16) -> Vec<u8> {
+        self.request(128, peer_cid)
+    }
+
+    fn request(&mut self, spsm: u16, peer_cid: u16) -> Vec<u8> {
         let identifier = self.identifier();
         let rng = &mut self.rng;
-        let fields = [
-            numbers::spsm(rng),
-            numbers::peer_cid(rng),
-            numbers::peer_mtu(rng, self.m),
-            numbers::peer_mps(rng, self.m),
-            numbers::peer_credits(rng),
-        ];
+        let fields = [spsm, peer_cid, numbers::peer_mtu(rng, self.m), numbers::peer_mps(rng, self.m), numbers::peer_credits(rng)];
         signal(0x14, identifier, &fields)
     }
 

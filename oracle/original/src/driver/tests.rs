@@ -138,3 +138,15 @@ fn a_packet_handed_over_is_the_job_copied() {
         assert_eq!(seen(copies), seen(hands_over));
     });
 }
+
+/// Difference 44: with no credits left the one form refuses and the other waits.
+#[test]
+fn without_credits_one_send_refuses_and_the_other_waits() {
+    let used_up = format!("{OPEN}\nK 0 {}", "00".repeat(100));
+    twice(&used_up, |tries, waits| {
+        assert_eq!(play(tries, "K 0 aa"), ["14 -"]);
+        let mut packet = Pool::<64>::allocate().expect("the pool is never empty");
+        assert!(poll_once(pin!(waits.channels.send(index(0), &[0xaa], packet.as_mut(), waits.host()))).is_pending());
+        assert_eq!(seen(tries), seen(waits));
+    });
+}

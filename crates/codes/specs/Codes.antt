@@ -1,8 +1,10 @@
 -- The paper's number for each refusal (document 01, 'What a refusal says and leaves') and each result code (Core Vol 3 Part A 4.23).
-use mathlib.Core.Path.{_≡_, refl}
-use mathlib.Core.Bool.{Bool, cond}
+use mathlib.Core.Path.{_≡_, refl, sym, _∙_}
+use mathlib.Core.Bool.{Bool, true, false, cond}
 use Prim.Native.Nat.{ℕ}
+use native.Mathlib.Omega.{arith}
 use lib.Dec.{eqb}
+use borrow.Author.Tests.{eqb-true}
 use Rattle.codes.specs.declared.LeCreditConnResultCode.{LeCreditConnResultCode}
 use Rattle.codes.specs.declared.LeCreditConnResultCode.the-variants.{Success, SpsmNotSupported, NoResources, InsufficientAuthentication, InsufficientAuthorization, EncryptionKeyTooShort, InsufficientEncryption, InvalidSourceId, ScidAlreadyAllocated, UnacceptableParameters}
 use Rattle.codes.specs.declared.ResultRead.{ResultRead}
@@ -50,6 +52,30 @@ result-back InsufficientEncryption = refl
 result-back InvalidSourceId = refl
 result-back ScidAlreadyAllocated = refl
 result-back UnacceptableParameters = refl
+
+-- and a number that is read as a code is that code's number
+read-as : (n k : ℕ) (d : LeCreditConnResultCode) {rest : ResultRead} → resultNumber d ≡ k → ((c : LeCreditConnResultCode) → rest ≡ Known c → resultNumber c ≡ n)
+    → (c : LeCreditConnResultCode) → cond (eqb n k) (Known d) rest ≡ Known c → resultNumber c ≡ n
+read-as n k d {rest} number later c = go (eqb n k) refl
+  where
+    go : (b : Bool) → eqb n k ≡ b → cond b (Known d) rest ≡ Known c → resultNumber c ≡ n
+    go true t e = let same : d ≡ c = cc in rw (← same) (number ∙ sym (eqb-true n k t))
+    go false t e = later c e
+
+pub result-exact : (n : ℕ) (c : LeCreditConnResultCode) → resultOf n ≡ Known c → resultNumber c ≡ n
+unfolding resultOf
+result-exact n =
+    read-as n 0 Success refl
+    (read-as n 2 SpsmNotSupported refl
+    (read-as n 4 NoResources refl
+    (read-as n 5 InsufficientAuthentication refl
+    (read-as n 6 InsufficientAuthorization refl
+    (read-as n 7 EncryptionKeyTooShort refl
+    (read-as n 8 InsufficientEncryption refl
+    (read-as n 9 InvalidSourceId refl
+    (read-as n 10 ScidAlreadyAllocated refl
+    (read-as n 11 UnacceptableParameters refl
+    (λ c e. let no : _≡_ {A = ℕ} 0 1 = cc in absurd (omega arith)))))))))))
 
 abbrev pub refusalNumber : Refusal → ℕ
 refusalNumber Refusal.BadTable = 1

@@ -4,7 +4,7 @@ use mathlib.Core.Path.{_≡_, refl, ap, sym, _∙_}
 use mathlib.Core.Bool.{Bool, true, false}
 use mathlib.Core.List.{List, [], _∷_}
 use native.Mathlib.Omega.{arith}
-use native.Mathlib.Nat.{zero-lt-suc, le-of-suc-le-suc, zero-add, add-zero}
+use native.Mathlib.Nat.{zero-lt-suc, le-of-suc-le-suc, not-suc-le-zero, zero-add, add-zero}
 use native.Mathlib.Numerals.{add-one}
 use lib.ListN.{length, getD, take, drop, length-take, drop-of-length-le}
 use lib.Seq.{drop-cons, getD-take}
@@ -25,6 +25,18 @@ module _ {A : Type 0} where
   unfolding first choose
   first-none p d [] off = refl
   first-none p d (x ∷ xs) off = rw (off zero (zero-lt-suc (length xs))) (ap suc (first-none p d xs (λ k l. off (suc k) (omega arith))))
+
+  -- what stands there passes the test
+  first-on : (p : A → Bool) (d x : A) (xs : List A) (b : Bool) → p x ≡ b → choose b 0 (suc (first p xs)) < suc (length xs)
+      → (first p xs < length xs → p (getD xs (first p xs) d) ≡ true) → p (getD (x ∷ xs) (choose b 0 (suc (first p xs))) d) ≡ true
+  unfolding choose
+  first-on p d x xs true e h more = e
+  first-on p d x xs false e h more = more (le-of-suc-le-suc h)
+
+  pub first-passes : (p : A → Bool) (d : A) (xs : List A) → first p xs < length xs → p (getD xs (first p xs) d) ≡ true
+  unfolding first
+  first-passes p d [] h = absurd (not-suc-le-zero h)
+  first-passes p d (x ∷ xs) h = first-on p d x xs (p x) refl h (first-passes p d xs)
 
 -- A search loop over the first n elements: nothing was found below i. A loop's invariant, its start, its step and its two ends.
 pub record Passed {A : Type 0} (p : A → Bool) (n : ℕ) (l : List A) (i : ℕ) : Type 0 where

@@ -1,5 +1,6 @@
 -- Definitions and laws on lists, choices and loops that every crate above shares.
 pub mod Choose
+pub mod Both
 pub mod First
 pub mod Every
 pub mod Each

@@ -1,0 +1,147 @@
+// The types of the channel table: slots, table, what a call is given and what it answers. No functions: what they mean is in
+// the crate `definition`, and the code over them stands in the crates above it.
+use codes::LeCreditConnResultCode;
+use codes::Refusal;
+use credit::CreditFlowControl;
+use credit::CreditFlowPolicy;
+use sar::Assembly;
+
+// The most slots that a table has.
+pub const SLOTS: usize = 16;
+
+// The most finished jobs that wait in a slot (L2CAP_RX_QUEUE_SIZE).
+pub const DEPTH: usize = 4;
+
+// A slot's number. It becomes a CID by the 0x40 rule alone.
+pub struct ChannelIndex(pub u8);
+
+// A channel's CID on the air.
+pub struct Cid(pub u16);
+
+// A slot's state. PeerConnecting, Connecting and PeerDisconnecting carry a signal's identifier; Disconnecting says whether its
+// request was announced.
+pub enum ChannelState {
+    Disconnected,
+    Connecting(u8),
+    PeerConnecting(u8),
+    Connected,
+    ConnectFailed(LeCreditConnResultCode),
+    PeerDisconnecting(u8),
+    Disconnecting(bool),
+}
+
+// The peer's side of a channel.
+pub struct Peer {
+    pub cid: u16,
+    pub mps: u16,
+    pub mtu: u16,
+    pub credits: u16,
+}
+
+// The finished jobs that wait, oldest first: how many, and the octets of each.
+pub struct Queue {
+    pub count: u8,
+    pub lens: [u16; DEPTH],
+}
+
+// One slot (`ChannelStorage` in the original). Its local CID is 0x40 + its number and isn't stored.
+pub struct Slot {
+    pub state: ChannelState,
+    pub link: u16,
+    pub spsm: u16,
+    pub mps: u16,
+    pub mtu: u16,
+    pub account: CreditFlowControl,
+    pub hold: u8,
+    pub peer: Peer,
+    pub assembly: Assembly,
+    pub queue: Queue,
+}
+
+// The table: N slots in use, D waiting jobs a slot, packets of M octets, the next identifier, a bit for each registered SPSM.
+pub struct Table {
+    pub slots: [Slot; SLOTS],
+    pub n: usize,
+    pub d: usize,
+    pub m: usize,
+    pub identifier: u8,
+    pub spsms: [u8; 32],
+}
+
+// A number that the caller gives or leaves to the default.
+pub enum Setting {
+    Default,
+    Is(u16),
+}
+
+// What an accept or a create asks for.
+pub struct L2capChannelConfig {
+    pub mtu: Setting,
+    pub mps: Setting,
+    pub policy: CreditFlowPolicy,
+    pub credits: Setting,
+}
+
+// A number that a call may be given, for the refusals that come first: a length, a link or a slot.
+pub enum Given {
+    Nothing,
+    Is(usize),
+}
+
+// What those first refusals come to.
+pub enum Verdict {
+    Pass,
+    Stop(Refusal),
+}
+
+// What a call answers.
+pub enum Answer {
+    // 0, with nothing more to tell.
+    Done,
+    Refused(Refusal),
+    // 0, and the slot that was given, rejected or opened.
+    At(ChannelIndex),
+    // 0, and the link on which what was written goes out.
+    Link(u16),
+    // 0, and a hold was taken on the opened channel.
+    Opened,
+    // 0, and the link and slot whose disconnect was written.
+    Due {
+        link: u16,
+        slot: ChannelIndex,
+    },
+    // 0, and the frames that were written, with their link.
+    Frames {
+        link: u16,
+        count: usize,
+    },
+    // 0, and the job that was taken: octets copied, its length, and the link for the credit signal.
+    Job {
+        link: u16,
+        copied: usize,
+        length: u16,
+    },
+    // 0, and the slots that call: a bit each, how many, and the lowest.
+    Attention {
+        set: u16,
+        count: u8,
+        lowest: u8,
+    },
+    // 0, and the number asked for.
+    Number(u16),
+    // 0, and the valid parameters that the peer asks for.
+    Event {
+        min: u16,
+        max: u16,
+        latency: u16,
+        timeout: u16,
+    },
+}
+
+// What a call gives back: its answer, the table after it, and the octets that it wrote at the start of the lent signal buffer or
+// frame output.
+pub struct Served {
+    pub answer: Answer,
+    pub table: Table,
+    pub octets: usize,
+}

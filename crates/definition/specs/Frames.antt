@@ -1,0 +1,132 @@
+-- Frames in, jobs out: frame in, send, take. Document 01, 'Cutting, joining, credits'. None of these sees a job octet: a frame comes
+-- as its length octets (`head`) and the number of its job octets, a send as the number of octets of its SDU.
+use mathlib.Core.Bool.{Bool, true, false, _&&_, _||_, not}
+use mathlib.Core.List.{List, [], _∷_, _++_}
+use Prim.Native.Nat.{ℕ, zero, suc, _+_, _-_, _*_, _/_, _%_, min}
+use lib.Dec.{eqb, leb, ltb}
+use lib.ListN.{length, getD, set, drop}
+use Rattle.octets.specs.Octets.{le16, u16At}
+use Rattle.codes.specs.declared.Refusal.the-variants.{InvalidChannelId, NotFound, OutOfMemory, ChannelClosed, QueueFull}
+use Rattle.credit.specs.declared.Grant.{Grant}
+use Rattle.credit.specs.declared.Grant.the-variants as Grant
+use Rattle.credit.specs.Account.{received, granted, grantOf}
+use Rattle.sar.specs.declared.Assembly.{Assembly}
+use Rattle.sar.specs.declared.Joined.{Joined}
+use Rattle.sar.specs.declared.Joined.the-variants as Joined
+use Rattle.sar.specs.Joining.{isIdle, idle, assembled, joinStep}
+use Rattle.cutting.specs.declared.Plan.{Plan}
+use Rattle.cutting.specs.declared.Plan.the-variants as Plan
+use Rattle.cutting.specs.Cutting.{planSend}
+use Rattle.writer.specs.Writer.{encodeOf}
+use Rattle.signal.specs.declared.forms.Signal.the-variants.{LeCreditFlowInd}
+use Rattle.channel.specs.declared.Answer.the-variants.{Done, Refused, Frames, Job}
+use Rattle.channel.specs.declared.ChannelState.{ChannelState}
+use Rattle.channel.specs.declared.ChannelState.the-variants.{Disconnecting}
+use Rattle.channel.specs.declared.Given.the-variants.{Nothing, Is}
+use Rattle.channel.specs.declared.Queue.{Queue}
+use Rattle.channel.specs.declared.Slot.{Slot}
+use Rattle.channel.specs.declared.Table.{Table}
+use Rattle.definition.specs.Mem.{Fill, zeros, given, job, held, Move, put}
+use Rattle.definition.specs.Table.{if_then_else_, placeOf, width, slotAt, isDisconnected, isConnecting, isPeerConnecting, isConnected, isConnectFailed, withAccount, withPeerCredits, withAssembly, withQueue, cidOf, isCid, slotOf, nextId, spent}
+use Rattle.definition.specs.Outcome.{Outcome, change, refuse, done, leaving, gate}
+
+-- ---- frame in
+
+-- Where the next finished job goes: behind the assembly place and the jobs that wait.
+abbrev pub queuePlace : Table → Slot → ℕ
+queuePlace t x = suc (x .queue .count) * placeOf t
+
+abbrev pub queued : ℕ → Queue → Queue
+queued len q = record { count = q .count + 1; lens = set (q .lens) (q .count) len }
+
+-- A finished job at its place's start: what stood in the assembly place, then this frame's octets. The assembly place of a joined job
+-- is zeroed; a first frame that is complete never touches it.
+abbrev pub finishing : Table → Slot → ℕ → List Move
+finishing t x count =
+    if isIdle (x .assembly) then put (queuePlace t x) (job 0 count) ∷ []
+    else put (queuePlace t x) (held 0 (x .assembly .have)) ∷ put (queuePlace t x + x .assembly .have) (job 0 count) ∷ put 0 (zeros (placeOf t)) ∷ []
+
+-- What the join step (crate sar) decided, for slot s as x, whose credit is used.
+unfoldable pub joined : Table → (slot : ℕ) → Slot → (count : ℕ) → Joined → Outcome
+joined t s x count (Joined.Refused r) = leaving t s x (Disconnecting false) (Refused r)
+joined t s x count (Joined.Assembling a) = change t s (withAssembly a x) (put (assembled (x .assembly)) (job 0 count) ∷ []) Done []
+joined t s x count (Joined.Finished len) = change t s (withQueue (queued len (x .queue)) (withAssembly idle x)) (finishing t x count) Done []
+joined t s x count Joined.Dropped = change t s (withAssembly idle x) (put 0 (zeros (placeOf t)) ∷ []) (Refused QueueFull) []
+
+-- "Frame in (CID, payload): 7; not Connected: dropped, answer 0; another link's slot 8; no credit 10; one credit used."
+unfoldable pub dispatch : Table → (room link cid : ℕ) (head : List ℕ) (count : ℕ) → Outcome
+dispatch t room link cid head count =
+    gate t (Is room) Nothing (Is link) Nothing
+    (let s = slotOf cid in
+    let x = slotAt t s in
+    if not (isCid t cid) then refuse t InvalidChannelId
+    else if not (isConnected (x .state)) then done t
+    else if not (eqb (x .link) link) then refuse t NotFound
+    else if eqb (x .account .credits) 0 then refuse t OutOfMemory
+    else joined t s (withAccount (received (x .account) 1) x) count
+    (joinStep (x .mtu) (x .mps) (t .d) (x .assembly) (x .queue .count) (length head + count) (u16At head 0)))
+
+-- ---- send
+
+-- The frames after the first: "the rest MPS each". n of them, from job octet `from` on, of l in all. Each is length, CID, payload
+-- (Core Vol 3 Part A 3.4.1).
+unfoldable pub laterFrames : (cid mps l n from : ℕ) → List Fill
+laterFrames cid mps l zero from = []
+laterFrames cid mps l (suc n) from =
+    let p = min mps (l - from) in
+    given (le16 p ++ le16 cid) ∷ job from p ∷ laterFrames cid mps l n (from + p)
+
+-- "The first frame carries the SDU length and min(L, MPS-2) octets"
+unfoldable pub frames : (cid mps l n : ℕ) → List Fill
+frames cid mps l n =
+    let p = min l (mps - 2) in
+    given (le16 (p + 2) ++ le16 cid ++ le16 l) ∷ job 0 p ∷ laterFrames cid mps l (n - 1) p
+
+-- "On success peer credits fall by n."
+unfoldable pub planned : Table → (slot : ℕ) → Slot → (l : ℕ) → Plan → Outcome
+planned t s x l (Plan.Refused r) = refuse t r
+planned t s x l (Plan.Frames n octets) = change t s (withPeerCredits (x .peer .credits - n) x) [] (Frames (x .link) n) (frames (x .peer .cid) (x .peer .mps) l n)
+
+-- "Send order: 11, 12, 23, 20, 14, 3." Of these 12 to 3 are the plan's (crate cutting).
+unfoldable pub send : Table → (slot l out : ℕ) → Outcome
+send t s l out =
+    gate t Nothing Nothing Nothing (Is s)
+    (let x = slotAt t s in
+    if not (isConnected (x .state)) then refuse t ChannelClosed
+    else planned t s x l (planSend l (x .peer .mtu) (x .peer .mps) (x .peer .credits) out))
+
+-- ---- take
+
+-- "a take moves later jobs up one place"
+abbrev pub shifted : Queue → Queue
+shifted q = record { count = q .count - 1; lens = drop 1 (q .lens) ++ (0 ∷ []) }
+
+-- Later places move up, and the last that was occupied is zeroed.
+abbrev pub movingUp : Table → Slot → List Move
+movingUp t x =
+    let p = placeOf t in
+    put p (held (2 * p) ((x .queue .count - 1) * p)) ∷ put (x .queue .count * p) (zeros p) ∷ []
+
+-- The oldest job is copied out, min(job, buffer) octets; x is the slot with its account as it is left.
+abbrev pub handing : Table → (slot : ℕ) → Slot → (size : ℕ) → List Fill → Outcome
+handing t s x size signal =
+    let len = getD (x .queue .lens) 0 0 in
+    let o = change t s (withQueue (shifted (x .queue)) x) (movingUp t x) (Job (x .link) (min len size) len) signal in
+    record { answer = o .answer; table = o .table; parts = o .parts; out = o .out; job = held (s * width t + placeOf t) (min len size) ∷ [] }
+
+-- "Connected only: Every(k) grants all received when received ≥ k, MinThreshold(t) when credits < t, never 0 credits."
+unfoldable pub grantIn : Slot → Grant
+grantIn x = if isConnected (x .state) then grantOf (x .account) else Grant.Nothing
+
+unfoldable pub taken : Table → (slot : ℕ) → Slot → (size : ℕ) → Grant → Outcome
+taken t s x size Grant.Nothing = handing t s x size []
+taken t s x size (Grant.Credits n) = handing (spent t) s (withAccount (granted (x .account) n) x) size (given (encodeOf (nextId t) (LeCreditFlowInd (record { cid = cidOf s; credits = n }))) ∷ [])
+
+-- Row 11: "taking when free, connecting, pending or failed". "no job waiting is reported as such .. and writes and grants nothing"
+unfoldable pub receive : Table → (room signal slot size : ℕ) → Outcome
+receive t room signal s size =
+    gate t (Is room) (Is signal) Nothing (Is s)
+    (let x = slotAt t s in
+    if isDisconnected (x .state) || (isConnecting (x .state) || (isPeerConnecting (x .state) || isConnectFailed (x .state))) then refuse t ChannelClosed
+    else if eqb (x .queue .count) 0 then done t
+    else taken t s x size (grantIn x))

@@ -1,0 +1,117 @@
+-- Connections that the peer asks for: next pending, the reject-all step, accept, reject, drop. Document 01, 'Slots'; the names of S.
+use mathlib.Core.Bool.{Bool, not}
+use mathlib.Core.List.{List, [], _∷_}
+use Prim.Native.Nat.{ℕ, _-_}
+use lib.Dec.{eqb, leb, ltb}
+use Rattle.codes.specs.declared.LeCreditConnResultCode.{LeCreditConnResultCode}
+use Rattle.codes.specs.declared.LeCreditConnResultCode.the-variants.{Success, NoResources}
+use Rattle.codes.specs.declared.Refusal.the-variants.{NotFound, InsufficientSpace, Disconnected, Held}
+use Rattle.credit.specs.declared.CreditFlowControl.{CreditFlowControl}
+use Rattle.credit.specs.Account.{newAccount}
+use Rattle.signal.specs.Forms.{rejectRes}
+use Rattle.writer.specs.Writer.{encodeOf}
+use Rattle.signal.specs.declared.forms.Signal.the-variants.{LeCreditConnRes}
+use Rattle.channel.specs.Limits.{frameHead, jobHead}
+use Rattle.channel.specs.declared.Answer.the-variants.{Done, Refused, At, Link}
+use Rattle.channel.specs.declared.ChannelState.the-variants.{Connected}
+use Rattle.channel.specs.declared.Given.the-variants.{Nothing, Is}
+use Rattle.channel.specs.declared.L2capChannelConfig.{L2capChannelConfig}
+use Rattle.channel.specs.declared.Setting.{Setting}
+use Rattle.channel.specs.declared.Setting.the-variants as Setting
+use Rattle.channel.specs.declared.Slot.{Slot}
+use Rattle.channel.specs.declared.Table.{Table}
+use Rattle.definition.specs.Mem.{Fill, given}
+use Rattle.definition.specs.Table.{if_then_else_, slotAt, found, isPeerConnecting, isConnected, identifierOf, pendingOf, unheldPendingOf, withHold, index, cidOf}
+use Rattle.definition.specs.Outcome.{Outcome, still, change, refuse, done, freeing, gate}
+
+-- ---- "Defaults: credits D, MTU M-6, MPS M-4."
+
+abbrev pub settled : ℕ → Setting → ℕ
+settled usual Setting.Default = usual
+settled usual (Setting.Is n) = n
+
+abbrev pub mtuOf : Table → L2capChannelConfig → ℕ
+mtuOf t c = settled (t .m - jobHead) (c .mtu)
+
+abbrev pub mpsOf : Table → L2capChannelConfig → ℕ
+mpsOf t c = settled (t .m - frameHead) (c .mps)
+
+abbrev pub creditsOf : Table → L2capChannelConfig → ℕ
+creditsOf t c = settled (t .d) (c .credits)
+
+-- ---- "Refused responses carry zeros before the result."
+
+abbrev pub refusedResponse : ℕ → LeCreditConnResultCode → List Fill
+refusedResponse id result = given (encodeOf id (LeCreditConnRes (rejectRes result))) ∷ []
+
+-- ---- "Next pending takes the lowest PeerConnecting slot of the link; held already → 22; none and link up: nothing, answer 0."
+
+unfoldable pub nextPending : Table → (link : ℕ) (up : Bool) → Outcome
+nextPending t link up =
+    gate t Nothing Nothing (Is link) Nothing
+    (let s = found (pendingOf link) t in
+    if leb (t .n) s then (if up then done t else refuse t Disconnected)
+    else if not (eqb (slotAt t s .hold) 0) then refuse t Held
+    else change t s (withHold 1 (slotAt t s)) [] (At (index s)) [])
+
+-- ---- "Rejecting all pendings goes one slot a call: the link's lowest PeerConnecting slot without holds gets response 4 and is freed"
+
+unfoldable pub rejectAllPending : Table → (room signal link : ℕ) → Outcome
+rejectAllPending t room signal link =
+    gate t (Is room) (Is signal) (Is link) Nothing
+    (let s = found (unheldPendingOf link) t in
+    if leb (t .n) s then done t
+    else freeing t s (slotAt t s) (At (index s)) (refusedResponse (identifierOf (slotAt t s .state)) NoResources))
+
+-- ---- "Accept: MPS and MTU (12), state (8), hold 0 (22, added)."
+
+-- The slot once it is accepted: Connected, with our numbers and a new account. Its hold becomes the channel's.
+abbrev pub acceptedAs : (mps mtu : ℕ) → CreditFlowControl → Slot → Slot
+acceptedAs mps mtu account x =
+    record {
+      state = Connected;
+      link = x .link;
+      spsm = x .spsm;
+      mps = mps;
+      mtu = mtu;
+      account = account;
+      hold = x .hold;
+      peer = x .peer;
+      assembly = x .assembly;
+      queue = x .queue;
+    }
+
+abbrev pub accepted : Table → L2capChannelConfig → Slot → Slot
+accepted t c x = acceptedAs (mpsOf t c) (mtuOf t c) (newAccount (c .policy) (creditsOf t c)) x
+
+unfoldable pub acceptPending : Table → (signal slot : ℕ) → L2capChannelConfig → Outcome
+acceptPending t signal s c =
+    gate t Nothing (Is signal) Nothing (Is s)
+    (let x = slotAt t s in
+    if ltb (t .m - frameHead) (mpsOf t c) then refuse t InsufficientSpace
+    else if ltb (t .m - jobHead) (mtuOf t c) then refuse t InsufficientSpace
+    else if not (isPeerConnecting (x .state)) then refuse t NotFound
+    else if eqb (x .hold) 0 then refuse t Held
+    else change t s (accepted t c x) [] (Link (x .link))
+    (given (encodeOf (identifierOf (x .state)) (LeCreditConnRes (record { dcid = cidOf s; mtu = mtuOf t c; mps = mpsOf t c; credits = creditsOf t c; result = Success }))) ∷ []))
+
+-- ---- "Reject: state, hold."
+
+unfoldable pub rejectPending : Table → (room signal slot : ℕ) → LeCreditConnResultCode → Outcome
+rejectPending t room signal s result =
+    gate t (Is room) (Is signal) Nothing (Is s)
+    (let x = slotAt t s in
+    if not (isPeerConnecting (x .state)) then refuse t NotFound
+    else if eqb (x .hold) 0 then refuse t Held
+    else freeing t s (withHold (x .hold - 1) x) (Link (x .link)) (refusedResponse (identifierOf (x .state)) result))
+
+-- ---- "Dropping a pending: when Connected nothing, as S; else hold 0 → 22; else the hold falls by one, and PeerConnecting is freed."
+
+unfoldable pub dropPending : Table → (room slot : ℕ) → Outcome
+dropPending t room s =
+    gate t (Is room) Nothing Nothing (Is s)
+    (let x = slotAt t s in
+    if isConnected (x .state) then done t
+    else if eqb (x .hold) 0 then refuse t Held
+    else if isPeerConnecting (x .state) then freeing t s (withHold (x .hold - 1) x) Done []
+    else change t s (withHold (x .hold - 1) x) [] Done [])

@@ -1,0 +1,178 @@
+-- One signal PDU: document 01, 'Signals'. Every header is checked, then the first signal is handled; the part after it is `restOf`
+-- (crate signal). Core Vol 3 Part A, 4.
+use mathlib.Core.Bool.{Bool, true, false, _&&_, not}
+use mathlib.Core.List.{List, [], _∷_}
+use Prim.Native.Nat.{ℕ, _+_}
+use lib.Dec.{eqb, leb, ltb}
+use lib.ListN.{length, getD, take, drop}
+use Rattle.codes.specs.declared.LeCreditConnResultCode.{LeCreditConnResultCode}
+use Rattle.codes.specs.declared.LeCreditConnResultCode.the-variants as Result
+use Rattle.codes.specs.Codes.{resultNumber}
+use Rattle.codes.specs.declared.Refusal.{Refusal}
+use Rattle.codes.specs.declared.Refusal.the-variants.{NotFound, InvalidValue, Decode, NotSupported, ConnectError}
+use Rattle.headers.specs.Headers.{headersOf, bodyIn}
+use Rattle.signal.specs.Bodies.{commandRejectRes, disconnectionReq, disconnectionRes, connParamUpdateReq, connParamUpdateRes, leCreditConnReq, leCreditConnRes, leCreditFlowInd}
+use Rattle.signal.specs.Parameters.{parametersValid}
+use Rattle.writer.specs.Writer.{encodeOf}
+use Rattle.headers.specs.declared.Checked.{Checked}
+use Rattle.headers.specs.declared.Checked.the-variants.{Good, Cut, Past}
+use Rattle.signal.specs.declared.bodies.CommandRejectResRead.{CommandRejectResRead}
+use Rattle.signal.specs.declared.bodies.CommandRejectResRead.the-variants as CommandRejectRes
+use Rattle.signal.specs.declared.bodies.DisconnectionReqRead.{DisconnectionReqRead}
+use Rattle.signal.specs.declared.bodies.DisconnectionReqRead.the-variants as DisconnectionReq
+use Rattle.signal.specs.declared.bodies.DisconnectionResRead.{DisconnectionResRead}
+use Rattle.signal.specs.declared.bodies.DisconnectionResRead.the-variants as DisconnectionRes
+use Rattle.signal.specs.declared.bodies.ConnParamUpdateReqRead.{ConnParamUpdateReqRead}
+use Rattle.signal.specs.declared.bodies.ConnParamUpdateReqRead.the-variants as ConnParamUpdateReq
+use Rattle.signal.specs.declared.bodies.ConnParamUpdateResRead.{ConnParamUpdateResRead}
+use Rattle.signal.specs.declared.bodies.ConnParamUpdateResRead.the-variants as ConnParamUpdateRes
+use Rattle.signal.specs.declared.bodies.LeCreditConnReqRead.{LeCreditConnReqRead}
+use Rattle.signal.specs.declared.bodies.LeCreditConnReqRead.the-variants as LeCreditConnReq
+use Rattle.signal.specs.declared.bodies.LeCreditConnResRead.{LeCreditConnResRead}
+use Rattle.signal.specs.declared.bodies.LeCreditConnResRead.the-variants as LeCreditConnRes
+use Rattle.signal.specs.declared.bodies.LeCreditFlowIndRead.{LeCreditFlowIndRead}
+use Rattle.signal.specs.declared.bodies.LeCreditFlowIndRead.the-variants as LeCreditFlowInd
+use Rattle.signal.specs.declared.forms.LeCreditConnReq.{LeCreditConnReq}
+use Rattle.signal.specs.declared.forms.LeCreditConnRes.{LeCreditConnRes}
+use Rattle.signal.specs.declared.forms.Signal.the-variants as Signal
+use Rattle.channel.specs.Limits.{creditsMost}
+use Rattle.channel.specs.declared.Answer.{Answer}
+use Rattle.channel.specs.declared.Answer.the-variants.{Done, Refused, Event}
+use Rattle.channel.specs.declared.ChannelState.the-variants.{PeerConnecting, Connected, ConnectFailed, PeerDisconnecting, Disconnecting}
+use Rattle.channel.specs.declared.Given.the-variants.{Nothing, Is}
+use Rattle.channel.specs.declared.Slot.{Slot}
+use Rattle.channel.specs.declared.Table.{Table}
+use Rattle.definition.specs.Mem.{Fill, given}
+use Rattle.definition.specs.Table.{if_then_else_, slotAt, found, fresh, isFree, isDisconnecting, ofLink, attemptOf, attemptBy, connectedTo, usesPeer, inState, withPeer, withPeerCredits, isCid, slotOf, isRegistered}
+use Rattle.definition.specs.Outcome.{Outcome, still, change, sweep, refuse, done, freeing, leaving, gate}
+use Rattle.definition.specs.Pending.{refusedResponse}
+
+-- ---- replies
+
+-- "A reject reply has reason 0 unless another is named."
+abbrev pub rejectReply : (id reason : ℕ) → List Fill
+rejectReply id reason = given (encodeOf id (Signal.CommandRejectRes (record { reason = reason }))) ∷ []
+
+-- "bad body: reject reply"
+abbrev pub badBody : Table → (id : ℕ) → Outcome
+badBody t id = still t (Refused Decode) (rejectReply id 0)
+
+-- ---- 0x14 (4.22): "SPSM not registered → result 2; not listening → 4; peer CID used on this link by a slot not Disconnected → 10 ..;
+-- no free slot → 4. Else the lowest free slot becomes PeerConnecting. All of these answer 0."
+
+abbrev pub pending : (link id : ℕ) → LeCreditConnReq → Slot
+pending link id req =
+    record {
+      state = PeerConnecting id;
+      link = link;
+      spsm = req .spsm;
+      mps = 0;
+      mtu = 0;
+      account = fresh 0 .account;
+      hold = 0;
+      peer = record { cid = req .scid; mps = req .mps; mtu = req .mtu; credits = req .credits };
+      assembly = fresh 0 .assembly;
+      queue = fresh 0 .queue;
+    }
+
+unfoldable pub onConnReq : Table → (link : ℕ) (listening : Bool) (id : ℕ) → LeCreditConnReqRead → Outcome
+onConnReq t link listening id LeCreditConnReq.Decode = badBody t id
+onConnReq t link listening id (LeCreditConnReq.Is req) =
+    let s = found isFree t in
+    if not (isRegistered t (req .spsm)) then still t Done (refusedResponse id Result.SpsmNotSupported)
+    else if not listening then still t Done (refusedResponse id Result.NoResources)
+    else if ltb (found (usesPeer link (req .scid)) t) (t .n) then still t Done (refusedResponse id Result.ScidAlreadyAllocated)
+    else if leb (t .n) s then still t Done (refusedResponse id Result.NoResources)
+    else change t s (pending link id req) [] Done []
+
+-- ---- 0x15 (4.23): "matched to the lowest Connecting slot with that identifier and link"; row 8: "unmatched connect response frees all
+-- Connecting slots of that link"; row 17: "a response leaves ConnectFailed"
+
+abbrev pub answered : Table → (slot : ℕ) → LeCreditConnRes → Outcome
+answered t s res =
+    let x = slotAt t s in
+    if eqb (resultNumber (res .result)) 0 then change t s (inState Connected (withPeer (record { cid = res .dcid; mps = res .mps; mtu = res .mtu; credits = res .credits }) x)) [] Done []
+    else change t s (inState (ConnectFailed (res .result)) x) [] (Refused (ConnectError (res .result))) []
+
+unfoldable pub onConnRes : Table → (link id : ℕ) → LeCreditConnResRead → Outcome
+onConnRes t link id LeCreditConnRes.Decode = badBody t id
+onConnRes t link id (LeCreditConnRes.Is res) =
+    let s = found (attemptBy link id) t in
+    if leb (t .n) s then sweep t (attemptOf link) (Refused NotFound)
+    else answered t s res
+
+-- ---- 0x16 (4.24): "first Connected slot of this link with that peer CID. A sum above 65,535: Disconnecting, credits kept."
+
+unfoldable pub onCredits : Table → (link id : ℕ) → LeCreditFlowIndRead → Outcome
+onCredits t link id LeCreditFlowInd.Decode = badBody t id
+onCredits t link id (LeCreditFlowInd.Is ind) =
+    let s = found (connectedTo link (ind .cid)) t in
+    let x = slotAt t s in
+    if leb (t .n) s then refuse t NotFound
+    else if ltb creditsMost (x .peer .credits + ind .credits) then leaving t s x (Disconnecting false) (Refused InvalidValue)
+    else change t s (withPeerCredits (x .peer .credits + ind .credits) x) [] Done []
+
+-- ---- 0x06 (4.6): "slot with that CID, this link, not Disconnected → PeerDisconnecting; else reject reason 2"
+
+unfoldable pub onDisconnectionReq : Table → (link id : ℕ) → DisconnectionReqRead → Outcome
+onDisconnectionReq t link id DisconnectionReq.Decode = badBody t id
+onDisconnectionReq t link id (DisconnectionReq.Is req) =
+    let s = slotOf (req .dcid) in
+    if not (isCid t (req .dcid)) then still t Done (rejectReply id 2)
+    else if not (ofLink link (slotAt t s)) then still t Done (rejectReply id 2)
+    else leaving t s (slotAt t s) (PeerDisconnecting id) Done
+
+-- ---- 0x07 (4.7): "SCID names a Disconnecting slot of this link: freed; else nothing."
+
+unfoldable pub onDisconnectionRes : Table → (link id : ℕ) → DisconnectionResRead → Outcome
+onDisconnectionRes t link id DisconnectionRes.Decode = badBody t id
+onDisconnectionRes t link id (DisconnectionRes.Is res) =
+    let s = slotOf (res .scid) in
+    if not (isCid t (res .scid)) then done t
+    else if not (isDisconnecting (slotAt t s .state) && eqb (slotAt t s .link) link) then done t
+    else freeing t s (slotAt t s) Done []
+
+-- ---- 0x12 (4.20): "not Central → reject, answer 0, before the body is read. .. Invalid → response 1; valid → an event, no reply."
+
+unfoldable pub onParameters : Table → (id : ℕ) → ConnParamUpdateReqRead → Outcome
+onParameters t id ConnParamUpdateReq.Decode = badBody t id
+onParameters t id (ConnParamUpdateReq.Is req) =
+    if parametersValid req then still t (Event (req .min) (req .max) (req .latency) (req .timeout)) []
+    else still t Done (given (encodeOf id (Signal.ConnParamUpdateRes (record { result = 1 }))) ∷ [])
+
+-- ---- "0x01 and 0x13: read, no reply, answer 0." (4.1, 4.21)
+
+unfoldable pub onReject : Table → (id : ℕ) → CommandRejectResRead → Outcome
+onReject t id CommandRejectRes.Decode = badBody t id
+onReject t id (CommandRejectRes.Is res) = done t
+
+unfoldable pub onParameterResponse : Table → (id : ℕ) → ConnParamUpdateResRead → Outcome
+onParameterResponse t id ConnParamUpdateRes.Decode = badBody t id
+onParameterResponse t id (ConnParamUpdateRes.Is res) = done t
+
+-- ---- "A match on the code number 0x01, 0x06, 0x07, 0x12 to 0x16, and all others, each to its own handler."
+
+unfoldable pub handled : Table → (link : ℕ) (listening central : Bool) (code id : ℕ) (body : List ℕ) → Outcome
+handled t link listening central code id body =
+    if eqb code 0x01 then onReject t id (commandRejectRes body)
+    else if eqb code 0x06 then onDisconnectionReq t link id (disconnectionReq body)
+    else if eqb code 0x07 then onDisconnectionRes t link id (disconnectionRes body)
+    else if eqb code 0x12 then (if central then onParameters t id (connParamUpdateReq body) else still t Done (rejectReply id 0))
+    else if eqb code 0x13 then onParameterResponse t id (connParamUpdateRes body)
+    else if eqb code 0x14 then onConnReq t link listening id (leCreditConnReq body)
+    else if eqb code 0x15 then onConnRes t link id (leCreditConnRes body)
+    else if eqb code 0x16 then onCredits t link id (leCreditFlowInd body)
+    else still t (Refused NotSupported) (rejectReply id 0)
+
+-- "One call first checks every header in the octets given, then handles the first signal .. Empty input does nothing."
+-- Row 15: "signal header under 4 octets: no reply"; row 9: "signal length past the PDU: reject reply", with that header's identifier.
+unfoldable pub checked : Table → (link : ℕ) (listening central : Bool) (pdu : List ℕ) → Checked → Outcome
+checked t link listening central pdu Cut = refuse t Decode
+checked t link listening central pdu (Past id) = still t (Refused InvalidValue) (rejectReply id 0)
+checked t link listening central pdu Good =
+    if eqb (length pdu) 0 then done t
+    else handled t link listening central (getD pdu 0 0) (getD pdu 1 0) (bodyIn pdu)
+
+unfoldable pub signalled : Table → (room signal link : ℕ) (listening central : Bool) (pdu : List ℕ) → Outcome
+signalled t room signal link listening central pdu =
+    gate t (Is room) (Is signal) (Is link) Nothing (checked t link listening central pdu (headersOf pdu))

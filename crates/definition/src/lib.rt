@@ -1,0 +1,1 @@
+// What every call does, in specs/: the page that a reader must believe. No code.

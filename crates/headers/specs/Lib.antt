@@ -1,0 +1,2 @@
+-- What the headers of the signals in a PDU say.
+pub mod Headers

@@ -1,0 +1,255 @@
+-- Demand 3, proved: by induction on the calls, from `rel-parts` and `rel-memory` (Same), `contained-step` (Contained), and `safe` and
+-- `down-clears` (crate definition).
+use mathlib.Core.Path.{_≡_, refl, sym, _∙_, ap, ap₂, subst}
+use mathlib.Core.Bool.{Bool, true, false, _&&_, false≢true}
+use mathlib.Core.List.{List, [], _∷_, map}
+use Prim.Native.Nat.{ℕ, zero, suc, _*_, _≤_}
+use native.Mathlib.Omega.{arith}
+use lib.Dec.{eqb, leb}
+use lib.ListN.{length, take, getD, length-map, length-replicate}
+use lib.Seq.{getD-take}
+use borrow.Author.Tests.{eqb-true, eq-eqb, ne-eqb, leb-true, not-false}
+use Rattle.lists.specs.Choose.{if-cases}
+use Rattle.lists.specs.Both.{and-left, and-right}
+use Rattle.channel.specs.declared.Slot.{Slot}
+use Rattle.channel.specs.declared.Table.{Table}
+use Rattle.definition.specs.Table.{fresh, gap, slotAt, live, width, roomSize}
+use Rattle.definition.specs.Outcome.{Outcome}
+use Rattle.definition.specs.Asking.{Made, blank, make}
+use Rattle.definition.specs.Calls.{Window, Call, frame, sends, down, plain, jobs, bare, carrier, decide, Holder, nobody, by, holder, isBy}
+use Rattle.definition.specs.Numbers.{answerNumber}
+use Rattle.definition.specs.Ending.{itself}
+use Rattle.definition.specs.Run.{State, lent, outWindow, jobWindow, outcome, roomLeft, memoryLeft, after, made, run, outcomes}
+use Rattle.definition.specs.Public.{framed-bare, framed-count, sent-bare, sent-count}
+use Rattle.definition.specs.Forms.{Fit}
+use Rattle.definition.specs.Safe.{Safe, Without, safe, down-clears}
+use Rattle.isolation.specs.Statement.{isDown, overAfter, Exchanged, sent, framed, Alike, same, exchanged, AlikeRuns, Marks, carries, unmarked, marked, marksFrom, marksOf, Isolated, Demand3}
+use Rattle.isolation.specs.Same.{Rel, nil, cons, rel-take, rel-drop, rel-map, rel-lent, rel-length, rel-parts, rel-memory}
+use Rattle.isolation.specs.Contained.{Off, Clean, clean-dark, length-parts, Contained, contained-step, contained-without, contained-dead, contained-clean, contained-slot}
+
+-- Two octets and a mark: equal unless marked.
+abbrev Agree : ℕ → ℕ → Bool → Type 0
+Agree a b m = m ≡ false → a ≡ b
+
+agree-same : (xs : List ℕ) → Rel Agree xs xs (map (λ _. false) xs)
+agree-same [] = nil
+agree-same (x ∷ xs) = cons (λ _. refl) (agree-same xs)
+
+agree-true : (xs ys : List ℕ) → length xs ≡ length ys → Rel Agree xs ys (map (λ _. true) xs)
+agree-true [] [] e = nil
+agree-true [] (y ∷ ys) e = absurd (omega arith)
+agree-true (x ∷ xs) [] e = absurd (omega arith)
+agree-true (x ∷ xs) (y ∷ ys) e = cons (λ f. absurd (false≢true (sym f))) (agree-true xs ys (omega arith))
+
+agree-jobs : (xs ys : List ℕ) (b : Bool) → length xs ≡ length ys → (b ≡ false → xs ≡ ys) → Rel Agree xs ys (map (λ _. b) xs)
+agree-jobs xs ys true e f = agree-true xs ys e
+agree-jobs xs ys false e f = subst (λ (zs : List ℕ). Rel Agree xs zs (map (λ _. false) xs)) (f refl) (agree-same xs)
+
+agree-at : {xs ys : List ℕ} {ms : List Bool} → Rel Agree xs ys ms → (i : ℕ) → getD ms i false ≡ false → getD xs i 0 ≡ getD ys i 0
+agree-at nil i e = refl
+agree-at (cons h r) zero e = h e
+agree-at (cons h r) (suc i) e = agree-at r i e
+
+agree-clean : {xs ys : List ℕ} {ms : List Bool} → Rel Agree xs ys ms → Clean ms → xs ≡ ys
+agree-clean nil c = refl
+agree-clean (cons h r) (cons e c) = ap₂ (λ (x : ℕ) (xs : List ℕ). x ∷ xs) (h e) (agree-clean r c)
+
+clean-jobs : (xs : List ℕ) (b : Bool) → b ≡ false → Clean (map (λ _. b) xs)
+clean-jobs xs b e = rel-map Off (λ _. b) (λ _. b) (λ _. b) (λ x. e) xs
+
+not-by : (k : ℕ) (h : Holder) → ¬ (h ≡ by k) → isBy k h ≡ false
+not-by k nobody e = refl
+not-by k (by l) e = ne-eqb k l (λ q. e (ap by (sym q)))
+
+abbrev state : Table → List ℕ → List ℕ → State
+state t r m = record { table = t; room = r; memory = m }
+
+-- ---- what alike calls have in common
+
+record Common (t : Table) (c d : Call) : Type 0 where
+  bare : bare t c ≡ bare t d
+  count : length (jobs t c) ≡ length (jobs t d)
+  out : outWindow c ≡ outWindow d
+  job : jobWindow c ≡ jobWindow d
+
+exchanged-common : {k : ℕ} {t : Table} {c d : Call} → Exchanged k t c d → Common t c d
+exchanged-common {t = t} (sent {s = s} {x = x} {y = y} {out = o} h e) = record { bare = sent-bare t s x y o; count = sent-count t s x y o e; out = refl; job = refl }
+exchanged-common {k} {t} (framed {cid = cid} {x = x} {y = y} e f) = record { bare = framed-bare t k cid x y f; count = framed-count t k cid x y e; out = refl; job = refl }
+
+exchanged-carrier : {k : ℕ} {t : Table} {c d : Call} → Exchanged k t c d → carrier t c ≡ by k
+unfolding carrier
+exchanged-carrier (sent h e) = h
+exchanged-carrier (framed e f) = refl
+
+module _ {k j over : ℕ} {t : Table} {c : Call} where
+  alike-common : {d : Call} → Alike k j over t c d → Common t c d
+  alike-common same = record { bare = refl; count = refl; out = refl; job = refl }
+  alike-common (exchanged g h) = exchanged-common h
+
+  alike-jobs : {d : Call} → Alike k j over t c d → carries k j over t c ≡ false → jobs t c ≡ jobs t d
+  alike-jobs same f = refl
+  alike-jobs (exchanged g h) f = absurd (false≢true (sym f ∙ ap₂ (λ (a b : Bool). a && b) (eq-eqb over j g) (ap (isBy k) (exchanged-carrier h) ∙ eq-eqb k k refl)))
+
+-- a link-down that ends a life leaves no slot of its link
+clears : (k : ℕ) (t : Table) (c : Call) (count room out job : ℕ) → isDown k c ≡ true
+    → answerNumber (decide t (bare t c) count room out job .answer) ≡ 0 → Without k (live (decide t (bare t c) count room out job .table))
+unfolding decide bare
+clears k t (frame link cid payload) count room out job e = absurd (false≢true e)
+clears k t (sends s sdu w) count room out job e = absurd (false≢true e)
+clears k t (down link) count room out job e = rw (eqb-true k link e) (down-clears t link room)
+clears k t (plain r v w) count room out job e = absurd (false≢true e)
+
+module _ (k j : ℕ) where
+  record Kept (t : Table) (ra rb ma mb : List ℕ) (m : Marks) : Type 0 where
+    room : Rel Agree ra rb (m .room)
+    memory : Rel Agree ma mb (m .memory)
+    contained : Contained k (width t) (eqb (m .over) j) (live t) (m .room)
+    sized : length ra ≡ roomSize t
+    fit : Fit t
+
+  isolated : {t : Table} {ra rb ma mb : List ℕ} {m : Marks} → Kept t ra rb ma mb m → Isolated k j m (state t ra ma) (state t rb mb)
+  isolated {t} {ra} {rb} {ma} {mb} {m} h =
+      record {
+        table = refl;
+        size = rel-length Agree (h .memory);
+        memory = agree-at (h .memory);
+        sizes = (h .sized, sym (rel-length Agree (h .room)) ∙ h .sized);
+        room = λ s lt e. agree-clean (rel-take Agree (width t) (rel-drop Agree (s * width t) (h .room)))
+            (contained-slot k (width t) _ (live t) (m .room) s (h .contained)
+            (rw (getD-take (t .n) (t .slots) s gap lt) (not-by k (holder (slotAt t s)) e)));
+        down = λ lt. agree-clean (h .room) (contained-dead k (width t) (live t) (m .room)
+            (subst (λ (b : Bool). Contained k (width t) b (live t) (m .room)) (ne-eqb (m .over) j (λ e. omega arith)) (h .contained)));
+      }
+
+  -- One call. The second run's outcome and windows are the first's.
+  module _ (t : Table) (ra rb ma mb : List ℕ) (m : Marks) (h : Kept t ra rb ma mb m) (c d : Call) (e : Alike k j (m .over) t c d) where
+    abbrev o : Outcome
+    o = outcome (state t ra ma) c
+
+    lengths : (v w : Window) → v ≡ w → length (lent w mb) ≡ length (lent v ma)
+    lengths v w q = ap (λ (u : Window). length (lent u mb)) (sym q) ∙ sym (rel-length Agree (rel-lent Agree v (h .memory)))
+
+    agreed : outcome (state t rb mb) d ≡ o
+    agreed =
+        let q = alike-common e in
+        rw (← q .bare, ← q .count, ← rel-length Agree (h .room), lengths (outWindow c) (outWindow d) (q .out), lengths (jobWindow c) (jobWindow d) (q .job)) refl
+
+    -- the second run's state, told by the first's outcome
+    next-b : State
+    next-b =
+        state (o .table) (roomLeft itself (jobs t d) t o rb) (memoryLeft itself (jobs t d) o (outWindow c) (jobWindow c) rb mb)
+
+    afters : after (state t rb mb) d ≡ next-b
+    unfolding after next-b
+    afters =
+        let q = alike-common e in
+        ap (λ (p : Outcome). state (p .table) (roomLeft itself (jobs t d) t p rb) (memoryLeft itself (jobs t d) p (outWindow d) (jobWindow d) rb mb)) agreed
+        ∙ ap₂ (λ (v w : Window). state (o .table) (roomLeft itself (jobs t d) t o rb) (memoryLeft itself (jobs t d) o v w rb mb)) (sym (q .out)) (sym (q .job))
+
+    jobs-agree : Rel Agree (jobs t c) (jobs t d) (map (λ _. carries k j (m .over) t c) (jobs t c))
+    jobs-agree = agree-jobs (jobs t c) (jobs t d) (carries k j (m .over) t c) (alike-common e .count) (alike-jobs e)
+
+    kept : Kept (o .table) (after (state t ra ma) c .room) (next-b .room) (after (state t ra ma) c .memory) (next-b .memory) (marked k j (state t ra ma) m c)
+    unfolding after next-b marked overAfter
+    kept =
+        let b : Bool = carries k j (m .over) t c in
+        let js : List Bool = map (λ _. b) (jobs t c) in
+        let s : Safe t (carrier t c) o = safe t (h .fit) c _ _ _ _ in
+        let ms : List Bool = roomLeft unmarked js t o (m .room) in
+        let now : Contained k (width t) (eqb (m .over) j) (live (o .table)) ms =
+        contained-step k (width t) (eqb (m .over) j) (carrier t c) js (λ f. clean-jobs (jobs t c) b f) (s .parts) (m .room) (h .contained) in
+        record {
+          room = rel-parts Agree itself itself unmarked (λ x _. refl) jobs-agree (width t) (h .room) (o .parts);
+          memory = rel-memory Agree itself itself unmarked (λ x _. refl) jobs-agree o (outWindow c) (jobWindow c) (h .room) (h .memory);
+          contained = rw (s .width)
+              (if-cases (λ (n : ℕ). Contained k (width t) (eqb n j) (live (o .table)) ms) _
+              (λ f. contained-clean k (width t) _ (live (o .table)) ms
+              (contained-without k (width t) _ (live (o .table)) ms
+              (clears k t c _ _ _ _ (and-left _ _ f) (eqb-true _ _ (and-right (isDown k c) _ f))) now))
+              (λ _. now));
+          sized = length-parts itself (jobs t c) (width t) (o .parts) ra ∙ h .sized ∙ rw (s .slots, s .width) refl;
+          fit = s .fit;
+        }
+
+  record Both (m : Marks) (a b : State) (x y : List Outcome) : Type 0 where
+    states : Isolated k j m a b
+    called : x ≡ y
+
+  runs : (cs ds : List Call) (t : Table) (ra rb ma mb : List ℕ) (m : Marks) → Kept t ra rb ma mb m → AlikeRuns k j (m .over) (state t ra ma) cs ds
+      → Both (marksFrom k j (state t ra ma) m cs) (run (state t ra ma) cs) (run (state t rb mb) ds) (outcomes (state t ra ma) cs) (outcomes (state t rb mb) ds)
+  unfolding run outcomes marksFrom marked after next-b
+  runs [] [] t ra rb ma mb m h e = record { states = isolated h; called = refl }
+  runs [] (d ∷ ds) t ra rb ma mb m h e = absurd e
+  runs (c ∷ cs) [] t ra rb ma mb m h e = absurd e
+  runs (c ∷ cs) (d ∷ ds) t ra rb ma mb m h e =
+      let a : State = after (state t ra ma) c in
+      let b : State = next-b t ra rb ma mb m h c d (e .0) in
+      let more = runs cs ds (a .table) (a .room) (b .room) (a .memory) (b .memory) (marked k j (state t ra ma) m c) (kept t ra rb ma mb m h c d (e .0)) (e .1) in
+      let q = sym (afters t ra rb ma mb m h c d (e .0)) in
+      record {
+        states = subst (λ (z : State). Isolated k j (marksFrom k j a (marked k j (state t ra ma) m c) cs) (run a cs) (run z ds)) q (more .states);
+        called = ap₂ (λ (x : Outcome) (xs : List Outcome). x ∷ xs) (sym (agreed t ra rb ma mb m h c d (e .0))) (more .called ∙ ap (λ (z : State). outcomes z ds) q);
+      }
+
+-- ---- from tables that were made
+
+-- what a making that answers 0 leaves
+record Start (n d m : ℕ) (before : List ℕ) (made : Made) : Type 0 where
+  table : made .table ≡ blank n d m
+  room : made .room ≡ map (λ _. 0) before
+  size : length before ≡ roomSize (blank n d m)
+  fits : n ≤ 16
+
+start : (n d m : ℕ) (room : List ℕ) → answerNumber (make n d m room .answer) ≡ 0 → Start n d m room (make n d m room)
+unfolding make
+start n d m room =
+    if-cases (λ (x : Made). answerNumber (x .answer) ≡ 0 → Start n d m room x) _
+    (λ _ (e : _≡_ {A = ℕ} 1 0). absurd (omega arith))
+    (λ f. if-cases (λ (x : Made). answerNumber (x .answer) ≡ 0 → Start n d m room x) _
+    (λ _ (e : _≡_ {A = ℕ} 2 0). absurd (omega arith))
+    (λ g _. record {
+      table = refl;
+      room = refl;
+      size = eqb-true _ _ (not-false _ g);
+      fits = leb-true n 16 (and-left (leb n 16) _ (and-right (leb 1 n) _ (not-false _ f)));
+    }))
+
+zeroed : (xs ys : List ℕ) → length xs ≡ length ys → _≡_ {A = List ℕ} (map (λ _. 0) xs) (map (λ _. 0) ys)
+zeroed [] [] e = refl
+zeroed [] (y ∷ ys) e = absurd (omega arith)
+zeroed (x ∷ xs) [] e = absurd (omega arith)
+zeroed (x ∷ xs) (y ∷ ys) e = ap (λ (r : List ℕ). 0 ∷ r) (zeroed xs ys (omega arith))
+
+at-end : (k j n d m : ℕ) (room₁ room₂ memory : List ℕ) → answerNumber (make n d m room₁ .answer) ≡ 0 → answerNumber (make n d m room₂ .answer) ≡ 0
+    → (cs ds : List Call) → AlikeRuns k j 0 (made n d m room₁ memory) cs ds
+    → Both k j (marksOf k j (made n d m room₁ memory) cs) (run (made n d m room₁ memory) cs) (run (made n d m room₂ memory) ds)
+    (outcomes (made n d m room₁ memory) cs) (outcomes (made n d m room₂ memory) ds)
+at-end k j n d m room₁ room₂ memory h₁ h₂ cs ds =
+    let s₁ = start n d m room₁ h₁ in
+    let s₂ = start n d m room₂ h₂ in
+    let zs : List ℕ = map (λ _. 0) room₁ in
+    let t : Table = blank n d m in
+    let q : make n d m room₂ .room ≡ zs = s₂ .room ∙ zeroed room₂ room₁ (s₂ .size ∙ sym (s₁ .size)) in
+    rw (s₁ .table, s₁ .room, s₂ .table, q) λ e.
+    runs k j cs ds t zs zs memory memory (record { over = 0; room = map unmarked zs; memory = map unmarked memory })
+    (record {
+      room = agree-same zs;
+      memory = agree-same memory;
+      contained = contained-clean k (width t) _ (live t) _ (clean-dark zs);
+      sized = length-map room₁ (λ _. 0) ∙ s₁ .size;
+      fit = record { fits = omega (arith, s₁ .fits, length-replicate {A = Slot} 16 (fresh 0)) };
+    }) e
+
+-- runs that are alike are alike as far as any call
+so-far : (k j : ℕ) (i over : ℕ) (s : State) (cs ds : List Call) → AlikeRuns k j over s cs ds → AlikeRuns k j over s (take i cs) (take i ds)
+so-far k j zero over s cs ds e = tt
+so-far k j (suc i) over s [] [] e = tt
+so-far k j (suc i) over s [] (d ∷ ds) e = e
+so-far k j (suc i) over s (c ∷ cs) [] e = e
+so-far k j (suc i) over s (c ∷ cs) (d ∷ ds) e = (e .0, so-far k j i (overAfter k over s c) (after s c) cs ds (e .1))
+
+pub isolation : Demand3
+isolation k j n d m room₁ room₂ memory cs ds h₁ h₂ e = (
+  at-end k j n d m room₁ room₂ memory h₁ h₂ cs ds e .called,
+  λ i. at-end k j n d m room₁ room₂ memory h₁ h₂ (take i cs) (take i ds) (so-far k j i 0 (made n d m room₁ memory) cs ds e) .states,
+)

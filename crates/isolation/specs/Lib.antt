@@ -1,0 +1,5 @@
+pub mod Statement
+pub mod Same
+pub mod Contained
+pub mod Isolation
+pub mod Example

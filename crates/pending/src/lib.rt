@@ -1,0 +1,41 @@
+// Connections that the peer asks for: next pending (the original's name). Its contract is the equation with the definition of the call.
+ghost use mathlib.Core.Path.{_≡_};
+ghost use Rattle.definition.specs.Ending.{servedOf};
+ghost use Rattle.definition.specs.Pending.{nextPending};
+use channel::Answer;
+use channel::Given;
+use channel::Served;
+use channel::Table;
+use channel::Verdict;
+use codes::Refusal;
+use slot::Want;
+
+// The lowest pending connection of the link, which gets a hold.
+pub fn next_pending(t: Table, link: u16, up: bool) -> Served
+    ensures { λ r. ⌜ r ≡ servedOf (nextPending t link up) ⌝ }
+{
+    match gate::gate(
+        t,
+        Given::Nothing,
+        Given::Nothing,
+        Given::Is(link as usize),
+        Given::Nothing,
+    ) {
+        Verdict::Stop(r) => slots::refused(t, r),
+        Verdict::Pass => {
+            let s = slots::find(t, Want::PendingOf(link));
+            if t.n <= s {
+                if up {
+                    return slots::done(t);
+                }
+                return slots::refused(t, Refusal::Disconnected);
+            }
+            let x = slots::slot_at(t, s);
+            if x.hold != 0 {
+                return slots::refused(t, Refusal::Held);
+            }
+            let i = slots::index_at(s);
+            slots::changed(t, s, slot::with_hold(x, 1), Answer::At(i), 0)
+        }
+    }
+}

@@ -1,0 +1,27 @@
+-- What a slot is searched for, as a value: each search of the crate `definition` by its name.
+use mathlib.Core.Bool.{Bool}
+use Prim.Native.Nat.{ℕ}
+use lib.Dec.{leb}
+use lib.ListN.{take}
+use Rattle.lists.specs.Every.{every}
+use Rattle.channel.specs.declared.Queue.{Queue}
+use Rattle.channel.specs.declared.Slot.{Slot}
+use Rattle.definition.specs.Table.{isFree, ofLink, pendingOf, unheldPendingOf, attemptOf, attemptBy, connectedTo, usesPeer, dueSlot, calls}
+use Rattle.slot.specs.declared.Want.{Want}
+use Rattle.slot.specs.declared.Want.the-variants.{Free, OfLink, PendingOf, UnheldPendingOf, AttemptOf, AttemptBy, ConnectedTo, UsesPeer, Due, Calls}
+
+abbrev pub wanted : Want → Slot → Bool
+wanted Free x = isFree x
+wanted (OfLink l) x = ofLink l x
+wanted (PendingOf l) x = pendingOf l x
+wanted (UnheldPendingOf l) x = unheldPendingOf l x
+wanted (AttemptOf l) x = attemptOf l x
+wanted (AttemptBy l id) x = attemptBy l id x
+wanted (ConnectedTo l cid) x = connectedTo l cid x
+wanted (UsesPeer l cid) x = usesPeer l cid x
+wanted Due x = dueSlot x
+wanted Calls x = calls x
+
+-- each job that waits fits its place
+abbrev pub lensFit : ℕ → Queue → Bool
+lensFit place q = every (λ n. leb n place) (take (q .count) (q .lens))

@@ -1,0 +1,17 @@
+-- `slots::is_cid` meets its contract: the two tests of the definition, in its order.
+use borrow.Author.Needs.{needs}
+use Rattle.lists.proofs.Rules.{tests}
+use Rattle.slots.proofs.is_cid.Statement.{statement}
+use Rattle.slots.proofs.is_cid.Tie as tie
+
+cast-c : tie.Need-cast-c
+cast-c c = search needs
+
+returns : tie.Need-returns
+returns c = search tests
+
+returns-2 : tie.Need-returns-2
+returns-2 c = search tests
+
+pub is-cid-spec : {M : Type 1} → statement M
+is-cid-spec = tie.close (tie.spec cast-c returns returns-2)

@@ -1,0 +1,2 @@
+-- What the octets of a signal are.
+pub mod Writer

@@ -8,8 +8,9 @@ use Rattle.lists.specs.Choose.{choose}
 use Rattle.lists.specs.First.{first}
 use Rattle.lists.specs.Every.{every}
 use Rattle.credit.specs.declared.CreditFlowPolicy.the-variants.{Every}
-use Rattle.signal.specs.Fuel.{whole, fuelled}
-use Rattle.signal.specs.Headers.{headersOf}
+use Rattle.lists.specs.Fuel.{whole, fuelled}
+use Rattle.headers.specs.Headers.{headersOf}
+use Rattle.signal.specs.Bodies.{leCreditConnReq, leCreditFlowInd}
 use Rattle.channel.specs.declared.ChannelState.the-variants.{Connected, Disconnecting}
 use Rattle.channel.specs.declared.L2capChannelConfig.{L2capChannelConfig}
 use Rattle.channel.specs.declared.Setting.the-variants.{Default}
@@ -68,7 +69,7 @@ pub record Bench : Type 0 where
   pub above : (head : List ℕ) (k : ℕ) → number (framed 0x42 head k .answer) ≡ 7
 
 pub bench : Bench
-unfolding make decide serve registerSpsm signalled checked handled headersOf whole fuelled onConnReq onCredits nextPending acceptPending dispatch verdict wellFormed slotFits every first choose only
+unfolding make decide serve registerSpsm signalled checked handled headersOf whole fuelled onConnReq leCreditConnReq onCredits leCreditFlowInd nextPending acceptPending dispatch verdict wellFormed slotFits every first choose only
 bench =
     record {
       held = refl;

@@ -13,26 +13,26 @@ use Rattle.codes.specs.declared.LeCreditConnResultCode.{LeCreditConnResultCode}
 use Rattle.credit.specs.declared.Grant.{Grant}
 use Rattle.credit.specs.declared.Grant.the-variants as Grant
 use Rattle.credit.specs.Account.{grantOf}
-use Rattle.signal.specs.declared.headers.Checked.{Checked}
-use Rattle.signal.specs.declared.headers.Checked.the-variants.{Good, Cut, Past}
-use Rattle.signal.specs.declared.bodies.CommandRejectRes.{CommandRejectRes}
-use Rattle.signal.specs.declared.bodies.CommandRejectRes.the-variants as CommandRejectRes
-use Rattle.signal.specs.declared.bodies.DisconnectionReq.{DisconnectionReq}
-use Rattle.signal.specs.declared.bodies.DisconnectionReq.the-variants as DisconnectionReq
-use Rattle.signal.specs.declared.bodies.DisconnectionRes.{DisconnectionRes}
-use Rattle.signal.specs.declared.bodies.DisconnectionRes.the-variants as DisconnectionRes
-use Rattle.signal.specs.declared.bodies.ConnParamUpdateReq.{ConnParamUpdateReq}
-use Rattle.signal.specs.declared.bodies.ConnParamUpdateReq.the-variants as ConnParamUpdateReq
-use Rattle.signal.specs.declared.bodies.ConnParamUpdateRes.{ConnParamUpdateRes}
-use Rattle.signal.specs.declared.bodies.ConnParamUpdateRes.the-variants as ConnParamUpdateRes
-use Rattle.signal.specs.declared.bodies.LeCreditConnReq.{LeCreditConnReq}
-use Rattle.signal.specs.declared.bodies.LeCreditConnReq.the-variants as LeCreditConnReq
-use Rattle.signal.specs.declared.bodies.LeCreditConnRes.{LeCreditConnRes}
-use Rattle.signal.specs.declared.bodies.LeCreditConnRes.the-variants as LeCreditConnRes
-use Rattle.signal.specs.declared.bodies.LeCreditFlowInd.{LeCreditFlowInd}
-use Rattle.signal.specs.declared.bodies.LeCreditFlowInd.the-variants as LeCreditFlowInd
-use Rattle.signal.specs.declared.replies.Signal.{Signal}
-use Rattle.signal.specs.declared.replies.Signal.the-variants as Signal
+use Rattle.headers.specs.declared.Checked.{Checked}
+use Rattle.headers.specs.declared.Checked.the-variants.{Good, Cut, Past}
+use Rattle.signal.specs.declared.bodies.CommandRejectResRead.{CommandRejectResRead}
+use Rattle.signal.specs.declared.bodies.CommandRejectResRead.the-variants as CommandRejectRes
+use Rattle.signal.specs.declared.bodies.DisconnectionReqRead.{DisconnectionReqRead}
+use Rattle.signal.specs.declared.bodies.DisconnectionReqRead.the-variants as DisconnectionReq
+use Rattle.signal.specs.declared.bodies.DisconnectionResRead.{DisconnectionResRead}
+use Rattle.signal.specs.declared.bodies.DisconnectionResRead.the-variants as DisconnectionRes
+use Rattle.signal.specs.declared.bodies.ConnParamUpdateReqRead.{ConnParamUpdateReqRead}
+use Rattle.signal.specs.declared.bodies.ConnParamUpdateReqRead.the-variants as ConnParamUpdateReq
+use Rattle.signal.specs.declared.bodies.ConnParamUpdateResRead.{ConnParamUpdateResRead}
+use Rattle.signal.specs.declared.bodies.ConnParamUpdateResRead.the-variants as ConnParamUpdateRes
+use Rattle.signal.specs.declared.bodies.LeCreditConnReqRead.{LeCreditConnReqRead}
+use Rattle.signal.specs.declared.bodies.LeCreditConnReqRead.the-variants as LeCreditConnReq
+use Rattle.signal.specs.declared.bodies.LeCreditConnResRead.{LeCreditConnResRead}
+use Rattle.signal.specs.declared.bodies.LeCreditConnResRead.the-variants as LeCreditConnRes
+use Rattle.signal.specs.declared.bodies.LeCreditFlowIndRead.{LeCreditFlowIndRead}
+use Rattle.signal.specs.declared.bodies.LeCreditFlowIndRead.the-variants as LeCreditFlowInd
+use Rattle.signal.specs.declared.forms.Signal.{Signal}
+use Rattle.signal.specs.declared.forms.Signal.the-variants as Signal
 use Rattle.channel.specs.Limits.{creditsMost, cidBase}
 use Rattle.channel.specs.declared.Answer.{Answer}
 use Rattle.channel.specs.declared.L2capChannelConfig.{L2capChannelConfig}
@@ -170,7 +170,7 @@ module _ (t : Table) (k room : ℕ) (l : t .n ≤ length (t .slots)) (well : wel
         sum = credits-fit (t .d) (c .credits) hd f;
         assembly = refl;
         queue = refl;
-      })) _ _ refl (told (Signal.LeCreditConnReq spsm (cidOf (found isFree t)) (mtuOf t c) (mpsOf t c) (creditsOf t c)))))))
+      })) _ _ refl (told (Signal.LeCreditConnReq (record { spsm = spsm; scid = cidOf (found isFree t); mtu = mtuOf t c; mps = mpsOf t c; credits = creditsOf t c })))))))
 
   opened-steps : (s link : ℕ) (up : Bool) → Stepped t k (opened t room s link up)
   unfolding opened
@@ -231,14 +231,14 @@ module _ (t : Table) (k room : ℕ) (l : t .n ≤ length (t .slots)) (well : wel
       let h = leb-false (t .n) s e in
       let b = due-begun (slotAt t s .state) (found-passes dueSlot t l h) in
       if-cases P _ (λ _. stepped-change t k s _ _ h l (free _) _ _ refl)
-      (λ _. stepped-change-spent t k s _ _ h l (go (goes-on (begun-live (slotAt t s .state) b) refl refl) same keep) _ _ refl (told (Signal.DisconnectionReq (slotAt t s .peer .cid) (cidOf s))))))
+      (λ _. stepped-change-spent t k s _ _ h l (go (goes-on (begun-live (slotAt t s .state) b) refl refl) same keep) _ _ refl (told (Signal.DisconnectionReq (record { dcid = slotAt t s .peer .cid; scid = cidOf s }))))))
 
   -- ---- signals
 
-  on-conn-req : (link : ℕ) (listening : Bool) (id : ℕ) (r : LeCreditConnReq) → Stepped t k (onConnReq t link listening id r)
+  on-conn-req : (link : ℕ) (listening : Bool) (id : ℕ) (r : LeCreditConnReqRead) → Stepped t k (onConnReq t link listening id r)
   unfolding onConnReq
-  on-conn-req link listening id LeCreditConnReq.Bad = stays refl
-  on-conn-req link listening id (LeCreditConnReq.Is spsm scid mtu mps credits) =
+  on-conn-req link listening id LeCreditConnReq.Decode = stays refl
+  on-conn-req link listening id (LeCreditConnReq.Is req) =
       if-cases P _ (λ _. stays refl)
       (λ _. if-cases P _ (λ _. stays refl)
       (λ _. if-cases P _ (λ _. stays refl)
@@ -258,10 +258,10 @@ module _ (t : Table) (k room : ℕ) (l : t .n ≤ length (t .slots)) (well : wel
         queue = refl;
       })) _ _ refl))))
 
-  on-conn-res : (link id : ℕ) (r : LeCreditConnRes) → Stepped t k (onConnRes t link id r)
+  on-conn-res : (link id : ℕ) (r : LeCreditConnResRead) → Stepped t k (onConnRes t link id r)
   unfolding onConnRes
-  on-conn-res link id LeCreditConnRes.Bad = stays refl
-  on-conn-res link id (LeCreditConnRes.Is dcid mtu mps credits result) =
+  on-conn-res link id LeCreditConnRes.Decode = stays refl
+  on-conn-res link id (LeCreditConnRes.Is res) =
       if-cases P _ (λ _. stepped-sweep t k (attemptOf link) _ refl)
       (λ e.
       let s = found (attemptBy link id) t in
@@ -272,50 +272,50 @@ module _ (t : Table) (k room : ℕ) (l : t .n ≤ length (t .slots)) (well : wel
       (λ _. stepped-change t k s _ _ h l
       (go (record { was = attempt-live (slotAt t s .state) c; is = refl; stays = λ b. absurd (false≢true (sym (attempt-unbegun (slotAt t s .state) c) ∙ b)); mtu = refl }) same keep) _ _ refl))
 
-  on-credits : (link id : ℕ) (r : LeCreditFlowInd) → Stepped t k (onCredits t link id r)
+  on-credits : (link id : ℕ) (r : LeCreditFlowIndRead) → Stepped t k (onCredits t link id r)
   unfolding onCredits
-  on-credits link id LeCreditFlowInd.Bad = stays refl
-  on-credits link id (LeCreditFlowInd.Is cid credits) =
+  on-credits link id LeCreditFlowInd.Decode = stays refl
+  on-credits link id (LeCreditFlowInd.Is ind) =
       if-cases P _ (λ _. stays refl)
       (λ e.
-      let s = found (connectedTo link cid) t in
+      let s = found (connectedTo link (ind .cid)) t in
       let h = leb-false (t .n) s e in
-      let c = connected-slot link cid (slotAt t s) (found-passes (connectedTo link cid) t l h) in
+      let c = connected-slot link (ind .cid) (slotAt t s) (found-passes (connectedTo link (ind .cid)) t l h) in
       if-cases P _
       (λ _. stepped-change t k s _ _ h l (go (goes-on (connected-live (slotAt t s) c) refl refl) same leave) _ _ refl)
       (λ _. stepped-change t k s _ _ h l (go (goes-on (connected-live (slotAt t s) c) (connected-begun (slotAt t s .state) c) refl) same keep) _ _ refl))
 
-  on-disconnection-req : (link id : ℕ) (r : DisconnectionReq) → Stepped t k (onDisconnectionReq t link id r)
+  on-disconnection-req : (link id : ℕ) (r : DisconnectionReqRead) → Stepped t k (onDisconnectionReq t link id r)
   unfolding onDisconnectionReq
-  on-disconnection-req link id DisconnectionReq.Bad = stays refl
-  on-disconnection-req link id (DisconnectionReq.Is dcid scid) =
+  on-disconnection-req link id DisconnectionReq.Decode = stays refl
+  on-disconnection-req link id (DisconnectionReq.Is req) =
       if-cases P _ (λ _. stays refl)
       (λ e. if-cases P _ (λ _. stays refl)
-      (λ f. stepped-change t k (slotOf dcid) _ _ (cid-slot t dcid (not-false _ e)) l
-      (go (goes-on (link-slot link (slotAt t (slotOf dcid)) (not-false _ f)) refl refl) same leave) _ _ refl))
+      (λ f. stepped-change t k (slotOf (req .dcid)) _ _ (cid-slot t (req .dcid) (not-false _ e)) l
+      (go (goes-on (link-slot link (slotAt t (slotOf (req .dcid))) (not-false _ f)) refl refl) same leave) _ _ refl))
 
-  on-disconnection-res : (link id : ℕ) (r : DisconnectionRes) → Stepped t k (onDisconnectionRes t link id r)
+  on-disconnection-res : (link id : ℕ) (r : DisconnectionResRead) → Stepped t k (onDisconnectionRes t link id r)
   unfolding onDisconnectionRes
-  on-disconnection-res link id DisconnectionRes.Bad = stays refl
-  on-disconnection-res link id (DisconnectionRes.Is dcid scid) =
+  on-disconnection-res link id DisconnectionRes.Decode = stays refl
+  on-disconnection-res link id (DisconnectionRes.Is res) =
       if-cases P _ (λ _. stays refl)
       (λ e. if-cases P _ (λ _. stays refl)
-      (λ _. stepped-change t k (slotOf scid) _ _ (cid-slot t scid (not-false _ e)) l (free _) _ _ refl))
+      (λ _. stepped-change t k (slotOf (res .scid)) _ _ (cid-slot t (res .scid) (not-false _ e)) l (free _) _ _ refl))
 
-  on-parameters : (id : ℕ) (r : ConnParamUpdateReq) → Stepped t k (onParameters t id r)
+  on-parameters : (id : ℕ) (r : ConnParamUpdateReqRead) → Stepped t k (onParameters t id r)
   unfolding onParameters
-  on-parameters id ConnParamUpdateReq.Bad = stays refl
-  on-parameters id (ConnParamUpdateReq.Is min max latency timeout) = if-cases P _ (λ _. stays refl) (λ _. stays refl)
+  on-parameters id ConnParamUpdateReq.Decode = stays refl
+  on-parameters id (ConnParamUpdateReq.Is req) = if-cases P _ (λ _. stays refl) (λ _. stays refl)
 
-  on-reject : (id : ℕ) (r : CommandRejectRes) → Stepped t k (onReject t id r)
+  on-reject : (id : ℕ) (r : CommandRejectResRead) → Stepped t k (onReject t id r)
   unfolding onReject
-  on-reject id CommandRejectRes.Bad = stays refl
-  on-reject id (CommandRejectRes.Is reason) = stays refl
+  on-reject id CommandRejectRes.Decode = stays refl
+  on-reject id (CommandRejectRes.Is res) = stays refl
 
-  on-parameter-response : (id : ℕ) (r : ConnParamUpdateRes) → Stepped t k (onParameterResponse t id r)
+  on-parameter-response : (id : ℕ) (r : ConnParamUpdateResRead) → Stepped t k (onParameterResponse t id r)
   unfolding onParameterResponse
-  on-parameter-response id ConnParamUpdateRes.Bad = stays refl
-  on-parameter-response id (ConnParamUpdateRes.Is result) = stays refl
+  on-parameter-response id ConnParamUpdateRes.Decode = stays refl
+  on-parameter-response id (ConnParamUpdateRes.Is res) = stays refl
 
   handled-steps : (link : ℕ) (listening central : Bool) (code id : ℕ) (body : List ℕ) → Stepped t k (handled t link listening central code id body)
   unfolding handled
@@ -350,7 +350,7 @@ module _ (t : Table) (k room : ℕ) (l : t .n ≤ length (t .slots)) (well : wel
   unfolding taken
   taken-steps s size h b c Grant.Nothing f = with-job _ (stepped-change t k s _ _ h l (go (goes-on (begun-live (slotAt t s .state) b) b refl) same (hand b c)) _ _ refl)
   taken-steps s size h b c (Grant.Credits n) f =
-      with-job _ (stepped-change-spent t k s _ _ h l (go (goes-on (begun-live (slotAt t s .state) b) b refl) (grant (f n refl)) (hand b c)) _ _ refl (told (Signal.LeCreditFlowInd (cidOf s) n)))
+      with-job _ (stepped-change-spent t k s _ _ h l (go (goes-on (begun-live (slotAt t s .state) b) b refl) (grant (f n refl)) (hand b c)) _ _ refl (told (Signal.LeCreditFlowInd (record { cid = cidOf s; credits = n }))))
 
   receive-steps : (signal s size : ℕ) → Stepped t k (receive t room signal s size)
   unfolding receive
@@ -377,7 +377,7 @@ module _ (t : Table) (k room : ℕ) (l : t .n ≤ length (t .slots)) (well : wel
       let h = cid-slot t cid on in
       let ok = sound s h in
       stepped-joined t k s h l (not-false (isConnected (x .state)) c) (eqb-false (x .account .credits) 0 z) _
-      (step-joins (placeOf t) (t .d) (x .assembly) (x .queue .count) k (x .mtu) (x .mps) (u16At head 0) head (ok .mtu) (ok .holding .want) (ok .holding .closed) (headed on)))))))
+      (step-joins (placeOf t) (t .d) (x .assembly) (x .queue .count) k (ok .holding .closed) (x .mtu) (x .mps) (u16At head 0) head (ok .mtu) (ok .holding .want) (headed on)))))))
 
   send-steps : (s size out : ℕ) → Stepped t k (send t s size out)
   unfolding send

@@ -14,13 +14,13 @@ use Rattle.credit.specs.declared.CreditFlowControl.{CreditFlowControl}
 use Rattle.credit.specs.Account.{creditSum}
 use Rattle.credit.specs.AccountLaws.{received-sum, grant-settles}
 use Rattle.sar.specs.declared.Assembly.{Assembly}
+use Rattle.sar.specs.Joining.{idle}
 use Rattle.channel.specs.Limits.{creditsMost}
 use Rattle.channel.specs.declared.Queue.{Queue}
 use Rattle.channel.specs.declared.Slot.{Slot}
 use Rattle.channel.specs.declared.Table.{Table}
 use Rattle.definition.specs.Mem.{Move}
 use Rattle.definition.specs.Table.{placeOf, fresh, withHold}
-use Rattle.definition.specs.Frames.{idle}
 use Rattle.rules.specs.Tests.{and-left, and-right, and-both, begun, begun-live}
 use Rattle.rules.specs.Step.{Accounting, same, use-one, grant, Jobs, keep, leave, grow, finish, hand, Goes, Step, hold, go, accept, free, allocate, Steps, rest, next}
 use Rattle.rules.specs.Sound.{Holding, Sound, AllSound}

@@ -13,13 +13,14 @@ use borrow.Author.Tests.{lt-ltb, le-ltb, ltb-true, ltb-false, eqb-true, eqb-fals
 use Rattle.lists.specs.Choose.{choose, choose-true, choose-false, if-cases}
 use Rattle.octets.specs.Sets.{sets-before, sets-after, sets-inside}
 use Rattle.sar.specs.declared.Assembly.{Assembly}
+use Rattle.sar.specs.Joining.{isIdle, idle}
 use Rattle.channel.specs.Limits.{depthMost}
 use Rattle.channel.specs.declared.Queue.{Queue}
 use Rattle.channel.specs.declared.Slot.{Slot}
 use Rattle.channel.specs.declared.Table.{Table}
 use Rattle.definition.specs.Mem.{Move, fill, move, moves}
 use Rattle.definition.specs.Table.{placeOf, width}
-use Rattle.definition.specs.Frames.{isIdle, idle, queued, shifted}
+use Rattle.definition.specs.Frames.{queued, shifted}
 use Rattle.rules.specs.Step.{Jobs, keep, leave, grow, finish, hand}
 use Rattle.rules.specs.Sound.{Holding}
 
@@ -223,6 +224,6 @@ module _ (t : Table) (k : ℕ) (x : Slot) (js part : List ℕ) (h : Holding (t .
   clean-jobs leave = clean-leave
   clean-jobs (grow {a} b e l w) = clean-grow a e (omega arith)
   clean-jobs (finish {len} b e w f) =
-      if-cases (λ (ms : List Move). Clean p idle (queued len (x .queue)) (moves (λ x. x) js part ms)) (isIdle x)
+      if-cases (λ (ms : List Move). Clean p idle (queued len (x .queue)) (moves (λ x. x) js part ms)) (isIdle (x .assembly))
       (λ z. clean-whole len (eqb-true (x .assembly .want) 0 z) e w f) (λ _. clean-joined len e w f)
   clean-jobs (hand b some) = clean-hand some

@@ -12,6 +12,7 @@ use lib.Seq.{getD-take, getD-drop, take-at, drop-at, length-take-le}
 use borrow.Author.Tests.{ltb-true, ltb-false}
 use Rattle.lists.specs.Choose.{if-cases}
 use Rattle.sar.specs.declared.Assembly.{Assembly}
+use Rattle.sar.specs.Joining.{idle}
 use Rattle.channel.specs.Limits.{depthMost}
 use Rattle.channel.specs.declared.Answer.the-variants.{Done}
 use Rattle.channel.specs.declared.Queue.{Queue}
@@ -21,7 +22,6 @@ use Rattle.definition.specs.Mem.{Move, move, moves, parts}
 use Rattle.definition.specs.Table.{placeOf, width, roomSize, gap, fresh, slotAt, live, isDisconnected, sizesFit}
 use Rattle.definition.specs.Asking.{Made, make, blank}
 use Rattle.definition.specs.Calls.{jobs}
-use Rattle.definition.specs.Frames.{idle}
 use Rattle.rules.specs.Run.{State, Asked, after, Fits, Reached, start}
 use Rattle.rules.specs.Run as Run
 use Rattle.rules.specs.Tests.{begun, pending-live}

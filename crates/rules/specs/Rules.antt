@@ -14,8 +14,8 @@ use Rattle.lists.specs.Choose.{choose-true, choose-false, if-cases}
 use Rattle.codes.specs.declared.Refusal.{Refusal}
 use Rattle.codes.specs.declared.LeCreditConnResultCode.the-variants.{Success}
 use Rattle.credit.specs.Account.{creditSum}
-use Rattle.signal.specs.Replies.{encodeOf}
-use Rattle.signal.specs.declared.replies.Signal.the-variants.{LeCreditConnReq, LeCreditConnRes}
+use Rattle.writer.specs.Writer.{encodeOf}
+use Rattle.signal.specs.declared.forms.Signal.the-variants.{LeCreditConnReq, LeCreditConnRes}
 use Rattle.channel.specs.Limits.{creditsMost}
 use Rattle.channel.specs.declared.Answer.the-variants.{At, Link}
 use Rattle.channel.specs.declared.ChannelIndex.{ChannelIndex}
@@ -161,7 +161,7 @@ pub record Begins (o : Outcome) (i credits : ℕ) (told : List ℕ) : Type 0 whe
 
 pub accept-credits : {t : Table} {room : List ℕ} → Good t room → (signal i : ℕ) (c : L2capChannelConfig) (link : ℕ) → acceptPending t signal i c .answer ≡ Link link
     → Begins (acceptPending t signal i c) i (creditsOf t c)
-    (encodeOf (identifierOf (slotAt t i .state)) (LeCreditConnRes (cidOf i) (mtuOf t c) (mpsOf t c) (creditsOf t c) Success))
+    (encodeOf (identifierOf (slotAt t i .state)) (LeCreditConnRes (record { dcid = cidOf i; mtu = mtuOf t c; mps = mpsOf t c; credits = creditsOf t c; result = Success })))
 unfolding acceptPending
 accept-credits {t} g signal i c link =
     gate-cases P t _ _ _ _ (λ r. never)
@@ -173,13 +173,13 @@ accept-credits {t} g signal i c link =
   where
     P : Outcome → Type 0
     P o = o .answer ≡ Link link
-        → Begins o i (creditsOf t c) (encodeOf (identifierOf (slotAt t i .state)) (LeCreditConnRes (cidOf i) (mtuOf t c) (mpsOf t c) (creditsOf t c) Success))
+        → Begins o i (creditsOf t c) (encodeOf (identifierOf (slotAt t i .state)) (LeCreditConnRes (record { dcid = cidOf i; mtu = mtuOf t c; mps = mpsOf t c; credits = creditsOf t c; result = Success })))
 
     never : {r : Refusal} → P (refuse t r)
     never e = let z : _≡_ {A = ℕ} 0 1 = cc in absurd (omega arith)
 
 pub create-credits : {t : Table} {room : List ℕ} → Good t room → (signal link spsm : ℕ) (c : L2capChannelConfig) (i : ℕ) → create t signal link spsm c .answer ≡ At (index i)
-    → Begins (create t signal link spsm c) i (creditsOf t c) (encodeOf (nextId t) (LeCreditConnReq spsm (cidOf i) (mtuOf t c) (mpsOf t c) (creditsOf t c)))
+    → Begins (create t signal link spsm c) i (creditsOf t c) (encodeOf (nextId t) (LeCreditConnReq (record { spsm = spsm; scid = cidOf i; mtu = mtuOf t c; mps = mpsOf t c; credits = creditsOf t c })))
 unfolding create
 create-credits {t} g signal link spsm c i =
     gate-cases P t _ _ _ _ (λ r. never)
@@ -197,7 +197,7 @@ create-credits {t} g signal link spsm c i =
     })))))
   where
     P : Outcome → Type 0
-    P o = o .answer ≡ At (index i) → Begins o i (creditsOf t c) (encodeOf (nextId t) (LeCreditConnReq spsm (cidOf i) (mtuOf t c) (mpsOf t c) (creditsOf t c)))
+    P o = o .answer ≡ At (index i) → Begins o i (creditsOf t c) (encodeOf (nextId t) (LeCreditConnReq (record { spsm = spsm; scid = cidOf i; mtu = mtuOf t c; mps = mpsOf t c; credits = creditsOf t c })))
 
     never : {u : Table} {r : Refusal} → P (refuse u r)
     never e = let z : _≡_ {A = ℕ} 0 1 = cc in absurd (omega arith)

@@ -8,11 +8,11 @@ use lib.ListN.{length, take}
 use Rattle.lists.specs.Every.{every}
 use Rattle.credit.specs.Account.{creditSum}
 use Rattle.sar.specs.declared.Assembly.{Assembly}
+use Rattle.sar.specs.Joining.{idle}
 use Rattle.channel.specs.Limits.{depthMost, creditsMost}
 use Rattle.channel.specs.declared.Queue.{Queue}
 use Rattle.channel.specs.declared.Slot.{Slot}
 use Rattle.definition.specs.Table.{fresh, isDisconnected}
-use Rattle.definition.specs.Frames.{idle}
 use Rattle.rules.specs.Tests.{begun}
 
 -- An assembly and a queue of at most d jobs, in places of p octets.

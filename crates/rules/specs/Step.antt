@@ -11,8 +11,9 @@ use Rattle.credit.specs.declared.CreditFlowControl.{CreditFlowControl}
 use Rattle.credit.specs.declared.Grant.the-variants.{Credits}
 use Rattle.credit.specs.Account.{received, granted, grantOf, creditSum}
 use Rattle.sar.specs.declared.Assembly.{Assembly}
-use Rattle.signal.specs.Replies.{encodeOf}
-use Rattle.signal.specs.declared.replies.Signal.{Signal}
+use Rattle.sar.specs.Joining.{idle}
+use Rattle.writer.specs.Writer.{encodeOf}
+use Rattle.signal.specs.declared.forms.Signal.{Signal}
 use Rattle.channel.specs.Limits.{creditsMost}
 use Rattle.channel.specs.declared.Answer.{Answer}
 use Rattle.channel.specs.declared.Answer.the-variants.{Done, Refused, At, Link, Opened, Due, Frames, Job, Attention, Number, Event}
@@ -22,7 +23,7 @@ use Rattle.channel.specs.declared.Table.{Table}
 use Rattle.definition.specs.Mem.{Fill, given, zeros, job, Move, put, wipe}
 use Rattle.definition.specs.Table.{placeOf, fresh, live, isDisconnected, isPeerConnecting, withHold, nextId, spent}
 use Rattle.definition.specs.Outcome.{Outcome}
-use Rattle.definition.specs.Frames.{idle, queued, finishing, shifted, movingUp}
+use Rattle.definition.specs.Frames.{queued, finishing, shifted, movingUp}
 use Rattle.rules.specs.Tests.{begun}
 
 -- ---- the credit account: untouched, one credit used by a frame, or a grant of what the policy says

@@ -23,7 +23,13 @@ pub fn inc_ref(t: Table, slot: ChannelIndex) -> Served
     ensures { λ r. ⌜ r ≡ servedOf (incRef t (slot .0)) ⌝ }
 {
     let s = slots::number(slot);
-    match gate::gate(t, Given::Nothing, Given::Nothing, Given::Nothing, Given::Is(s)) {
+    match gate::gate(
+        t,
+        Given::Nothing,
+        Given::Nothing,
+        Given::Nothing,
+        Given::Is(s),
+    ) {
         Verdict::Stop(r) => slots::refused(t, r),
         Verdict::Pass => {
             let x = slots::slot_at(t, s);
@@ -58,7 +64,14 @@ pub fn dec_ref(t: Table, room: &mut [u8], slot: ChannelIndex) -> Served
             let k = x.state;
             if state::is_connected(k) & (hold == 1) {
                 let y = slot::with_hold(x, 0);
-                return forms::leave(t, room, s, y, ChannelState::Disconnecting(false), Answer::Done);
+                return forms::leave(
+                    t,
+                    room,
+                    s,
+                    y,
+                    ChannelState::Disconnecting(false),
+                    Answer::Done,
+                );
             }
             forms::alter(t, s, slot::with_hold(x, hold - 1), Answer::Done)
         }
@@ -73,7 +86,14 @@ fn disconnecting(t: Table, room: &mut [u8], s: usize) -> Served
     let x = slots::slot_at(t, s);
     let k = x.state;
     if state::is_connected(k) {
-        return forms::leave(t, room, s, x, ChannelState::Disconnecting(false), Answer::Done);
+        return forms::leave(
+            t,
+            room,
+            s,
+            x,
+            ChannelState::Disconnecting(false),
+            Answer::Done,
+        );
     }
     slots::done(t)
 }

@@ -4,7 +4,7 @@ ghost use mathlib.Core.Path.{_≡_};
 ghost use Prim.Native.Nat.{_≤_, _<_};
 ghost use Rattle.channel.specs.Limits.{packetLeast, packetMost, depthMost};
 ghost use Rattle.definition.specs.Pending.{settled, mtuOf, mpsOf, creditsOf, acceptedAs};
-ghost use Rattle.settings.specs.Response.{accepting};
+ghost use Rattle.settings.specs.Response.{accepting, attempting, requesting};
 use channel::ChannelState;
 use channel::L2capChannelConfig;
 use channel::Setting;
@@ -12,6 +12,7 @@ use channel::Slot;
 use channel::Table;
 use codes::LeCreditConnResultCode;
 use credit::CreditFlowControl;
+use signal::forms::LeCreditConnReq;
 use signal::forms::LeCreditConnRes;
 
 // The number that the caller gives, or the usual one.
@@ -81,5 +82,48 @@ pub fn response(s: usize, mtu: u16, mps: u16, credits: u16) -> LeCreditConnRes
         mps,
         credits,
         result: LeCreditConnResultCode::Success,
+    }
+}
+
+// The slot of our own attempt. (It was free, so that all else in it is as in a slot never used.)
+pub fn attempted(
+    id: u8,
+    link: u16,
+    spsm: u16,
+    mps: u16,
+    mtu: u16,
+    account: CreditFlowControl,
+) -> Slot
+    ensures { λ r. ⌜ r ≡ attempting id link spsm mps mtu account ⌝ }
+{
+    let x = slot::fresh(0);
+    let peer = x.peer;
+    let assembly = x.assembly;
+    let queue = x.queue;
+    Slot {
+        state: ChannelState::Connecting(id),
+        link,
+        spsm,
+        mps,
+        mtu,
+        account,
+        hold: 0,
+        peer,
+        assembly,
+        queue,
+    }
+}
+
+// The request for it.
+pub fn request(s: usize, spsm: u16, mtu: u16, mps: u16, credits: u16) -> LeCreditConnReq
+    requires { ⌜ s < 256 ⌝ }
+    ensures { λ r. ⌜ r ≡ requesting s spsm mtu mps credits ⌝ }
+{
+    LeCreditConnReq {
+        spsm,
+        scid: 0x40 + s as u16,
+        mtu,
+        mps,
+        credits,
     }
 }

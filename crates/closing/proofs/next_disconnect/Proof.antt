@@ -6,6 +6,8 @@ use Rattle.definition.specs.Ending.{end-still}
 use Rattle.gate.specs.Passed.{passed}
 use Rattle.room.specs.Placed.{room-of}
 use borrow.Author.Tests.{le-leb, lt-leb}
+use Rattle.lists.specs.Choose.{choose}
+use Rattle.definition.specs.Mem.{sizes}
 use Rattle.definition.specs.Closing.{nextDisconnect}
 use borrow.Author.Needs.{needs}
 use Rattle.closing.proofs.next_disconnect.Statement.{statement}
@@ -30,7 +32,7 @@ done-requires : tie.Need-done-requires
 done-requires c κs = search needs
 
 returns : tie.Need-returns
-unfolding nextDisconnect
+unfolding choose sizes nextDisconnect
 returns c =
     rw (
       ← c .before .before .before .before .before .before .gate .ensures,
@@ -57,7 +59,7 @@ index-at-requires c κs =
 response-requires : tie.Need-response-requires
 response-requires c κs =
     let p = passed _ _ _ _ _ (sym (c .before .before .before .before .before .before .before .before .before .before .gate .ensures) ∙ c .before .before .before .before .before .before .before .before .enum-told .given .1) in
-    omega (arith, p .sizes .n-most, p .slot-is)
+    omega (arith, p .sizes .n-most)
 
 free-and-tell-requires : tie.Need-free-and-tell-requires
 free-and-tell-requires c κs =
@@ -71,7 +73,7 @@ same-length-2 : tie.Need-same-length-2
 same-length-2 c = search needs
 
 returns-2 : tie.Need-returns-2
-unfolding nextDisconnect
+unfolding choose sizes nextDisconnect
 returns-2 c =
     rw (
       ← c .before .before .before .before .before .before .before .before .before .before .before .before .before .before .before .before .before .before .gate .ensures,
@@ -98,7 +100,9 @@ index-at-requires-2 c κs =
     omega (arith, p .sizes .n-most)
 
 request-requires : tie.Need-request-requires
-request-requires c κs = ?
+request-requires c κs =
+    let p = passed _ _ _ _ _ (sym (c .before .before .before .before .before .before .before .before .before .before .before .before .gate .ensures) ∙ c .before .before .before .before .before .before .before .before .before .before .enum-told .given .1) in
+    omega (arith, p .sizes .n-most)
 
 alter-and-tell-requires : tie.Need-alter-and-tell-requires
 alter-and-tell-requires c κs =
@@ -106,7 +110,7 @@ alter-and-tell-requires c κs =
     p .signal-is
 
 returns-3 : tie.Need-returns-3
-unfolding nextDisconnect
+unfolding choose sizes nextDisconnect
 returns-3 c =
     rw (
       ← c .before .before .before .before .gate .ensures,
@@ -118,7 +122,7 @@ same-length-3 : tie.Need-same-length-3
 same-length-3 c = search needs
 
 returns-4 : tie.Need-returns-4
-unfolding nextDisconnect
+unfolding choose sizes nextDisconnect
 returns-4 c =
     rw (
       ← c .before .before .before .before .before .before .before .before .before .before .before .before .before .before .before .before .before .gate .ensures,
@@ -128,7 +132,6 @@ returns-4 c =
       ← c .before .before .before .before .before .before .before .before .before .before .before .slot-at .ensures,
       ← c .before .before .before .before .before .before .before .before .before .before .is-peer-disconnecting .ensures,
       c .before .before .before .before .before .before .before .before .before .if2 .left,
-      c .before .signal2 .given .1,
     ) (rw (c .before .before .before .before .request .ensures, c .before .before .before .before .before .index-at2 .ensures, c .before .before .before .before .before .before .in-state .ensures, c .before .before .before .before .before .before .before .next-id .ensures, c .before .before .before .before .before .before .before .before .spent .ensures) at (c .before .before .alter-and-tell .ensures (c .before .before .before .before .before .before .before .before .before .before .before .before .before .before .before .before .before .before .before .before .args .t) (c .before .before .before .before .before .before .before .before .before .before .before .before .before .before .before .before .before .before .before .before .args .room .now) []))
 
 pub next-disconnect-spec : {M : Type 1} → statement M

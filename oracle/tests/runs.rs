@@ -4,10 +4,12 @@
 use language::{Answer, Call, Manner};
 use oracle::compare::batch;
 use oracle::faults::{Fault, Faulty};
+use oracle::generate::{Generator, Plan};
 use oracle::kinds::Kind;
 use oracle::play::{play, quiet};
 use oracle::rng::Rng;
 use oracle::run::{run, script, Extent};
+use oracle::script::Script;
 use oracle::shrink::shrink;
 use oracle::twin::Twin;
 
@@ -121,7 +123,7 @@ fn the_lost_line_is_found_and_made_small() {
 fn a_missing_row_does_not_hide_the_scripts_behind_it() {
     quiet();
     let scripts: Vec<_> = (0..30).map(|number| script(&extent(1, 0), number)).collect();
-    let several = |script: &&oracle::script::Script| script.steps.iter().any(|step| step.call.rows() > 1);
+    let several = |script: &&Script| script.steps.iter().any(|step| step.call.rows() > 1);
     let wanted = scripts.iter().filter(several).count();
     assert_eq!(batch(&mut Faulty(Fault::RowMissing), &scripts).unwrap().len(), wanted);
 }
@@ -136,6 +138,19 @@ fn twin_runs_find_octets_that_reach_another_link() {
     };
     assert_eq!(pairs(Fault::None), 0);
     assert!(pairs(Fault::LostLine) > 0);
+}
+
+/// With `confirm` called at once, as published, the original panics where the list says and nowhere else.
+#[test]
+fn as_published_the_original_panics_only_where_the_list_says() {
+    quiet();
+    let published = Manner { confirm_at_once: true, ..Manner::default() };
+    for number in 0..600 {
+        let mut generator = Generator::new(number, Plan { outside: number % 2 == 0, view_every: 4, longest: 120 });
+        let (n, d, m) = generator.sizes();
+        let script = Script::judge(n, d, m, published, &mut generator);
+        assert!(script.steps.iter().all(|step| !step.surprise), "{}", script.text());
+    }
 }
 
 /// Finding 14. 65,535 is 51 times 1,285: the original's sum of 65,535 and 2 stops at 65,535, and the last frame goes out without a credit.

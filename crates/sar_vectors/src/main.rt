@@ -20,6 +20,13 @@ fn number(n: usize) {
     io::print_decimal(1, n as u64);
 }
 
+fn numbers(a: usize, b: usize, c: usize, d: usize) {
+    number(a);
+    number(b);
+    number(c);
+    number(d);
+}
+
 // A job's octets: no two neighbours are equal.
 fn fill(s: &mut [u8]) {
     let mut i: usize = 0;
@@ -90,6 +97,18 @@ fn feed(places: &mut [u8], place: usize, mtu: u16, d: usize, s: Side, payload: &
     }
 }
 
+// The answer, the open assembly and the jobs that wait.
+fn state(s: Side) {
+    let a = s.a;
+    text(b" joined");
+    numbers(
+        s.answer as usize,
+        a.have as usize,
+        a.want as usize,
+        s.queued,
+    );
+}
+
 // The payloads of the frames in `out`, one after the other, until one is refused: into two places of as many octets as the MTU.
 fn join_all(places: &mut [u8], mtu: u16, out: &[u8]) -> Side {
     let mut s = Side {
@@ -120,9 +139,7 @@ fn rejoin(l: u16, out: &[u8]) {
     let s = join_all(&mut places, l, out);
     let both = 2 * l as usize;
     show(out);
-    text(b" joined");
-    number(s.answer as usize);
-    number(s.queued);
+    state(s);
     show(&places[0..both]);
 }
 
@@ -158,12 +175,8 @@ fn cut(l: u16, mtu: u16, mps: u16, credits: u16, room: usize) {
         return;
     }
     text(b"cut");
-    number(l as usize);
-    number(mtu as usize);
-    number(mps as usize);
-    number(credits as usize);
+    numbers(l as usize, mtu as usize, mps as usize, credits as usize);
     number(room);
-    text(b":");
     let mut out = [0u8; 76935];
     send(&mut out[0..room], l, mtu, mps, credits);
 }
@@ -178,80 +191,101 @@ fn cuts(mps: u16, from: u16, to: u16) {
 }
 
 // Cut for an MPS that no send would take, and joined all the same.
-fn small(mps: u16, l: usize, octets: usize) {
-    if 40 < l {
+fn small(mps: u16, l: u16, octets: usize) {
+    let mut job = [0u8; 65535];
+    let mut out = [0u8; 60];
+    let n = l as usize;
+    if 60 < octets {
         return;
     }
     if mps < 2 {
         return;
     }
-    if 60 < octets {
+    if 65533 < n {
         return;
     }
-    text(b"small");
-    number(l);
-    number(mps as usize);
-    text(b":");
-    let mut job = [0u8; 40];
-    let mut out = [0u8; 60];
     fill(&mut job);
-    cutting::cut_job(&mut out, 0x1234, mps, &job[0..l]);
-    rejoin(l as u16, &out[0..octets]);
+    cutting::cut_job(&mut out, 0x1234, mps, &job[0..n]);
+    text(b"small");
+    rejoin(l, &out[0..octets]);
     text(b"\n");
 }
 
-// One payload, in a part of two queue places of 8 octets with marks in it, behind a state that is given.
-fn join(mtu: u16, have: u16, want: u16, queued: usize, payload: &[u8]) {
+// A state of the slot, and the first two octets of the payload that comes.
+struct Case {
+    have: u16,
+    want: u16,
+    low: u8,
+    high: u8,
+}
+
+// No assembly open, with lengths within and above the MTU; then a job of 6 octets open, with 0, 3 and (as no table has it) 7 of them there.
+fn case_of(k: usize) -> Case {
+    if k < 5 {
+        let low = if k == 0 {
+            0u8
+        } else if k == 2 {
+            8
+        } else if k == 3 {
+            9
+        } else {
+            2
+        };
+        let high = if k == 4 { 1u8 } else { 0 };
+        return Case {
+            have: 0,
+            want: 0,
+            low,
+            high,
+        };
+    }
+    let have = if k == 5 {
+        0u16
+    } else if k == 6 {
+        3
+    } else {
+        7
+    };
+    Case {
+        have,
+        want: 6,
+        low: 255,
+        high: 255,
+    }
+}
+
+// A payload of n octets with `queued` of two places taken, in a part of three places of 8 octets, all of them marked.
+fn join(k: usize, queued: usize, n: usize) {
     let mut places = [0xeeu8; 24];
+    let c = case_of(k);
+    let payload = [c.low, c.high, 97, 98, 99, 100, 101];
     let s = Side {
-        a: Assembly { have, want },
+        a: Assembly {
+            have: c.have,
+            want: c.want,
+        },
         queued,
         answer: 0,
     };
-    let r = feed(&mut places, 8, mtu, 2, s, payload);
+    if 7 < n {
+        return;
+    }
+    let r = feed(&mut places, 8, 8, 2, s, &payload[0..n]);
     text(b"join");
-    number(mtu as usize);
-    number(have as usize);
-    number(want as usize);
-    number(queued);
-    show(payload);
-    text(b":");
-    number(r.answer as usize);
-    number(r.a.have as usize);
-    number(r.a.want as usize);
-    number(r.queued);
+    numbers(c.have as usize, c.want as usize, queued, n);
+    show(&payload[0..n]);
+    state(r);
     show(&places);
     text(b"\n");
 }
 
-// The rows of document 01's 'Idle', with their neighbours.
-fn idle() {
-    join(8, 0, 0, 0, b"");
-    join(8, 0, 0, 0, b"1");
-    join(8, 0, 0, 0, b"\0\0");
-    join(8, 0, 0, 0, b"\0\0a");
-    join(8, 0, 0, 0, b"\x08\0abc");
-    join(8, 0, 0, 0, b"\x09\0abc");
-    join(8, 0, 0, 0, b"\0\x01abc");
-    join(8, 0, 0, 0, b"\x02\0");
-    join(8, 0, 0, 0, b"\x02\0ab");
-    join(8, 0, 0, 1, b"\x02\0ab");
-    join(8, 0, 0, 2, b"\x02\0ab");
-    join(8, 0, 0, 2, b"\x02\0a");
-    join(8, 0, 0, 0, b"\x02\0abc");
-}
-
-// Those of its 'Joining': the first two octets are no length here.
-fn joining() {
-    join(8, 3, 6, 0, b"");
-    join(8, 3, 6, 0, b"\xff\xff");
-    join(8, 3, 6, 0, b"\xff\xffc");
-    join(8, 3, 6, 1, b"abc");
-    join(8, 3, 6, 2, b"abc");
-    join(8, 3, 6, 2, b"ab");
-    join(8, 3, 6, 0, b"abcd");
-    join(8, 8, 8, 0, b"");
-    join(8, 7, 6, 0, b"");
+// Every such case, with 0 to 2 jobs waiting and 0 to 7 octets.
+fn joins() {
+    let mut i: usize = 0;
+    while i < 192 {
+        join(i / 24, i / 8 % 3, i % 8);
+        i += 1;
+    }
 }
 
 // The plan's order, each refusal where the next one would come too, and the last place where it doesn't.
@@ -278,6 +312,5 @@ fn main() {
     small(2, 0, 6);
     small(2, 5, 23);
     small(3, 7, 21);
-    idle();
-    joining();
+    joins();
 }

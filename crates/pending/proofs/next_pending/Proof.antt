@@ -76,8 +76,7 @@ returns-3 c =
 
 index-at-requires : tie.Need-index-at-requires
 index-at-requires c κs =
-    let g = c .before .before .before .before .before .before .before .before in
-    let p = passed _ _ _ _ _ (sym (g .gate .ensures) ∙ c .before .before .before .before .before .before .enum-told .given .1) in
+    let p = passed _ _ _ _ _ (sym (c .before .before .before .before .before .before .before .before .gate .ensures) ∙ c .before .before .before .before .before .before .enum-told .given .1) in
     omega (arith, p .sizes .n-most)
 
 with-hold-requires : tie.Need-with-hold-requires

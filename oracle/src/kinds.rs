@@ -1,6 +1,6 @@
 //! The list of differences, as a decision: given the table before a call, does document 01 have another row than the original, which one,
 //! and can the two tables still be compared after it? A call without a verdict is in the domain: both must print the same row.
-//! The numbers are those of docs/parts/original.md.
+//! The numbers are those of docs/DIFFERENCES.md.
 
 use language::{hex, signals, Call, Config, Policy, Row, SlotView, Stale, State, View, BASE_ID};
 

@@ -1,9 +1,10 @@
--- Document 01, 'Bench set', the rows that the table decides: one theorem, over a worked run that antt computes.
+-- Document 01, 'Bench set': one table, one theorem. The rows of credits and CIDs are computed over a worked run; the row of frame counts is crate
+-- cutting's, for every job of those lengths.
 use mathlib.Core.Path.{_≡_, refl}
 use mathlib.Core.Bool.{true, false}
 use mathlib.Core.List.{List, [], _∷_}
 use Prim.Native.Nat.{ℕ}
-use lib.ListN.{replicate}
+use lib.ListN.{length, replicate}
 use Rattle.lists.specs.Choose.{choose}
 use Rattle.lists.specs.First.{first}
 use Rattle.lists.specs.Every.{every}
@@ -11,6 +12,8 @@ use Rattle.credit.specs.declared.CreditFlowPolicy.the-variants.{Every}
 use Rattle.lists.specs.Fuel.{whole, fuelled}
 use Rattle.headers.specs.Headers.{headersOf}
 use Rattle.signal.specs.Bodies.{leCreditConnReq, leCreditFlowInd}
+use Rattle.cutting.specs.Cutting.{payloads}
+use Rattle.cutting.specs.Theorems as Cut
 use Rattle.channel.specs.declared.ChannelState.the-variants.{Connected, Disconnecting}
 use Rattle.channel.specs.declared.L2capChannelConfig.{L2capChannelConfig}
 use Rattle.channel.specs.declared.Setting.the-variants.{Default}
@@ -52,6 +55,8 @@ abbrev framed : ℕ → List ℕ → ℕ → Outcome
 framed cid head k = decide two (frame 1 cid head) k 232 0 0
 
 pub record Bench : Type 0 where
+  -- MPS 23, L 0 / 21 / 22 / 44 / 45 / 65,533: 1 (payload 00 00) / 1 / 2 / 2 / 3 / 2,850 frames
+  pub counts : (job : ℕ → List ℕ) → ((l : ℕ) → length (job l) ≡ l) → Cut.Bench (λ (l : ℕ). length (payloads 23 (job l))) (payloads 23 [])
   pub held : slotAt open-slot 0 .peer .credits ≡ 65530
   -- 65,530 + 5: 65,535
   pub five-answer : number (credits 5 .answer) ≡ 0
@@ -72,6 +77,7 @@ pub bench : Bench
 unfolding make decide serve registerSpsm signalled checked handled headersOf whole fuelled onConnReq leCreditConnReq onCredits leCreditFlowInd nextPending acceptPending dispatch verdict wellFormed slotFits every first choose only
 bench =
     record {
+      counts = Cut.bench;
       held = refl;
       five-answer = refl;
       five = refl;

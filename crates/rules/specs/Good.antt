@@ -147,6 +147,16 @@ pub good-after : (s : State) (a : Asked) → Good (s .table) (s .room) → Fits 
 unfolding after
 good-after s a g f = good-stepped g (good-steps g (a .call) f (a .out) (a .job)) (jobs (s .table) (a .call))
 
+-- no call changes the sizes
+pub record Sized (t u : Table) : Type 0 where
+  pub n : u .n ≡ t .n
+  pub d : u .d ≡ t .d
+  pub m : u .m ≡ t .m
+
+pub same-sizes : (s : State) (a : Asked) → Good (s .table) (s .room) → Fits (a .call) → Sized (s .table) (after s a .table)
+unfolding after
+same-sizes s a g f = let p = good-steps g (a .call) f (a .out) (a .job) in record { n = p .n; d = p .d; m = p .m }
+
 -- ---- a made table has it
 
 all-fresh : (d p : ℕ) (n : ℕ) → AllSound d p (replicate n (fresh 0))

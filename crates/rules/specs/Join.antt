@@ -1,25 +1,29 @@
 -- All that the rules need to know of crates sar and cutting: what the join step and the plan of a send may come to. The only file that names the
--- variants of its answers; it rests on `joinStep` and `planSend` alone.
-use mathlib.Core.Path.{_≡_, refl, sym}
+-- variants of their answers; it rests on `joinStep` and `planSend` alone.
+use mathlib.Core.Path.{_≡_, refl, sym, ap, _∙_}
 use mathlib.Core.Bool.{true, false}
-use mathlib.Core.List.{List}
+use mathlib.Core.List.{List, [], _∷_}
 use Prim.Native.Nat.{ℕ, _+_, _-_, _≤_, _<_}
 use native.Mathlib.Omega.{arith}
 use lib.ListN.{length}
-use borrow.Author.Tests.{ltb-true, ltb-false, leb-false, eqb-true, eqb-false}
-use Rattle.lists.specs.Choose.{if-cases}
+use borrow.Author.Tests.{ltb-true, ltb-false, leb-false, eqb-true, eqb-false, eq-eqb, ne-eqb, lt-ltb, le-ltb, lt-leb}
+use Rattle.lists.specs.Choose.{choose-true, choose-false, if-cases}
 use Rattle.credit.specs.Account.{received}
 use Rattle.sar.specs.declared.Assembly.{Assembly}
 use Rattle.sar.specs.declared.Joined.{Joined}
 use Rattle.sar.specs.declared.Joined.the-variants as Joined
-use Rattle.sar.specs.Joining.{assembled, reached, firstStep, joinStep}
+use Rattle.sar.specs.Joining.{idle, assembled, reached, firstStep, joinStep}
 use Rattle.cutting.specs.declared.Plan.{Plan}
 use Rattle.cutting.specs.declared.Plan.the-variants as Plan
-use Rattle.cutting.specs.Cutting.{planSend}
-use Rattle.channel.specs.declared.Answer.the-variants.{Refused}
+use Rattle.cutting.specs.Cutting.{frameCount, planSend}
+use Rattle.cutting.specs.CutLaws.{plan-allowed}
+use Rattle.channel.specs.declared.Answer.the-variants.{Done, Refused, Frames}
+use Rattle.channel.specs.declared.Slot.{Slot}
 use Rattle.channel.specs.declared.Table.{Table}
-use Rattle.definition.specs.Table.{placeOf, slotAt, isDisconnected, isConnected, withAccount}
-use Rattle.definition.specs.Frames.{joined, planned}
+use Rattle.definition.specs.Mem.{job, put}
+use Rattle.definition.specs.Table.{placeOf, slotAt, isDisconnected, isConnected, withAccount, withAssembly, withQueue}
+use Rattle.definition.specs.Outcome.{Outcome, change}
+use Rattle.definition.specs.Frames.{queued, finishing, frames, joined, planned}
 use Rattle.rules.specs.Tests.{begun, begun-live, connected-begun}
 use Rattle.rules.specs.Step.{same, use-one, keep, leave, grow, finish, go, passes, Stepped}
 use Rattle.rules.specs.Forms.{goes-on, stepped-still, stepped-change}
@@ -80,7 +84,7 @@ plan-passes size mtu mps credits out =
     (λ _. if-cases Plans _ (λ _. refl)
     (λ _. if-cases Plans _ (λ _. refl) (λ _. if-cases Plans _ (λ _. refl) (λ _. if-cases Plans _ (λ _. refl) (λ _. tt)))))
 
--- ---- the two calls that ask crate sar
+-- ---- the two calls that ask them
 
 module _ (t : Table) (k s : ℕ) (h : s < t .n) (l : t .n ≤ length (t .slots)) (on : isConnected (slotAt t s .state) ≡ true) where
   has-begun : begun (slotAt t s .state) ≡ true
@@ -103,3 +107,53 @@ module _ (t : Table) (k s : ℕ) (h : s < t .n) (l : t .n ≤ length (t .slots))
   unfolding planned
   stepped-planned size (Plan.Refused r) f = stepped-still t k _ _ f
   stepped-planned size (Plan.Frames n octets) f = stepped-change t k s _ _ h l (go (goes-on was-live has-begun refl) same keep) _ _ refl
+
+-- ---- what a frame that fits comes to
+
+-- With it `have` octets of a job of `want` are there, and q of d places are taken.
+abbrev pub Reaches : (d q : ℕ) → Joined → (have want : ℕ) → Type 0
+Reaches d q j have want = j ≡ reached d q want have
+
+pub reaches-first : (mtu mps d : ℕ) (a : Assembly) (q k stated : ℕ) → a .want ≡ 0 → stated ≤ mtu → Reaches d q (joinStep mtu mps d a q (2 + k) stated) k stated
+unfolding joinStep firstStep
+reaches-first mtu mps d a q k stated z m =
+    choose-true _ _ _ (eq-eqb (a .want) 0 z) ∙ choose-false _ _ _ (le-ltb (2 + k) 2 (omega arith)) ∙ choose-false _ _ _ (le-ltb mtu stated m)
+    ∙ (let e : 2 + k - 2 ≡ k = omega arith in rw e)
+
+pub reaches-next : (mtu mps d : ℕ) (a : Assembly) (q k stated : ℕ) → (a .want ≡ 0 → ⊥) → Reaches d q (joinStep mtu mps d a q k stated) (a .have + k) (a .want)
+unfolding joinStep
+reaches-next mtu mps d a q k stated some = choose-false _ _ _ (ne-eqb (a .want) 0 some)
+
+-- An assembly grows; or the job is whole, and a place is free for it.
+module _ (t : Table) (s : ℕ) (x : Slot) (k d q have want : ℕ) (j : Joined) (r : Reaches d q j have want) where
+  pub joined-part : (x .assembly .want ≡ 0 → x .assembly .have ≡ 0) → have < want
+      → joined t s x k j ≡ change t s (withAssembly (record { have = have; want = want }) x) (put (x .assembly .have) (job 0 k) ∷ []) Done []
+  unfolding joined reached
+  joined-part closed l =
+      ap (joined t s x k) (r ∙ choose-false _ _ _ (le-ltb want have (omega arith)) ∙ choose-true _ _ _ (lt-ltb have want l))
+      ∙ ap (λ (n : ℕ). change t s (withAssembly (record { have = have; want = want }) x) (put n (job 0 k) ∷ []) Done []) (assembled-is (x .assembly) closed)
+
+  pub joined-whole : have ≡ want → q < d → joined t s x k j ≡ change t s (withQueue (queued want (x .queue)) (withAssembly idle x)) (finishing t x k) Done []
+  unfolding joined reached
+  joined-whole e l =
+      ap (joined t s x k)
+      (r ∙ choose-false _ _ _ (le-ltb want have (omega arith)) ∙ choose-false _ _ _ (le-ltb have want (omega arith)) ∙ choose-false _ _ _ (lt-leb d q l))
+
+-- ---- what a send that is not refused comes to
+
+pub record Sent (t : Table) (s : ℕ) (x : Slot) (l n : ℕ) (o : Outcome) : Type 0 where
+  pub wide : 23 ≤ x .peer .mps
+  pub count : n ≡ frameCount l (x .peer .mps)
+  pub out : o .out ≡ frames (x .peer .cid) (x .peer .mps) l n
+
+pub planned-frames : (t : Table) (s : ℕ) (x : Slot) (l out link n : ℕ) → planned t s x l (planSend l (x .peer .mtu) (x .peer .mps) (x .peer .credits) out) .answer ≡ Frames link n
+    → Sent t s x l n (planned t s x l (planSend l (x .peer .mtu) (x .peer .mps) (x .peer .credits) out))
+unfolding planned
+planned-frames t s x l out link n = by (planSend l (x .peer .mtu) (x .peer .mps) (x .peer .credits) out) refl
+  where
+    by : (p : Plan) → planSend l (x .peer .mtu) (x .peer .mps) (x .peer .credits) out ≡ p → planned t s x l p .answer ≡ Frames link n → Sent t s x l n (planned t s x l p)
+    by (Plan.Refused r) e f = let z : _≡_ {A = ℕ} 0 1 = cc in absurd (omega arith)
+    by (Plan.Frames k octets) e f =
+        let a = plan-allowed l (x .peer .mtu) (x .peer .mps) (x .peer .credits) out k octets e in
+        let q : k ≡ n = cc in
+        record { wide = a .wide; count = sym q ∙ a .frames; out = ap (λ (m : ℕ). frames (x .peer .cid) (x .peer .mps) l m) q }

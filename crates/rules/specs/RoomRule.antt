@@ -29,8 +29,8 @@ use Rattle.rules.specs.Step.{Step, hold, go, accept, free, allocate, Ste
 use Rattle.rules.specs.Forms.{live-at, live-length}
 use Rattle.rules.specs.Sound.{Sound, AllSound}
 use Rattle.rules.specs.Keep.{jobs-quiet}
-use Rattle.rules.specs.Good.{Good, sizes-read, within, slot-sound, good-steps, length-moves, reached-good}
-use Rattle.rules.specs.Rules.{same-n, call-change}
+use Rattle.rules.specs.Good.{Good, sizes-read, within, slot-sound, good-steps, same-sizes, length-moves, reached-good}
+use Rattle.rules.specs.Rules.{call-change}
 use Rattle.rules.specs.Places.{jobIn, Clean, no-job, clean-jobs}
 
 -- ---- one slot and its part
@@ -180,7 +180,7 @@ beginner (allocate c) e f q = (c .assembly, ap (λ (z : Queue). z .count) (c .qu
 
 module _ {s : State} (r : Reached s) (a : Asked) (f : Fits (a .call)) (i : ℕ) (h : i < s .table .n) where
   still-in : i < after s a .table .n
-  still-in = subst (λ (n : ℕ). i < n) (sym (same-n s a (reached-good r) f)) h
+  still-in = subst (λ (n : ℕ). i < n) (sym (same-sizes s a (reached-good r) f .n)) h
 
   -- The client's accident, excluded: a free slot that a call gives to a new connection (create, connect request) was as it was made,
   -- holds and all, and starts with no assembly, no waiting job and its whole part of the room zero.

@@ -36,7 +36,7 @@ use Rattle.rules.specs.Step.{number, Step, hold, go, accept, free, alloc
 use Rattle.rules.specs.Step as Step
 use Rattle.rules.specs.Forms.{live-at, gate-cases}
 use Rattle.rules.specs.Keep.{accounting-sum}
-use Rattle.rules.specs.Good.{Good, within, slot-sound, good-formed, good-steps, next-id, reached-good}
+use Rattle.rules.specs.Good.{Good, within, slot-sound, good-formed, good-steps, same-sizes, next-id, reached-good}
 
 -- ---- A. "the table never becomes one that refusal 1 refuses"
 
@@ -125,10 +125,6 @@ call-change s a g f i h =
     subst₂ (λ (x y : Slot). Change (s .table) (length (jobs (s .table) (a .call))) x y) (live-at (s .table) i h) (live-at (outcome s a .table) i (rw (p .n) h))
     (steps-at (p .slots) i)
 
-pub same-n : (s : State) (a : Asked) → Good (s .table) (s .room) → Fits (a .call) → after s a .table .n ≡ s .table .n
-unfolding after
-same-n s a g f = good-steps g (a .call) f (a .out) (a .job) .n
-
 -- One call: while the connection in slot i lasts, the sum stays.
 pub credits-step : (s : State) (a : Asked) → Good (s .table) (s .room) → Fits (a .call) → (i : ℕ) → i < s .table .n
     → lasts (slotAt (s .table) i .state) ≡ true → lasts (slotAt (after s a .table) i .state) ≡ true
@@ -150,7 +146,7 @@ unfolding run
 credits-last i s [] r f h l = refl
 credits-last i s (a ∷ as′) r f h l =
     let g = reached-good r in
-    credits-last i (after s a) as′ (next a r (f .0)) (f .1) (subst (λ (n : ℕ). i < n) (sym (same-n s a g (f .0))) h) (l .1)
+    credits-last i (after s a) as′ (next a r (f .0)) (f .1) (subst (λ (n : ℕ). i < n) (sym (same-sizes s a g (f .0) .n)) h) (l .1)
     ∙ credits-step s a g (f .0) i h (l .0) (lasts-now i (after s a) as′ (l .1))
 
 -- The initial credits are those that we tell the peer: in the response of an accept, in the request of a create.

@@ -98,3 +98,12 @@ takes-begun Connected e = refl
 takes-begun (ConnectFailed c) e = sym e
 takes-begun (PeerDisconnecting i) e = refl
 takes-begun (Disconnecting a) e = refl
+
+pub begun-takes : (k : ChannelState) → begun k ≡ true → (isDisconnected k || (isConnecting k || (isPeerConnecting k || isConnectFailed k))) ≡ false
+begun-takes Disconnected e = sym e
+begun-takes (Connecting i) e = sym e
+begun-takes (PeerConnecting i) e = sym e
+begun-takes Connected e = refl
+begun-takes (ConnectFailed c) e = sym e
+begun-takes (PeerDisconnecting i) e = refl
+begun-takes (Disconnecting a) e = refl

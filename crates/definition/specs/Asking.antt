@@ -18,7 +18,7 @@ use Rattle.channel.specs.declared.Given.the-variants.{Nothing, Is}
 use Rattle.channel.specs.declared.Slot.{Slot}
 use Rattle.channel.specs.declared.Table.{Table}
 use Rattle.definition.specs.Mem.{given}
-use Rattle.definition.specs.Table.{if_then_else_, sizesFit, fresh, live, slotAt, calls, roomSize, registered, nextId, spent}
+use Rattle.definition.specs.Table.{if_then_else_, sizesFit, fresh, live, slotAt, isFree, calls, roomSize, registered, nextId, spent}
 use Rattle.definition.specs.Outcome.{Outcome, still, refuse, gate}
 
 -- ---- making
@@ -58,6 +58,12 @@ unfoldable pub attention : Table → Outcome
 attention t =
     gate t Nothing Nothing Nothing Nothing
     (still t (Attention (bitset calls (live t)) (count calls (live t)) (first calls (live t))) [])
+
+-- ---- "Finding the lowest free slot is also offered over a run of slot records lent by the caller": the lowest Disconnected one without
+-- holds, and the run's length where there is none. The table's own search is this one over the slots in use.
+
+abbrev pub lowestFree : List Slot → ℕ
+lowestFree = first isFree
 
 -- ---- the five queries of a slot, in any state
 

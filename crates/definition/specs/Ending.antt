@@ -33,7 +33,7 @@ itself x = x
 abbrev pub roomAfter : Table → (jobs room : List ℕ) → Outcome → List ℕ
 roomAfter t jobs room o = parts itself jobs (width t) (o .parts) room
 
-abbrev pub endOf : Table → (jobs room out job : List ℕ) → Outcome → End
+unfoldable pub endOf : Table → (jobs room out job : List ℕ) → Outcome → End
 endOf t jobs room out job o =
     record {
       served = servedOf o;
@@ -49,7 +49,7 @@ gave a t n = record { answer = a; table = t; octets = n }
 
 -- nothing is written
 pub end-still : (t t′ : Table) (a : Answer) (jobs room out job : List ℕ) → endOf t jobs room out job (still t′ a []) ≡ end (gave a t′ 0) room out job
-unfolding parts written fills sizes
+unfolding endOf parts written fills sizes
 end-still t t′ a jobs room out job = refl
 
 pub written-none : (jobs room out : List ℕ) → written itself jobs room [] out ≡ out
@@ -72,7 +72,7 @@ sizes-given xs = add-zero (length xs)
 -- given octets are all that changes
 pub end-given : (t t′ : Table) (a : Answer) (jobs room out job xs : List ℕ)
     → endOf t jobs room out job (still t′ a (given xs ∷ [])) ≡ end (gave a t′ (length xs)) room (sets out 0 xs) job
-unfolding parts
+unfolding endOf parts
 end-given t t′ a jobs room out job xs = rw (written-given jobs room out xs, sizes-given xs, written-none jobs room job)
 
 -- a slot that changes without a move leaves the room
@@ -83,5 +83,5 @@ parts-none jobs w (suc s) room = ap (λ (r : List ℕ). take w room ++ r) (parts
 
 pub end-slot : (t t′ : Table) (s : ℕ) (x : Slot) (a : Answer) (jobs room out job : List ℕ)
     → endOf t jobs room out job (change t′ s x [] a []) ≡ end (gave a (putSlot t′ s x) 0) room out job
-unfolding written fills sizes
+unfolding endOf written fills sizes
 end-slot t t′ s x a jobs room out job = rw (parts-none jobs (width t) s room)

@@ -1,5 +1,6 @@
 -- Runs worked out, with job octets and identifiers that may be any: what the calls really do, and that demand 3 isn't empty. One channel
 -- from request to link-down; the client's accident, which leaves nothing behind; two phones' signals.
+use Rattle.writer.specs.Writer.{encodeOf}
 use mathlib.Core.Path.{_≡_, refl}
 use mathlib.Core.Bool.{true, false}
 use mathlib.Core.List.{List, [], _∷_, _++_, map}
@@ -123,7 +124,7 @@ module _ (id a b c x y e : ℕ) where
     over : at 13 .table ≡ record { slots = replicate 16 (fresh 0); n = 2; d = 1; m = 29; identifier = 3; spsms = set (replicate 32 0) 16 1 }
 
   channel : Channel
-  unfolding run outcomes after decide serve registerSpsm signalled checked headersOf whole handled onConnReq leCreditConnReq nextPending acceptPending dispatch joined joinStep firstStep reached assembled receive taken grantIn grantOf due send planned planSend frameCount ceil framesLength frames laterFrames disconnect disconnecting nextDisconnect disconnected decRef jobs bare verdict wellFormed slotFits every first only choose make parts moves move fill fills written
+  unfolding encodeOf run outcomes after decide serve registerSpsm signalled checked headersOf whole handled onConnReq leCreditConnReq nextPending acceptPending dispatch joined joinStep firstStep reached assembled receive taken grantIn grantOf due send planned planSend frameCount ceil framesLength frames laterFrames disconnect disconnecting nextDisconnect disconnected decRef jobs bare verdict wellFormed slotFits every first only choose make parts moves move fill fills written
   channel =
       record {
         answered = refl;
@@ -173,7 +174,7 @@ module _ (id a b e : ℕ) where
     job : take 4 (drop 18 (later 13 .memory)) ≡ e ∷ 9 ∷ 9 ∷ 9 ∷ []
 
   nextPhone : NextPhone
-  unfolding run outcomes after decide serve registerSpsm signalled checked headersOf whole handled onConnReq leCreditConnReq onDisconnectionReq disconnectionReq nextPending acceptPending dispatch joined joinStep firstStep reached assembled receive taken grantIn grantOf due nextDisconnect decRef jobs bare verdict wellFormed slotFits every first only choose make parts moves move fill fills written
+  unfolding encodeOf run outcomes after decide serve registerSpsm signalled checked headersOf whole handled onConnReq leCreditConnReq onDisconnectionReq disconnectionReq nextPending acceptPending dispatch joined joinStep firstStep reached assembled receive taken grantIn grantOf due nextDisconnect decRef jobs bare verdict wellFormed slotFits every first only choose make parts moves move fill fills written
   nextPhone = record { answered = refl; half = refl; closed = refl; cleared = refl; response = refl; alone = refl; job = refl }
 
 -- ---- two phones' signals. Each asks for a channel of its own; a response that matches none frees the attempts of its link alone. Of a PDU
@@ -228,6 +229,6 @@ module _ (id : ℕ) where
     reply : take 10 (when 12 .memory) ≡ 6 ∷ 0 ∷ 5 ∷ 0 ∷ 0x01 ∷ id ∷ 2 ∷ 0 ∷ 0 ∷ 0 ∷ []
 
   signalled-so : Signalled
-  unfolding run outcomes after decide serve create signalled checked headersOf whole handled onConnRes leCreditConnRes resultOf onCredits leCreditFlowInd onParameters connParamUpdateReq parametersValid onDisconnectionRes disconnectionRes onReject commandRejectRes onParameterResponse connParamUpdateRes disconnect disconnecting jobs bare verdict wellFormed slotFits every Rattle.lists.specs.First.first only choose make parts moves move fill fills written
+  unfolding encodeOf run outcomes after decide serve create signalled checked headersOf whole handled onConnRes leCreditConnRes resultOf onCredits leCreditFlowInd onParameters connParamUpdateReq parametersValid onDisconnectionRes disconnectionRes onReject commandRejectRes onParameterResponse connParamUpdateRes disconnect disconnecting jobs bare verdict wellFormed slotFits every Rattle.lists.specs.First.first only choose make parts moves move fill fills written
   signalled-so =
       record { answered = refl; asked = refl; request = refl; unmatched = refl; matched = refl; first = refl; rest = refl; others = refl; own = refl; reply = refl }

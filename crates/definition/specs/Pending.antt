@@ -6,6 +6,7 @@ use lib.Dec.{eqb, leb, ltb}
 use Rattle.codes.specs.declared.LeCreditConnResultCode.{LeCreditConnResultCode}
 use Rattle.codes.specs.declared.LeCreditConnResultCode.the-variants.{Success, NoResources}
 use Rattle.codes.specs.declared.Refusal.the-variants.{NotFound, InsufficientSpace, Disconnected, Held}
+use Rattle.credit.specs.declared.CreditFlowControl.{CreditFlowControl}
 use Rattle.credit.specs.Account.{newAccount}
 use Rattle.signal.specs.Forms.{rejectRes}
 use Rattle.writer.specs.Writer.{encodeOf}
@@ -65,20 +66,23 @@ rejectAllPending t room signal link =
 -- ---- "Accept: MPS and MTU (12), state (8), hold 0 (22, added)."
 
 -- The slot once it is accepted: Connected, with our numbers and a new account. Its hold becomes the channel's.
-abbrev pub accepted : Table → L2capChannelConfig → Slot → Slot
-accepted t c x =
+abbrev pub acceptedAs : (mps mtu : ℕ) → CreditFlowControl → Slot → Slot
+acceptedAs mps mtu account x =
     record {
       state = Connected;
       link = x .link;
       spsm = x .spsm;
-      mps = mpsOf t c;
-      mtu = mtuOf t c;
-      account = newAccount (c .policy) (creditsOf t c);
+      mps = mps;
+      mtu = mtu;
+      account = account;
       hold = x .hold;
       peer = x .peer;
       assembly = x .assembly;
       queue = x .queue;
     }
+
+abbrev pub accepted : Table → L2capChannelConfig → Slot → Slot
+accepted t c x = acceptedAs (mpsOf t c) (mtuOf t c) (newAccount (c .policy) (creditsOf t c)) x
 
 unfoldable pub acceptPending : Table → (signal slot : ℕ) → L2capChannelConfig → Outcome
 acceptPending t signal s c =

@@ -1,13 +1,11 @@
 -- What a call may rely on once the first refusals let it pass. It follows from the definition of `verdict`, test by test.
-use mathlib.Core.Path.{_≡_, refl, sym}
+use mathlib.Core.Path.{_≡_, refl}
 use mathlib.Core.Bool.{Bool, true, false, not}
 use Prim.Native.Nat.{ℕ, _≤_, _<_}
 use native.Mathlib.Omega.{arith}
-use lib.Dec.{eqb, leb, ltb}
 use borrow.Author.Tests.{ltb-false, leb-false, eqb-true, not-false}
 use Rattle.lists.specs.Choose.{choose}
 use Rattle.codes.specs.declared.Refusal.{Refusal}
-use Rattle.codes.specs.declared.Refusal.the-variants.{BadTable, BadRoom, NoRoom, BadHandle, BadSlot}
 use Rattle.channel.specs.Limits.{signalMost, handleMost}
 use Rattle.channel.specs.declared.Given.{Given}
 use Rattle.channel.specs.declared.Given.the-variants.{Nothing, Is}

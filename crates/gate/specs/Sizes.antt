@@ -1,6 +1,6 @@
 -- What sizes within the limits tell: how large a slot's part of the room and the room are, and where a part lies in it.
 -- The products are bounded here, once; what follows is arithmetic.
-use mathlib.Core.Path.{_≡_, refl, sym}
+use mathlib.Core.Path.{_≡_, refl}
 use mathlib.Core.Bool.{Bool, true, false, _&&_, false≢true}
 use Prim.Native.Nat.{ℕ, suc, _+_, _-_, _*_, _≤_, _<_}
 use native.Mathlib.Nat.{mul-le-mul, mul-le-mul-right, suc-mul}
@@ -8,7 +8,7 @@ use native.Mathlib.Omega.{arith}
 use borrow.Author.Tests.{leb-true}
 use Rattle.channel.specs.Limits.{slotsMost, depthMost, packetLeast, packetMost, jobHead}
 use Rattle.channel.specs.declared.Table.{Table}
-use Rattle.definition.specs.Table.{sizesFit, wellFormed, slotFits, placeOf, width, roomSize, live}
+use Rattle.definition.specs.Table.{sizesFit, wellFormed, slotFits, placeOf, width, live}
 use Rattle.lists.specs.Every.{every}
 
 -- a table of n slots, d waiting jobs a slot and packets of m octets
@@ -45,11 +45,15 @@ pub formed-sizes : (t : Table) → wellFormed t ≡ true → Sized (t .n) (t .d)
 unfolding wellFormed
 formed-sizes t e = sizes-fit (t .n) (t .d) (t .m) (both _ (every (slotFits (t .d) (placeOf t)) (live t)) e .0)
 
--- the most octets of a slot's part, and of the room
-pub width-most : (d m : ℕ) → d ≤ depthMost → m ≤ packetMost → suc d * (m - jobHead) ≤ suc depthMost * (packetMost - jobHead)
+-- a slot's part of the room, from the two sizes that decide it (`width` of a table)
+abbrev pub partWidth : ℕ → ℕ → ℕ
+partWidth d m = suc d * (m - jobHead)
+
+-- the most octets of a slot's part, and of n parts
+pub width-most : (d m : ℕ) → d ≤ depthMost → m ≤ packetMost → partWidth d m ≤ partWidth depthMost packetMost
 width-most d m h l = mul-le-mul {n₂ = suc depthMost} {m₂ = packetMost - jobHead} (omega arith) (omega arith)
 
-pub room-most : (n w : ℕ) → n ≤ slotsMost → w ≤ suc depthMost * (packetMost - jobHead) → n * w ≤ slotsMost * (suc depthMost * (packetMost - jobHead))
+pub room-most : (n w : ℕ) → n ≤ slotsMost → w ≤ partWidth depthMost packetMost → n * w ≤ slotsMost * partWidth depthMost packetMost
 room-most n w h l = mul-le-mul {n₂ = slotsMost} h l
 
 -- slot s's part ends within n of them

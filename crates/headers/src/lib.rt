@@ -1,5 +1,6 @@
 // The headers of the signals in a PDU (Core Vol 3 Part A 4): code, identifier, body length in two octets, then the body.
 use octets::number;
+use octets::octet;
 ghost use mathlib.Core.Path.{_≡_};
 ghost use Rattle.headers.specs.Headers.{headerOf, headersOf, bodyIn, restOf};
 
@@ -50,7 +51,7 @@ pub fn check_headers(pdu: &[u8]) -> Checked
         }
         let n = number(t, 2) as usize;
         if t.len() - 4 < n {
-            return Checked::Past(t[1]);
+            return Checked::Past(octet(t, 1));
         }
         t = &t[4 + n..];
     }

@@ -1,5 +1,6 @@
 -- The worked run of crate definition meets the premises of demand 3, whatever its job octets; and where its marks stand: on the job that
 -- was taken and on the payload of the frame that was sent, on nothing else.
+use Rattle.writer.specs.Writer.{encodeOf}
 use mathlib.Core.Path.{_≡_, refl}
 use mathlib.Core.Bool.{true, false}
 use mathlib.Core.List.{[], _∷_, _++_}
@@ -35,7 +36,7 @@ made-well = refl
 
 -- Two such runs with different job octets are alike: in life 0 of link 1.
 alike : (id a b c x y e a′ b′ c′ x′ y′ e′ : ℕ) → AlikeRuns 1 0 0 start (calls id a b c x y e) (calls id a′ b′ c′ x′ y′ e′)
-unfolding overAfter after decide serve registerSpsm signalled checked headersOf whole handled onConnReq leCreditConnReq nextPending acceptPending dispatch joined joinStep firstStep reached assembled receive taken grantIn grantOf due send planned planSend frameCount ceil framesLength frames laterFrames disconnect disconnecting nextDisconnect disconnected decRef jobs bare verdict wellFormed slotFits every first only choose make parts moves move fill fills written
+unfolding encodeOf overAfter after decide serve registerSpsm signalled checked headersOf whole handled onConnReq leCreditConnReq nextPending acceptPending dispatch joined joinStep firstStep reached assembled receive taken grantIn grantOf due send planned planSend frameCount ceil framesLength frames laterFrames disconnect disconnecting nextDisconnect disconnected decRef jobs bare verdict wellFormed slotFits every first only choose make parts moves move fill fills written
 alike id a b c x y e a′ b′ c′ x′ y′ e′ = (
   same,
   (
@@ -66,5 +67,5 @@ module _ (id a b c x y e : ℕ) where
     over : marksOf 1 0 start (calls id a b c x y e) .over ≡ 1
 
   marks : Marked
-  unfolding marksFrom marked overAfter after decide serve registerSpsm signalled checked headersOf whole handled onConnReq leCreditConnReq nextPending acceptPending dispatch joined joinStep firstStep reached assembled receive taken grantIn grantOf due send planned planSend frameCount ceil framesLength frames laterFrames disconnect disconnecting nextDisconnect disconnected decRef jobs bare carrier verdict wellFormed slotFits every first only choose make parts moves move fill fills written
+  unfolding encodeOf marksFrom marked overAfter after decide serve registerSpsm signalled checked headersOf whole handled onConnReq leCreditConnReq nextPending acceptPending dispatch joined joinStep firstStep reached assembled receive taken grantIn grantOf due send planned planSend frameCount ceil framesLength frames laterFrames disconnect disconnecting nextDisconnect disconnected decRef jobs bare carrier verdict wellFormed slotFits every first only choose make parts moves move fill fills written
   marks = record { half = refl; memory = refl; room = refl; over = refl }

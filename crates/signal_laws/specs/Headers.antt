@@ -56,13 +56,16 @@ module _ (code id : ℕ) (fs : List ℕ) where
   pdu-body = rw size (take-all (2 * length fs) (octetsOf fs) (omega (arith, octets-length fs)))
 
 pub written-good : (id : ℕ) (s : Signal) → headersOf (drop 4 (encodeOf id s)) ≡ Good
+unfolding encodeOf
 written-good id s = pdu-good (codeOf s) id (fieldsOf s)
 
 pub written-rest : (id : ℕ) (s : Signal) → restOf (drop 4 (encodeOf id s)) ≡ []
+unfolding encodeOf
 written-rest id s = pdu-rest (codeOf s) id (fieldsOf s)
 
 -- so a written signal is read as what was meant
 pub written-back : (id : ℕ) (s : Signal) → signalOf (codeOf s) (bodyIn (drop 4 (encodeOf id s))) ≡ SignalRead.Is s
+unfolding encodeOf
 written-back id s = rw (pdu-body (codeOf s) id (fieldsOf s)) (round-trip s)
 
 -- after a good check, what is given back passes the check too

@@ -1,6 +1,5 @@
 -- What a slot is searched for, as a value: each search of the crate `definition` by its name.
 use mathlib.Core.Bool.{Bool}
-use mathlib.Core.List.{List}
 use Prim.Native.Nat.{ℕ}
 use lib.Dec.{leb}
 use lib.ListN.{take}

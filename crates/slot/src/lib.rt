@@ -238,8 +238,8 @@ pub fn fits(x: Slot, w: Want) -> bool
 
 // ---- refusal 1, of one slot
 
-// n, and k at most.
-fn capped(n: usize, k: usize) -> usize
+// n, and k at most: one value, so that no two branches meet behind it.
+pub fn capped(n: usize, k: usize) -> usize
     ensures { λ r. ⌜ r ≡ min n k ⌝ }
 {
     if n < k { n } else { k }

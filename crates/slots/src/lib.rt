@@ -1,10 +1,9 @@
 // The table by value: slots read and stored, the one search, freeing, identifiers, the 0x40 rule, and what a call gives back. Total: a
 // slot past the end reads as an unused one and takes no store. Each contract is the equation with the function of that name in the crate `definition`.
 ghost use mathlib.Core.Path.{_≡_};
-ghost use Prim.Native.Nat.{_+_, _<_, min};
+ghost use Prim.Native.Nat.{_+_, _<_};
 ghost use lib.Dec.{eqb};
 ghost use Rattle.lists.specs.Choose.{choose};
-ghost use Rattle.channel.specs.Limits.{slotsMost};
 ghost use Rattle.channel.specs.declared.Answer.the-variants.{Done};
 ghost use Rattle.definition.specs.Table.{slotAt, putSlot, found, freed, index, cidOf, isCid, slotOf, nextId, spent};
 ghost use Rattle.definition.specs.Outcome.{sweep, refuse, done};
@@ -44,18 +43,11 @@ pub fn put_slot(t: Table, s: usize, x: Slot) -> Table
     }
 }
 
-// The slots that there are: a table says how many it uses.
-fn in_use(n: usize) -> usize
-    ensures { λ r. ⌜ r ≡ min n slotsMost ⌝ }
-{
-    if n < SLOTS { n } else { SLOTS }
-}
-
 // The lowest slot that is wanted, and N where none is.
 pub fn find(t: Table, w: Want) -> usize
     ensures { λ r. ⌜ r ≡ found (wanted w) t ⌝ }
 {
-    let n = in_use(t.n);
+    let n = slot::capped(t.n, SLOTS);
     let mut i = 0;
     while i < n {
         let x = t.slots[i];
@@ -78,7 +70,7 @@ fn freed_if(x: Slot, w: Want) -> Slot
 pub fn free_all(t: Table, w: Want) -> Table
     ensures { λ r. ⌜ r ≡ sweep t (wanted w) Done .table ⌝ }
 {
-    let n = in_use(t.n);
+    let n = slot::capped(t.n, SLOTS);
     let mut u = t;
     let mut i = 0;
     while i < n {

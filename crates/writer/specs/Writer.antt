@@ -47,7 +47,7 @@ fieldsOf (LeCreditConnReq f) = f .spsm ∷ f .scid ∷ f .mtu ∷ f .mps ∷ f .
 fieldsOf (LeCreditConnRes f) = f .dcid ∷ f .mtu ∷ f .mps ∷ f .credits ∷ resultNumber (f .result) ∷ []
 fieldsOf (LeCreditFlowInd f) = f .cid ∷ f .credits ∷ []
 
-abbrev pub encodeOf : ℕ → Signal → List ℕ
+unfoldable pub encodeOf : ℕ → Signal → List ℕ
 encodeOf id s = pduOf (codeOf s) id (fieldsOf s)
 
 -- what is answered, and what the buffer l holds, once the octets x were to be written: a buffer under 18 octets is refused
@@ -63,6 +63,7 @@ pub record Writes (l x : List ℕ) (r : SignalWritten) (out : List ℕ) : Type 0
 
 -- no signal is longer than 18 octets
 pub encode-short : (id : ℕ) (s : Signal) → length (encodeOf id s) ≤ 18
+unfolding encodeOf
 encode-short id (CommandRejectRes f) = lit≤ tt
 encode-short id (DisconnectionReq f) = lit≤ tt
 encode-short id (DisconnectionRes f) = lit≤ tt

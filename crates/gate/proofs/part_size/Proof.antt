@@ -1,9 +1,8 @@
 -- `gate::part_size` meets its contract: the product is small (width-most).
-use Rattle.gate.specs.Sizes.{width-most}
 use native.Mathlib.Omega.{arith}
 use native.Mathlib.Numerals.{add-one}
-use Prim.Native.Nat.{_+_, _*_, _-_, _≤_}
 use borrow.Author.Needs.{needs}
+use Rattle.gate.specs.Sizes.{width-most}
 use Rattle.gate.proofs.part_size.Statement.{statement}
 use Rattle.gate.proofs.part_size.Tie as tie
 

@@ -1,7 +1,7 @@
 -- `gate::room_size` meets its contract: the product is small (room-most).
-use Rattle.gate.specs.Sizes.{width-most, room-most}
 use native.Mathlib.Omega.{arith}
 use borrow.Author.Needs.{needs}
+use Rattle.gate.specs.Sizes.{width-most, room-most}
 use Rattle.gate.proofs.room_size.Statement.{statement}
 use Rattle.gate.proofs.room_size.Tie as tie
 

@@ -1,13 +1,13 @@
 -- `gate::slots_fit` meets its contract: every slot passed so far fits (Kept), and the array has SLOTS slots.
-use Rattle.definition.specs.Table.{slotFits, placeOf}
-use Rattle.channel.specs.Limits.{slotsMost}
-use Rattle.lists.specs.Every.{Kept, kept-none, kept-more, kept-fails, kept-all}
-use lib.ListN.{length, length-map}
+use mathlib.Core.Path.{_≡_, sym, _∙_}
+use Prim.Native.Nat.{_≤_, _-_, min}
+use native.Mathlib.Omega.{arith}
 use borrow.Author.Tests.{not-true, not-false}
 use borrow.Author.Needs.{needs}
-use native.Mathlib.Omega.{arith}
-use Prim.Native.Nat.{_≤_, _-_, min}
-use mathlib.Core.Path.{_≡_, sym, _∙_}
+use lib.ListN.{length, length-map}
+use Rattle.lists.specs.Every.{Kept, kept-none, kept-more, kept-fails, kept-all}
+use Rattle.channel.specs.Limits.{slotsMost}
+use Rattle.definition.specs.Table.{slotFits, placeOf}
 use Rattle.gate.proofs.slots_fit.Statement.{statement}
 use Rattle.gate.proofs.slots_fit.Tie as tie
 
@@ -20,8 +20,8 @@ abbrev μ-loop : tie.MeasureT-loop
 long : (c : tie.Start Inv-loop μ-loop) → length (c .args .t1 .slots) ≡ slotsMost
 long c = sym (length-map (c .args .t1 .slots) _) ∙ c .good .0 .1 .1 .0 .1 .0 .1
 
-in-use-requires : tie.Need-in-use-requires Inv-loop μ-loop
-in-use-requires c κs = search needs
+capped-requires : tie.Need-capped-requires Inv-loop μ-loop
+capped-requires c κs = search needs
 
 place-size-requires : tie.Need-place-size-requires Inv-loop μ-loop
 place-size-requires c κs = search needs
@@ -67,7 +67,7 @@ slots-fit-spec =
     (tie.spec
     Inv-loop
     μ-loop
-    in-use-requires
+    capped-requires
     place-size-requires
     loop-holds
     mul-x

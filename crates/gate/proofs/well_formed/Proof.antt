@@ -1,6 +1,6 @@
 -- `gate::well_formed` meets its contract: the definition's two tests, by what `sizes_fit` and `slots_fit` ensure.
-use Rattle.definition.specs.Table.{wellFormed}
 use borrow.Author.Needs.{needs}
+use Rattle.definition.specs.Table.{wellFormed}
 use Rattle.gate.proofs.well_formed.Statement.{statement}
 use Rattle.gate.proofs.well_formed.Tie as tie
 

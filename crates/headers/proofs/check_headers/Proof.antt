@@ -33,8 +33,8 @@ cast-n c = search needs
 sub-if2 : tie.Need-sub-if2 Inv-loop μ-loop
 sub-if2 c = search needs
 
-shared-slice-read-t9 : tie.Need-shared-slice-read-t9 Inv-loop μ-loop
-shared-slice-read-t9 c = search needs
+octet-requires : tie.Need-octet-requires Inv-loop μ-loop
+octet-requires c κs = search needs
 
 returns-2 : tie.Need-returns-2 Inv-loop μ-loop
 unfolding choose
@@ -43,7 +43,7 @@ returns-2 c =
     let l = n .before .before in
     sym
     (l .before .loop .inv ∙ headers-eq (l .before .loop .t .now)
-    ∙ rw (lt-ltb _ _ (l .loop-test .taken), le-ltb _ _ (n .before .if1 .left), ← n .number .ensures, lt-ltb _ _ (c .before .if2 .taken)))
+    ∙ rw (lt-ltb _ _ (l .loop-test .taken), le-ltb _ _ (n .before .if1 .left), ← n .number .ensures, lt-ltb _ _ (c .before .if2 .taken), c .octet .ensures))
 
 add-t : tie.Need-add-t Inv-loop μ-loop
 add-t c = search needs
@@ -83,7 +83,7 @@ check-headers-spec =
     number-requires
     cast-n
     sub-if2
-    shared-slice-read-t9
+    octet-requires
     returns-2
     add-t
     sub-t

@@ -1,13 +1,13 @@
 -- `slot::lens_fit` meets its contract: every job passed so far fits (Kept), and the queue's array has DEPTH places.
-use Rattle.lists.specs.Every.{Kept, kept-none, kept-more, kept-fails, kept-all}
-use lib.ListN.{length}
-use lib.Dec.{leb}
-use Rattle.channel.specs.Limits.{depthMost}
-use borrow.Author.Tests.{le-leb, lt-leb}
-use borrow.Author.Needs.{needs}
-use native.Mathlib.Omega.{arith}
 use mathlib.Core.Path.{_≡_}
 use Prim.Native.Nat.{_≤_, _-_, min}
+use native.Mathlib.Omega.{arith}
+use borrow.Author.Tests.{le-leb, lt-leb}
+use borrow.Author.Needs.{needs}
+use lib.ListN.{length}
+use lib.Dec.{leb}
+use Rattle.lists.specs.Every.{Kept, kept-none, kept-more, kept-fails, kept-all}
+use Rattle.channel.specs.Limits.{depthMost}
 use Rattle.slot.proofs.lens_fit.Statement.{statement}
 use Rattle.slot.proofs.lens_fit.Tie as tie
 

@@ -1,6 +1,6 @@
 -- `slot::slot_fits` meets its contract: the definition's tests in its order, two of them by what `lens_fit` and `sum_fits` ensure.
-use Rattle.definition.specs.Table.{slotFits}
 use borrow.Author.Needs.{needs}
+use Rattle.definition.specs.Table.{slotFits}
 use Rattle.slot.proofs.slot_fits.Statement.{statement}
 use Rattle.slot.proofs.slot_fits.Tie as tie
 

@@ -1,12 +1,12 @@
 -- `slots::find` meets its contract: no slot below i is wanted (Passed), and the array has SLOTS slots.
-use Rattle.slot.specs.Want.{wanted}
-use Rattle.channel.specs.Limits.{slotsMost}
-use Rattle.lists.specs.First.{Passed, passed-none, passed-more, passed-hit, passed-all}
-use lib.ListN.{length, length-map}
-use borrow.Author.Needs.{needs}
-use native.Mathlib.Omega.{arith}
-use Prim.Native.Nat.{_≤_, _-_, min}
 use mathlib.Core.Path.{_≡_, sym, _∙_}
+use Prim.Native.Nat.{_≤_, _-_, min}
+use native.Mathlib.Omega.{arith}
+use borrow.Author.Needs.{needs}
+use lib.ListN.{length, length-map}
+use Rattle.lists.specs.First.{Passed, passed-none, passed-more, passed-hit, passed-all}
+use Rattle.channel.specs.Limits.{slotsMost}
+use Rattle.slot.specs.Want.{wanted}
 use Rattle.slots.proofs.find.Statement.{statement}
 use Rattle.slots.proofs.find.Tie as tie
 
@@ -19,8 +19,8 @@ abbrev μ-loop : tie.MeasureT-loop
 long : (c : tie.Start Inv-loop μ-loop) → length (c .args .t1 .slots) ≡ slotsMost
 long c = sym (length-map (c .args .t1 .slots) _) ∙ c .good .0 .1 .1 .0 .1 .0 .1
 
-in-use-requires : tie.Need-in-use-requires Inv-loop μ-loop
-in-use-requires c κs = search needs
+capped-requires : tie.Need-capped-requires Inv-loop μ-loop
+capped-requires c κs = search needs
 
 loop-holds : tie.Need-loop-holds Inv-loop μ-loop
 loop-holds c = (omega arith, search needs, passed-none)
@@ -63,7 +63,7 @@ find-spec =
     (tie.spec
     Inv-loop
     μ-loop
-    in-use-requires
+    capped-requires
     loop-holds
     mul-x
     element-copy-out-x

@@ -1,14 +1,14 @@
 -- `slots::free_all` meets its contract: the slots below i are done (Mapped), nothing but the slots changes.
-use Rattle.slot.specs.Want.{wanted}
-use Rattle.definition.specs.Table.{freed, withSlots}
-use Rattle.channel.specs.Limits.{slotsMost}
+use mathlib.Core.Path.{_≡_, refl, sym, ap, _∙_}
+use Prim.Native.Nat.{_≤_, _-_, min}
+use native.Mathlib.Omega.{arith}
+use borrow.Author.Needs.{needs}
+use lib.ListN.{length, length-map, set}
 use Rattle.lists.specs.Each.{Mapped, mapped-none, mapped-more, mapped-all}
 use Rattle.lists.specs.Choose.{choose}
-use lib.ListN.{length, length-map, set}
-use borrow.Author.Needs.{needs}
-use native.Mathlib.Omega.{arith}
-use Prim.Native.Nat.{_≤_, _-_, min}
-use mathlib.Core.Path.{_≡_, refl, sym, ap, _∙_}
+use Rattle.channel.specs.Limits.{slotsMost}
+use Rattle.definition.specs.Table.{freed, withSlots}
+use Rattle.slot.specs.Want.{wanted}
 use Rattle.slots.proofs.free_all.Statement.{statement}
 use Rattle.slots.proofs.free_all.Tie as tie
 
@@ -21,8 +21,8 @@ abbrev μ-loop : tie.MeasureT-loop
 long : (c : tie.Start Inv-loop μ-loop) → length (c .args .t .slots) ≡ slotsMost
 long c = sym (length-map (c .args .t .slots) _) ∙ c .good .0 .1 .1 .0 .1 .0 .1
 
-in-use-requires : tie.Need-in-use-requires Inv-loop μ-loop
-in-use-requires c κs = search needs
+capped-requires : tie.Need-capped-requires Inv-loop μ-loop
+capped-requires c κs = search needs
 
 loop-holds : tie.Need-loop-holds Inv-loop μ-loop
 loop-holds c = (omega arith, search needs, refl, mapped-none, long (c .before))
@@ -72,7 +72,7 @@ free-all-spec =
     (tie.spec
     Inv-loop
     μ-loop
-    in-use-requires
+    capped-requires
     loop-holds
     mul-x
     element-copy-out-x

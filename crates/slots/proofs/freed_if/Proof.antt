@@ -1,6 +1,6 @@
 -- `slots::freed_if` meets its contract: the test is the definition's, by what `fits` ensures.
-use Rattle.lists.specs.Choose.{choose}
 use borrow.Author.Needs.{needs}
+use Rattle.lists.specs.Choose.{choose}
 use Rattle.slots.proofs.freed_if.Statement.{statement}
 use Rattle.slots.proofs.freed_if.Tie as tie
 

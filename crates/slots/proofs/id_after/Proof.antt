@@ -1,7 +1,7 @@
 -- `slots::id_after` meets its contract: code and definition make the same test.
+use borrow.Author.Needs.{needs}
 use Rattle.lists.specs.Choose.{choose}
 use Rattle.lists.proofs.Rules.{tests}
-use borrow.Author.Needs.{needs}
 use Rattle.slots.proofs.id_after.Statement.{statement}
 use Rattle.slots.proofs.id_after.Tie as tie
 

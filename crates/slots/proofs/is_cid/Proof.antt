@@ -1,6 +1,6 @@
 -- `slots::is_cid` meets its contract: the two tests of the definition, in its order.
-use Rattle.lists.proofs.Rules.{tests}
 use borrow.Author.Needs.{needs}
+use Rattle.lists.proofs.Rules.{tests}
 use Rattle.slots.proofs.is_cid.Statement.{statement}
 use Rattle.slots.proofs.is_cid.Tie as tie
 

@@ -1,11 +1,11 @@
 -- `slots::put_slot` meets its contract: past the end `set` changes nothing.
-use Rattle.channel.specs.Limits.{slotsMost}
+use mathlib.Core.Path.{_≡_, sym, _∙_}
+use Prim.Native.Nat.{_≤_}
+use native.Mathlib.Omega.{arith}
+use borrow.Author.Needs.{needs}
 use lib.Seq.{set-out}
 use lib.ListN.{length, length-map}
-use native.Mathlib.Omega.{arith}
-use Prim.Native.Nat.{_≤_}
-use mathlib.Core.Path.{_≡_, sym, _∙_}
-use borrow.Author.Needs.{needs}
+use Rattle.channel.specs.Limits.{slotsMost}
 use Rattle.slots.proofs.put_slot.Statement.{statement}
 use Rattle.slots.proofs.put_slot.Tie as tie
 

@@ -1,6 +1,6 @@
 -- `slots::refused` meets its contract: nothing was written, which is 0 octets.
-use Rattle.definition.specs.Mem.{sizes}
 use borrow.Author.Needs.{needs}
+use Rattle.definition.specs.Mem.{sizes}
 use Rattle.slots.proofs.refused.Statement.{statement}
 use Rattle.slots.proofs.refused.Tie as tie
 

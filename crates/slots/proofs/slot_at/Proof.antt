@@ -1,11 +1,11 @@
 -- `slots::slot_at` meets its contract: within the array it does not matter what a reading past the end would give.
-use Rattle.channel.specs.Limits.{slotsMost}
-use Rattle.lists.specs.Any.{getD-any}
-use lib.ListN.{length, length-map, List·getD-eq-default}
-use native.Mathlib.Omega.{arith}
-use Prim.Native.Nat.{_≤_}
 use mathlib.Core.Path.{_≡_, sym, _∙_}
+use Prim.Native.Nat.{_≤_}
+use native.Mathlib.Omega.{arith}
 use borrow.Author.Needs.{needs}
+use lib.ListN.{length, length-map, List·getD-eq-default}
+use Rattle.lists.specs.Any.{getD-any}
+use Rattle.channel.specs.Limits.{slotsMost}
 use Rattle.slots.proofs.slot_at.Statement.{statement}
 use Rattle.slots.proofs.slot_at.Tie as tie
 

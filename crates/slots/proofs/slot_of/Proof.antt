@@ -1,7 +1,7 @@
 -- `slots::slot_of` meets its contract: below 0x40 the difference is 0.
+use mathlib.Core.Path.{_≡_}
 use Prim.Native.Nat.{_-_}
 use native.Mathlib.Omega.{arith}
-use mathlib.Core.Path.{_≡_, ap}
 use borrow.Author.Needs.{needs}
 use Rattle.slots.proofs.slot_of.Statement.{statement}
 use Rattle.slots.proofs.slot_of.Tie as tie

@@ -1,7 +1,7 @@
 -- `spsms::is_registered` meets its contract: the definition's tests in its order.
 use borrow.Author.Tests.{le-leb}
-use Rattle.lists.proofs.Rules.{tests}
 use borrow.Author.Needs.{needs}
+use Rattle.lists.proofs.Rules.{tests}
 use Rattle.spsms.proofs.is_registered.Statement.{statement}
 use Rattle.spsms.proofs.is_registered.Tie as tie
 

@@ -1,11 +1,11 @@
 -- `spsms::registered` meets its contract: the bit is not set, by what `is_registered` ensures.
-use Rattle.definition.specs.Table.{isRegistered}
-use Rattle.lists.specs.Choose.{choose}
-use borrow.Author.Tests.{le-leb}
-use native.Mathlib.Omega.{arith}
 use mathlib.Core.Bool.{false}
 use mathlib.Core.Path.{_≡_, sym, _∙_}
+use native.Mathlib.Omega.{arith}
+use borrow.Author.Tests.{le-leb}
 use borrow.Author.Needs.{needs}
+use Rattle.lists.specs.Choose.{choose}
+use Rattle.definition.specs.Table.{isRegistered}
 use Rattle.spsms.proofs.registered.Statement.{statement}
 use Rattle.spsms.proofs.registered.Tie as tie
 

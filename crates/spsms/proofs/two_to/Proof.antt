@@ -1,6 +1,6 @@
 -- `spsms::two_to` meets its contract: eight cases, each computed.
-use native.Mathlib.Omega.{arith}
 use mathlib.Core.Path.{_≡_}
+use native.Mathlib.Omega.{arith}
 use Rattle.spsms.proofs.two_to.Statement.{statement}
 use Rattle.spsms.proofs.two_to.Tie as tie
 

@@ -1,8 +1,8 @@
 -- `spsms::with_bit` meets its contract: the bit is not set, so that the sum is an octet (bit-fits).
-use Rattle.spsms.specs.Bit.{bit-fits}
-use borrow.Author.Tests.{eqb-false}
 use native.Mathlib.Omega.{arith}
+use borrow.Author.Tests.{eqb-false}
 use borrow.Author.Needs.{needs}
+use Rattle.spsms.specs.Bit.{bit-fits}
 use Rattle.spsms.proofs.with_bit.Statement.{statement}
 use Rattle.spsms.proofs.with_bit.Tie as tie
 

@@ -1,5 +1,5 @@
 -- `writer::write_signal` meets its contract: in each arm the stores are the run of the form's octets (writes-all).
-use Rattle.writer.specs.Writer.{writes-none, writes-all}
+use Rattle.writer.specs.Writer.{encodeOf, writes-none, writes-all}
 use borrow.Author.Needs.{needs}
 use Rattle.writer.proofs.write_signal.Statement.{statement}
 use Rattle.writer.proofs.write_signal.Tie as tie
@@ -62,6 +62,7 @@ same-length : tie.Need-same-length
 same-length c = search needs
 
 returns-2 : tie.Need-returns-2
+unfolding encodeOf
 returns-2 c =
     let a = c .before .before .before .before .before .before .before in
     writes-all (a .before .before .args .id) (c .before .before .before .before .before .s .given .1) (a .if1 .left) (c .before .before .put-one .ensures)
@@ -70,6 +71,7 @@ same-length-2 : tie.Need-same-length-2
 same-length-2 c = search needs
 
 returns-3 : tie.Need-returns-3
+unfolding encodeOf
 returns-3 c =
     let a = c .before .before .before .before .before .before .before in
     writes-all (a .before .before .args .id) (c .before .before .before .before .before .s2 .given .1) (a .if1 .left) (c .before .before .put-two .ensures)
@@ -78,6 +80,7 @@ same-length-3 : tie.Need-same-length-3
 same-length-3 c = search needs
 
 returns-4 : tie.Need-returns-4
+unfolding encodeOf
 returns-4 c =
     let a = c .before .before .before .before .before .before .before in
     writes-all (a .before .before .args .id) (c .before .before .before .before .before .s3 .given .1) (a .if1 .left) (c .before .before .put-two2 .ensures)
@@ -86,6 +89,7 @@ same-length-4 : tie.Need-same-length-4
 same-length-4 c = search needs
 
 returns-5 : tie.Need-returns-5
+unfolding encodeOf
 returns-5 c =
     let a = c .before .before .before .before .before .before .before in
     writes-all (a .before .before .args .id) (c .before .before .before .before .before .s4 .given .1) (a .if1 .left) (c .before .before .put-four .ensures)
@@ -94,6 +98,7 @@ same-length-5 : tie.Need-same-length-5
 same-length-5 c = search needs
 
 returns-6 : tie.Need-returns-6
+unfolding encodeOf
 returns-6 c =
     let a = c .before .before .before .before .before .before .before in
     writes-all (a .before .before .args .id) (c .before .before .before .before .before .s5 .given .1) (a .if1 .left) (c .before .before .put-one2 .ensures)
@@ -102,6 +107,7 @@ same-length-6 : tie.Need-same-length-6
 same-length-6 c = search needs
 
 returns-7 : tie.Need-returns-7
+unfolding encodeOf
 returns-7 c =
     let a = c .before .before .before .before .before .before .before in
     writes-all (a .before .before .args .id) (c .before .before .before .before .before .s6 .given .1) (a .if1 .left) (c .before .before .put-five .ensures)
@@ -110,6 +116,7 @@ same-length-7 : tie.Need-same-length-7
 same-length-7 c = search needs
 
 returns-8 : tie.Need-returns-8
+unfolding encodeOf
 returns-8 c =
     let a = c .before .before .before .before .before .before .before .before in
     writes-all (a .before .before .args .id) (c .before .before .before .before .before .before .s7 .given .1) (a .if1 .left) (rw (c .before .before .before .result-number .ensures) at (c .before .before .put-five2 .ensures))
@@ -118,6 +125,7 @@ same-length-8 : tie.Need-same-length-8
 same-length-8 c = search needs
 
 returns-9 : tie.Need-returns-9
+unfolding encodeOf
 returns-9 c =
     let a = c .before .before .before .before .before .before .before in
     writes-all (a .before .before .args .id) (c .before .before .before .before .before .s8 .given .1) (a .if1 .left) (c .before .before .put-two3 .ensures)

@@ -1,0 +1,165 @@
+-- `closing::next_disconnect` meets its contract: behind the gate code and definition make the same tests in the same order.
+use mathlib.Core.Path.{sym, _∙_}
+use mathlib.Core.List.{[]}
+use native.Mathlib.Omega.{arith}
+use Rattle.definition.specs.Ending.{end-still}
+use Rattle.gate.specs.Passed.{passed}
+use Rattle.room.specs.Placed.{room-of}
+use borrow.Author.Tests.{le-leb, lt-leb}
+use Rattle.lists.specs.Choose.{choose}
+use Rattle.definition.specs.Mem.{sizes}
+use Rattle.definition.specs.Closing.{nextDisconnect}
+use borrow.Author.Needs.{needs}
+use Rattle.closing.proofs.next_disconnect.Statement.{statement}
+use Rattle.closing.proofs.next_disconnect.Tie as tie
+
+gate-requires : tie.Need-gate-requires
+gate-requires c κs = search needs
+
+enum-known-r : tie.Need-enum-known-r
+enum-known-r c = search needs
+
+refused-requires : tie.Need-refused-requires
+refused-requires c κs = search needs
+
+enum-told : tie.Need-enum-told
+enum-told c = search needs
+
+find-requires : tie.Need-find-requires
+find-requires c κs = search needs
+
+done-requires : tie.Need-done-requires
+done-requires c κs = search needs
+
+returns : tie.Need-returns
+unfolding choose sizes nextDisconnect
+returns c =
+    rw (
+      ← c .before .before .before .before .before .before .gate .ensures,
+      c .before .before .before .before .enum-told .given .1,
+      ← c .before .before .before .find .ensures,
+      le-leb _ _ (c .before .if1 .taken),
+      c .done .ensures,
+    ) (sym (end-still _ _ _ _ _ _ _))
+
+slot-at-requires : tie.Need-slot-at-requires
+slot-at-requires c κs = search needs
+
+is-peer-disconnecting-requires : tie.Need-is-peer-disconnecting-requires
+is-peer-disconnecting-requires c κs = search needs
+
+identifier-of-requires : tie.Need-identifier-of-requires
+identifier-of-requires c κs = search needs
+
+index-at-requires : tie.Need-index-at-requires
+index-at-requires c κs =
+    let p = passed _ _ _ _ _ (sym (c .before .before .before .before .before .before .before .before .before .gate .ensures) ∙ c .before .before .before .before .before .before .before .enum-told .given .1) in
+    omega (arith, p .sizes .n-most)
+
+response-requires : tie.Need-response-requires
+response-requires c κs =
+    let p = passed _ _ _ _ _ (sym (c .before .before .before .before .before .before .before .before .before .before .gate .ensures) ∙ c .before .before .before .before .before .before .before .before .enum-told .given .1) in
+    omega (arith, p .sizes .n-most)
+
+free-and-tell-requires : tie.Need-free-and-tell-requires
+free-and-tell-requires c κs =
+    let p = passed _ _ _ _ _ (sym (c .before .before .before .before .before .before .before .before .before .before .before .before .before .gate .ensures) ∙ c .before .before .before .before .before .before .before .before .before .before .before .enum-told .given .1) in
+    (room-of p, omega arith, p .signal-is)
+
+same-length : tie.Need-same-length
+same-length c = search needs
+
+same-length-2 : tie.Need-same-length-2
+same-length-2 c = search needs
+
+returns-2 : tie.Need-returns-2
+unfolding choose sizes nextDisconnect
+returns-2 c =
+    rw (
+      ← c .before .before .before .before .before .before .before .before .before .before .before .before .before .before .before .before .before .before .gate .ensures,
+      c .before .before .before .before .before .before .before .before .before .before .before .before .before .before .before .before .enum-told .given .1,
+      ← c .before .before .before .before .before .before .before .before .before .before .before .before .before .before .before .find .ensures,
+      lt-leb _ _ (c .before .before .before .before .before .before .before .before .before .before .before .before .before .if1 .left),
+      ← c .before .before .before .before .before .before .before .before .before .before .before .before .slot-at .ensures,
+      ← c .before .before .before .before .before .before .before .before .before .before .before .is-peer-disconnecting .ensures,
+      c .before .before .before .before .before .before .before .before .before .before .if2 .taken,
+    ) (rw (c .before .before .before .before .before .before .before .response .ensures, c .before .before .before .before .before .before .before .before .index-at .ensures, c .before .before .before .before .before .before .before .before .before .identifier-of .ensures) at (c .before .before .before .before .free-and-tell .ensures []))
+
+spent-requires : tie.Need-spent-requires
+spent-requires c κs = search needs
+
+next-id-requires : tie.Need-next-id-requires
+next-id-requires c κs = search needs
+
+in-state-requires : tie.Need-in-state-requires
+in-state-requires c κs = search needs
+
+index-at-requires-2 : tie.Need-index-at-requires-2
+index-at-requires-2 c κs =
+    let p = passed _ _ _ _ _ (sym (c .before .before .before .before .before .before .before .before .before .before .before .gate .ensures) ∙ c .before .before .before .before .before .before .before .before .before .enum-told .given .1) in
+    omega (arith, p .sizes .n-most)
+
+request-requires : tie.Need-request-requires
+request-requires c κs =
+    let p = passed _ _ _ _ _ (sym (c .before .before .before .before .before .before .before .before .before .before .before .before .gate .ensures) ∙ c .before .before .before .before .before .before .before .before .before .before .enum-told .given .1) in
+    omega (arith, p .sizes .n-most)
+
+alter-and-tell-requires : tie.Need-alter-and-tell-requires
+alter-and-tell-requires c κs =
+    let p = passed _ _ _ _ _ (sym (c .before .before .before .before .before .before .before .before .before .before .before .before .before .before .gate .ensures) ∙ c .before .before .before .before .before .before .before .before .before .before .before .before .enum-told .given .1) in
+    p .signal-is
+
+returns-3 : tie.Need-returns-3
+unfolding choose sizes nextDisconnect
+returns-3 c =
+    rw (
+      ← c .before .before .before .before .gate .ensures,
+      c .before .before .r .given .1,
+      c .refused .ensures,
+    ) (sym (end-still _ _ _ _ _ _ _))
+
+same-length-3 : tie.Need-same-length-3
+same-length-3 c = search needs
+
+returns-4 : tie.Need-returns-4
+unfolding choose sizes nextDisconnect
+returns-4 c =
+    rw (
+      ← c .before .before .before .before .before .before .before .before .before .before .before .before .before .before .before .before .before .gate .ensures,
+      c .before .before .before .before .before .before .before .before .before .before .before .before .before .before .before .enum-told .given .1,
+      ← c .before .before .before .before .before .before .before .before .before .before .before .before .before .before .find .ensures,
+      lt-leb _ _ (c .before .before .before .before .before .before .before .before .before .before .before .before .if1 .left),
+      ← c .before .before .before .before .before .before .before .before .before .before .before .slot-at .ensures,
+      ← c .before .before .before .before .before .before .before .before .before .before .is-peer-disconnecting .ensures,
+      c .before .before .before .before .before .before .before .before .before .if2 .left,
+    ) (rw (c .before .before .before .before .request .ensures, c .before .before .before .before .before .index-at2 .ensures, c .before .before .before .before .before .before .in-state .ensures, c .before .before .before .before .before .before .before .next-id .ensures, c .before .before .before .before .before .before .before .before .spent .ensures) at (c .before .before .alter-and-tell .ensures (c .before .before .before .before .before .before .before .before .before .before .before .before .before .before .before .before .before .before .before .before .args .t) (c .before .before .before .before .before .before .before .before .before .before .before .before .before .before .before .before .before .before .before .before .args .room .now) []))
+
+pub next-disconnect-spec : {M : Type 1} → statement M
+next-disconnect-spec =
+    tie.close
+    (tie.spec
+    gate-requires
+    enum-known-r
+    refused-requires
+    enum-told
+    find-requires
+    done-requires
+    returns
+    slot-at-requires
+    is-peer-disconnecting-requires
+    identifier-of-requires
+    index-at-requires
+    response-requires
+    free-and-tell-requires
+    same-length
+    same-length-2
+    returns-2
+    spent-requires
+    next-id-requires
+    in-state-requires
+    index-at-requires-2
+    request-requires
+    alter-and-tell-requires
+    returns-3
+    same-length-3
+    returns-4)

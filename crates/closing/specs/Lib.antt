@@ -1,0 +1,2 @@
+-- The signals of a disconnect.
+pub mod Parting

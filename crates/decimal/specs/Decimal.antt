@@ -1,0 +1,37 @@
+-- Decimal numbers (docs/CHANRUN.md): "1 to 5 digits, at most 65,535". Zeros in front are digits as any other (`007` is 7); a number is written
+-- without them.
+use mathlib.Core.Bool.{Bool, _&&_}
+use mathlib.Core.List.{List, [], _∷_, _++_}
+use Prim.Native.Nat.{ℕ, zero, suc, _+_, _-_, _*_, _/_, _%_}
+use lib.Dec.{leb, ltb}
+use lib.ListN.{length}
+use Rattle.lists.specs.Choose.{choose}
+use Rattle.lists.specs.Every.{every}
+use Rattle.decimal.specs.declared.NumberRead.{NumberRead}
+use Rattle.decimal.specs.declared.NumberRead.the-variants as NumberRead
+
+-- `0` to `9`
+abbrev pub isDigit : ℕ → Bool
+isDigit c = leb 48 c && leb c 57
+
+-- what digits spell behind the number n, the highest first
+unfoldable pub spelt : ℕ → List ℕ → ℕ
+spelt n [] = n
+spelt n (c ∷ cs) = spelt (10 * n + (c - 48)) cs
+
+unfoldable pub numberRead : List ℕ → NumberRead
+numberRead w =
+    choose (ltb (length w) 1) NumberRead.Bad
+    (choose (ltb 5 (length w)) NumberRead.Bad
+    (choose (every isDigit w)
+    (choose (ltb 65535 (spelt 0 w)) NumberRead.Bad (NumberRead.Is (spelt 0 w)))
+    NumberRead.Bad))
+
+-- the last digit behind the others, of at most k
+unfoldable pub digits : ℕ → ℕ → List ℕ
+digits zero n = []
+digits (suc k) n = choose (ltb n 10) ((48 + n) ∷ []) (digits k (n / 10) ++ (48 + n % 10) ∷ [])
+
+-- a number of 16 bits has at most five
+abbrev pub numberText : ℕ → List ℕ
+numberText n = digits 5 n

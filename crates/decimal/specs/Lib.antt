@@ -1,0 +1,3 @@
+-- Decimal numbers, read and written.
+pub mod Decimal
+pub mod DecimalLaws

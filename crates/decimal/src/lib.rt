@@ -1,0 +1,55 @@
+// Decimal numbers of a script: read from a word and written into a row. What a word spells and how a number is written are defined in
+// specs/Decimal.antt; that a number written is read again is a law of specs/DecimalLaws.antt. It rests on `rows`.
+use rows::write_character;
+ghost use mathlib.Core.Path.{_≡_};
+ghost use Rattle.rows.specs.Rows.{Writes};
+ghost use Rattle.decimal.specs.Decimal.{isDigit, numberRead, numberText};
+
+// What a word spells: a number of 16 bits, or none.
+pub enum NumberRead {
+    Bad,
+    Is(u16),
+}
+
+fn is_digit(c: u8) -> bool
+    ensures { λ r. ⌜ r ≡ isDigit c ⌝ }
+{
+    (48 <= c) & (c <= 57)
+}
+
+// Reads a word of 1 to 5 digits.
+pub fn read_number(word: &[u8]) -> NumberRead
+    ensures { λ r. ⌜ r ≡ numberRead (now (word .entry)) ⌝ }
+{
+    if word.len() < 1 {
+        return NumberRead::Bad;
+    }
+    if 5 < word.len() {
+        return NumberRead::Bad;
+    }
+    let mut n: u32 = 0;
+    let mut i: usize = 0;
+    while i < word.len() {
+        let c = word[i];
+        if !is_digit(c) {
+            return NumberRead::Bad;
+        }
+        n = 10 * n + ((c - 48) as u32);
+        i += 1;
+    }
+    if 65535 < n {
+        return NumberRead::Bad;
+    }
+    NumberRead::Is(n as u16)
+}
+
+// Writes a number at `at` with no zero in front, and gives the place behind it.
+pub fn write_number(out: &mut [u8], at: usize, n: u16) -> usize
+    ensures { λ r. ⌜ Writes (now (out .entry)) at (numberText n) r (now (out .exit)) ⌝ }
+{
+    if n < 10 {
+        return write_character(out, at, (48 + n) as u8);
+    }
+    let next = write_number(out, at, n / 10);
+    write_character(out, next, (48 + n % 10) as u8)
+}

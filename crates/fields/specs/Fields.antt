@@ -1,0 +1,73 @@
+-- What the words of a call say (docs/CHANRUN.md), each kind with its test.
+use mathlib.Core.Bool.{Bool, true, false, _&&_, _||_}
+use mathlib.Core.List.{List}
+use Prim.Native.Nat.{ℕ}
+use lib.Dec.{eqb, leb}
+use lib.ListN.{length, getD, drop}
+use Rattle.lists.specs.Choose.{choose}
+use Rattle.credit.specs.declared.CreditFlowPolicy.{CreditFlowPolicy}
+use Rattle.credit.specs.declared.CreditFlowPolicy.the-variants as CreditFlowPolicy
+use Rattle.decimal.specs.declared.NumberRead.{NumberRead}
+use Rattle.decimal.specs.declared.NumberRead.the-variants as NumberRead
+use Rattle.decimal.specs.Decimal.{numberRead}
+use Rattle.fields.specs.declared.Setting.{Setting}
+use Rattle.fields.specs.declared.Setting.the-variants as Setting
+use Rattle.fields.specs.declared.Role.{Role}
+use Rattle.fields.specs.declared.Role.the-variants as Role
+use Rattle.fields.specs.declared.L2capChannelConfig.{L2capChannelConfig}
+
+-- a number
+unfoldable pub spells : NumberRead → Bool
+spells NumberRead.Bad = false
+spells (NumberRead.Is n) = true
+
+unfoldable pub spelling : NumberRead → ℕ
+spelling NumberRead.Bad = 0
+spelling (NumberRead.Is n) = n
+
+abbrev pub isNumber : List ℕ → Bool
+isNumber w = spells (numberRead w)
+
+abbrev pub numberOf : List ℕ → ℕ
+numberOf w = spelling (numberRead w)
+
+-- the one character c
+abbrev pub isOne : ℕ → List ℕ → Bool
+isOne c w = eqb (length w) 1 && eqb (getD w 0 0) c
+
+-- "listening 0 or 1", "up 0 or 1"
+abbrev pub isFlag : List ℕ → Bool
+isFlag w = isNumber w && leb (numberOf w) 1
+
+abbrev pub flagOf : List ℕ → Bool
+flagOf w = eqb (numberOf w) 1
+
+-- "role `c` (Central) or `p`"
+abbrev pub isRole : List ℕ → Bool
+isRole w = isOne 99 w || isOne 112 w
+
+unfoldable pub roleOf : List ℕ → Role
+roleOf w = choose (isOne 99 w) Role.Central Role.Peripheral
+
+-- a number, or "`-` is the default"
+abbrev pub isSetting : List ℕ → Bool
+isSetting w = isOne 45 w || isNumber w
+
+unfoldable pub settingOf : List ℕ → Setting
+settingOf w = choose (isOne 45 w) Setting.Default (Setting.Is (numberOf w))
+
+-- "policy `eK` is Every(K), `mT` MinThreshold(T)"; the default is Every(1), as in the original
+unfoldable pub isPolicy : List ℕ → Bool
+isPolicy w = choose (isOne 45 w) true ((eqb (getD w 0 0) 101 || eqb (getD w 0 0) 109) && isNumber (drop 1 w))
+
+unfoldable pub policyOf : List ℕ → CreditFlowPolicy
+policyOf w =
+    choose (isOne 45 w) (CreditFlowPolicy.Every 1)
+    (choose (eqb (getD w 0 0) 101) (CreditFlowPolicy.Every (numberOf (drop 1 w))) (CreditFlowPolicy.MinThreshold (numberOf (drop 1 w))))
+
+-- `mtu mps policy credits`
+abbrev pub isConfig : (mtu mps policy credits : List ℕ) → Bool
+isConfig mtu mps policy credits = isSetting mtu && isSetting mps && isPolicy policy && isSetting credits
+
+abbrev pub configOf : (mtu mps policy credits : List ℕ) → L2capChannelConfig
+configOf mtu mps policy credits = record { mtu = settingOf mtu; mps = settingOf mps; policy = policyOf policy; credits = settingOf credits }

@@ -1,0 +1,2 @@
+-- What the words of a call say.
+pub mod Fields

@@ -1,0 +1,146 @@
+// The words of a call, one kind each: whether a word is of that kind, and what it then says. A word is tested before it is asked. What each
+// word says is defined in specs/Fields.antt; it rests on `decimal`.
+use credit::CreditFlowPolicy;
+use decimal::NumberRead;
+use decimal::read_number;
+ghost use mathlib.Core.Path.{_≡_};
+ghost use lib.ListN.{drop};
+ghost use Rattle.fields.specs.Fields.{isNumber, numberOf, isOne, isFlag, flagOf, isRole, roleOf, isSetting, settingOf, isPolicy, policyOf, isConfig, configOf};
+
+// A number that the line gives, or `-` for the default.
+pub enum Setting {
+    Default,
+    Is(u16),
+}
+
+// What an accept or a create asks for.
+pub struct L2capChannelConfig {
+    pub mtu: Setting,
+    pub mps: Setting,
+    pub policy: CreditFlowPolicy,
+    pub credits: Setting,
+}
+
+// Our side of a link.
+pub enum Role {
+    Central,
+    Peripheral,
+}
+
+pub fn is_number(word: &[u8]) -> bool
+    ensures { λ r. ⌜ r ≡ isNumber (now (word .entry)) ⌝ }
+{
+    match read_number(word) {
+        NumberRead::Bad => false,
+        NumberRead::Is(_) => true,
+    }
+}
+
+pub fn number_of(word: &[u8]) -> u16
+    ensures { λ r. ⌜ r ≡ numberOf (now (word .entry)) ⌝ }
+{
+    match read_number(word) {
+        NumberRead::Bad => 0,
+        NumberRead::Is(n) => n,
+    }
+}
+
+// Whether a word is the one character `c`.
+pub fn is_one(word: &[u8], c: u8) -> bool
+    ensures { λ r. ⌜ r ≡ isOne c (now (word .entry)) ⌝ }
+{
+    (word.len() == 1) & (octets::octet(word, 0) == c)
+}
+
+pub fn is_flag(word: &[u8]) -> bool
+    ensures { λ r. ⌜ r ≡ isFlag (now (word .entry)) ⌝ }
+{
+    is_number(word) & (number_of(word) <= 1)
+}
+
+pub fn flag_of(word: &[u8]) -> bool
+    ensures { λ r. ⌜ r ≡ flagOf (now (word .entry)) ⌝ }
+{
+    number_of(word) == 1
+}
+
+pub fn is_role(word: &[u8]) -> bool
+    ensures { λ r. ⌜ r ≡ isRole (now (word .entry)) ⌝ }
+{
+    is_one(word, 99) | is_one(word, 112)
+}
+
+pub fn role_of(word: &[u8]) -> Role
+    ensures { λ r. ⌜ r ≡ roleOf (now (word .entry)) ⌝ }
+{
+    if is_one(word, 99) {
+        return Role::Central;
+    }
+    Role::Peripheral
+}
+
+pub fn is_setting(word: &[u8]) -> bool
+    ensures { λ r. ⌜ r ≡ isSetting (now (word .entry)) ⌝ }
+{
+    is_one(word, 45) | is_number(word)
+}
+
+pub fn setting_of(word: &[u8]) -> Setting
+    ensures { λ r. ⌜ r ≡ settingOf (now (word .entry)) ⌝ }
+{
+    if is_one(word, 45) {
+        return Setting::Default;
+    }
+    Setting::Is(number_of(word))
+}
+
+// What stands behind the first character.
+fn behind_first(word: &[u8]) -> &[u8]
+    ensures { λ r. ⌜ now r ≡ drop 1 (now (word .entry)) ⌝ }
+{
+    if 0 < word.len() { &word[1..] } else { word }
+}
+
+pub fn is_policy(word: &[u8]) -> bool
+    ensures { λ r. ⌜ r ≡ isPolicy (now (word .entry)) ⌝ }
+{
+    if is_one(word, 45) {
+        return true;
+    }
+    let c = octets::octet(word, 0);
+    ((c == 101) | (c == 109)) & is_number(behind_first(word))
+}
+
+pub fn policy_of(word: &[u8]) -> CreditFlowPolicy
+    ensures { λ r. ⌜ r ≡ policyOf (now (word .entry)) ⌝ }
+{
+    if is_one(word, 45) {
+        return CreditFlowPolicy::Every(1);
+    }
+    let n = number_of(behind_first(word));
+    if octets::octet(word, 0) == 101 {
+        return CreditFlowPolicy::Every(n);
+    }
+    CreditFlowPolicy::MinThreshold(n)
+}
+
+pub fn is_config(mtu: &[u8], mps: &[u8], policy: &[u8], credits: &[u8]) -> bool
+    ensures { λ r. ⌜ r ≡ isConfig (now (mtu .entry)) (now (mps .entry)) (now (policy .entry)) (now (credits .entry)) ⌝ }
+{
+    is_setting(mtu) & is_setting(mps) & is_policy(policy) & is_setting(credits)
+}
+
+pub fn config_of(mtu: &[u8], mps: &[u8], policy: &[u8], credits: &[u8]) -> L2capChannelConfig
+    ensures { λ r. ⌜ r ≡ configOf (now (mtu .entry)) (now (mps .entry)) (now (policy .entry)) (now (credits .entry)) ⌝ }
+{
+    let a = setting_of(mtu);
+    let b = setting_of(mps);
+    let p = policy_of(policy);
+    let k = setting_of(credits);
+    L2capChannelConfig {
+        mtu: a,
+        mps: b,
+        policy: p,
+        credits: k,
+    }
+}

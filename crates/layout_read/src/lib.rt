@@ -1,0 +1,140 @@
+// The table read from its octets: a slot from its row, the tests that the octets are a spelling, the whole table.
+// It stands on `layout`, whose specs/Layout.antt says what the octets mean.
+use channel::ChannelState;
+use channel::Peer;
+use channel::Queue;
+use channel::SLOTS;
+use channel::Slot;
+use credit::CreditFlowControl;
+use layout::COUNT;
+use layout::CREDITS;
+use layout::HAVE;
+use layout::HOLD;
+use layout::KIND;
+use layout::LENS;
+use layout::LINK;
+use layout::MPS;
+use layout::MTU;
+use layout::PEER_CID;
+use layout::PEER_CREDITS;
+use layout::PEER_MPS;
+use layout::PEER_MTU;
+use layout::POLICY;
+use layout::POLICY_VALUE;
+use layout::RECEIVED;
+use layout::SPSM;
+use layout::VALUE;
+use layout::WANT;
+use sar::Assembly;
+ghost use mathlib.Core.Path.{_≡_};
+ghost use Prim.Native.Nat.{_+_, _*_, _≤_, _<_};
+ghost use lib.ListN.{length, getD};
+ghost use Rattle.channel.specs.Limits.{slotsMost};
+ghost use Rattle.layout.specs.Layout.{tableOctets, cell, slotIn};
+ghost use Rattle.layout.specs.Spelled.{rowSpelled};
+
+// ---- a row read
+
+fn octet(t: &[u8], i: usize, column: usize) -> u8
+    requires { ⌜ i + column < length (now t) ⌝ }
+    ensures { λ r. ⌜ r ≡ getD (now (t .entry)) (i + column) 0 ⌝ }
+{
+    t[i + column]
+}
+
+// The number whose lower octets are in that column.
+fn number(t: &[u8], i: usize, column: usize) -> u16
+    requires { ⌜ i + (column + slotsMost) < length (now t) ⌝ }
+    ensures { λ r. ⌜ r ≡ getD (now (t .entry)) (i + column) 0 + 256 * getD (now (t .entry)) (i + (column + slotsMost)) 0 ⌝ }
+{
+    (octet(t, i, column) as u16) + 256 * (octet(t, i, column + SLOTS) as u16)
+}
+
+fn state_at(t: &[u8], i: usize) -> ChannelState
+    requires { ⌜ (tableOctets ≤ length (now t)) × (i < slotsMost) ⌝ }
+    ensures { λ r. ⌜ r ≡ slotIn (cell (now (t .entry)) i) .state ⌝ }
+{
+    layout::state_of(octet(t, i, KIND), octet(t, i, VALUE))
+}
+
+fn account_at(t: &[u8], i: usize) -> CreditFlowControl
+    requires { ⌜ (tableOctets ≤ length (now t)) × (i < slotsMost) ⌝ }
+    ensures { λ r. ⌜ r ≡ slotIn (cell (now (t .entry)) i) .account ⌝ }
+{
+    let policy = layout::policy_of(octet(t, i, POLICY), number(t, i, POLICY_VALUE));
+    CreditFlowControl {
+        policy,
+        credits: number(t, i, CREDITS),
+        received: number(t, i, RECEIVED),
+    }
+}
+
+fn peer_at(t: &[u8], i: usize) -> Peer
+    requires { ⌜ (tableOctets ≤ length (now t)) × (i < slotsMost) ⌝ }
+    ensures { λ r. ⌜ r ≡ slotIn (cell (now (t .entry)) i) .peer ⌝ }
+{
+    Peer {
+        cid: number(t, i, PEER_CID),
+        mps: number(t, i, PEER_MPS),
+        mtu: number(t, i, PEER_MTU),
+        credits: number(t, i, PEER_CREDITS),
+    }
+}
+
+fn assembly_at(t: &[u8], i: usize) -> Assembly
+    requires { ⌜ (tableOctets ≤ length (now t)) × (i < slotsMost) ⌝ }
+    ensures { λ r. ⌜ r ≡ slotIn (cell (now (t .entry)) i) .assembly ⌝ }
+{
+    Assembly {
+        have: number(t, i, HAVE),
+        want: number(t, i, WANT),
+    }
+}
+
+fn queue_at(t: &[u8], i: usize) -> Queue
+    requires { ⌜ (tableOctets ≤ length (now t)) × (i < slotsMost) ⌝ }
+    ensures { λ r. ⌜ r ≡ slotIn (cell (now (t .entry)) i) .queue ⌝ }
+{
+    let lens = [
+        number(t, i, LENS),
+        number(t, i, LENS + 2 * SLOTS),
+        number(t, i, LENS + 4 * SLOTS),
+        number(t, i, LENS + 6 * SLOTS),
+    ];
+    Queue {
+        count: octet(t, i, COUNT),
+        lens,
+    }
+}
+
+// The slot that row i says.
+pub fn slot_at(t: &[u8], i: usize) -> Slot
+    requires { ⌜ (tableOctets ≤ length (now t)) × (i < slotsMost) ⌝ }
+    ensures { λ r. ⌜ r ≡ slotIn (cell (now (t .entry)) i) ⌝ }
+{
+    let state = state_at(t, i);
+    let account = account_at(t, i);
+    let peer = peer_at(t, i);
+    let assembly = assembly_at(t, i);
+    let queue = queue_at(t, i);
+    Slot {
+        state,
+        link: number(t, i, LINK),
+        spsm: number(t, i, SPSM),
+        mps: number(t, i, MPS),
+        mtu: number(t, i, MTU),
+        account,
+        hold: octet(t, i, HOLD),
+        peer,
+        assembly,
+        queue,
+    }
+}
+
+// Is row i the spelling of the slot that it says?
+pub fn row_spelled(t: &[u8], i: usize) -> bool
+    requires { ⌜ (tableOctets ≤ length (now t)) × (i < slotsMost) ⌝ }
+    ensures { λ r. ⌜ r ≡ rowSpelled (cell (now (t .entry)) i) ⌝ }
+{
+    layout::state_spelled(octet(t, i, KIND), octet(t, i, VALUE)) & (octet(t, i, POLICY) <= 1)
+}

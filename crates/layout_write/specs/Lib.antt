@@ -1,0 +1,2 @@
+-- Octets written into rows, and what stands in each then.
+pub mod Cells

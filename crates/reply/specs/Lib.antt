@@ -1,0 +1,2 @@
+-- What a written reply leaves.
+pub mod Reply

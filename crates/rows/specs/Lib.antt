@@ -1,0 +1,2 @@
+-- What it is to write a piece of a row.
+pub mod Rows

@@ -1,0 +1,159 @@
+-- All that the rules need to know of crates sar and cutting: what the join step and the plan of a send may come to. The only file that names the
+-- variants of their answers; it rests on `joinStep` and `planSend` alone.
+use mathlib.Core.Path.{_≡_, refl, sym, ap, _∙_}
+use mathlib.Core.Bool.{true, false}
+use mathlib.Core.List.{List, [], _∷_}
+use Prim.Native.Nat.{ℕ, _+_, _-_, _≤_, _<_}
+use native.Mathlib.Omega.{arith}
+use lib.ListN.{length}
+use borrow.Author.Tests.{ltb-true, ltb-false, leb-false, eqb-true, eqb-false, eq-eqb, ne-eqb, lt-ltb, le-ltb, lt-leb}
+use Rattle.lists.specs.Choose.{choose-true, choose-false, if-cases}
+use Rattle.credit.specs.Account.{received}
+use Rattle.sar.specs.declared.Assembly.{Assembly}
+use Rattle.sar.specs.declared.Joined.{Joined}
+use Rattle.sar.specs.declared.Joined.the-variants as Joined
+use Rattle.sar.specs.Joining.{idle, assembled, reached, firstStep, joinStep}
+use Rattle.cutting.specs.declared.Plan.{Plan}
+use Rattle.cutting.specs.declared.Plan.the-variants as Plan
+use Rattle.cutting.specs.Cutting.{frameCount, planSend}
+use Rattle.cutting.specs.CutLaws.{plan-allowed}
+use Rattle.channel.specs.declared.Answer.the-variants.{Done, Refused, Frames}
+use Rattle.channel.specs.declared.Slot.{Slot}
+use Rattle.channel.specs.declared.Table.{Table}
+use Rattle.definition.specs.Mem.{job, put}
+use Rattle.definition.specs.Table.{placeOf, slotAt, isDisconnected, isConnected, withAccount, withAssembly, withQueue}
+use Rattle.definition.specs.Outcome.{Outcome, change}
+use Rattle.definition.specs.Frames.{queued, finishing, frames, joined, planned}
+use Rattle.rules.specs.Tests.{begun, begun-live, connected-begun}
+use Rattle.rules.specs.Step.{same, use-one, keep, leave, grow, finish, go, passes, Stepped}
+use Rattle.rules.specs.Forms.{goes-on, stepped-still, stepped-change}
+
+-- How a frame comes to a slot: with no length octets where an assembly is open, with both of them otherwise. k is the number of its job octets.
+pub record Headed (a : Assembly) (head : List ℕ) (k : ℕ) : Type 0 where
+  pub joins : (a .want ≡ 0 → ⊥) → length head ≡ 0
+  pub opens : a .want ≡ 0 → 2 ≤ length head + k → length head ≡ 2
+
+-- What a step may come to: a refusal other than 1 and 2; an assembly grows by the frame's job octets and stays below what it wants; a finished job is all of
+-- them, and there is a place for it. What comes first goes where the assembly ends.
+abbrev pub Joins : (p d : ℕ) → Assembly → (queued k : ℕ) → Joined → Type 0
+Joins p d a q k (Joined.Refused r) = passes (Refused r) ≡ true
+Joins p d a q k (Joined.Assembling b) = (b .have ≡ a .have + k) × (b .have < b .want) × (b .want ≤ p) × (assembled a ≡ a .have)
+Joins p d a q k (Joined.Finished len) = (len ≡ a .have + k) × (len ≤ p) × (q < d)
+Joins p d a q k Joined.Dropped = Unit {0}
+
+-- Where no assembly is open none of its octets are there.
+assembled-is : (a : Assembly) → (a .want ≡ 0 → a .have ≡ 0) → assembled a ≡ a .have
+unfolding assembled
+assembled-is a closed = if-cases (λ n. n ≡ a .have) _ (λ e. sym (closed (eqb-true (a .want) 0 e))) (λ _. refl)
+
+module _ (p d : ℕ) (a : Assembly) (q k : ℕ) (closed : a .want ≡ 0 → a .have ≡ 0) where
+  reached-joins : (want have : ℕ) → have ≡ a .have + k → want ≤ p → Joins p d a q k (reached d q want have)
+  unfolding reached
+  reached-joins want have e h =
+      if-cases (Joins p d a q k) _ (λ _. refl)
+      (λ f. if-cases (Joins p d a q k) _ (λ g. (e, ltb-true have want g, h, assembled-is a closed))
+      (λ g. if-cases (Joins p d a q k) _ (λ _. tt) (λ i. (omega (arith, ltb-false want have f, ltb-false have want g), h, leb-false d q i))))
+
+  pub step-joins : (mtu mps stated : ℕ) (head : List ℕ) → mtu ≤ p → a .want ≤ p → Headed a head k
+      → Joins p d a q k (joinStep mtu mps d a q (length head + k) stated)
+  unfolding joinStep firstStep
+  step-joins mtu mps stated head hm hw headed =
+      if-cases (Joins p d a q k) _
+      (λ e.
+      let z : a .want ≡ 0 = eqb-true (a .want) 0 e in
+      let c = closed z in
+      if-cases (Joins p d a q k) _ (λ _. refl)
+      (λ f. if-cases (Joins p d a q k) _ (λ _. refl)
+      (λ g.
+      let long = ltb-false (length head + k) 2 f in
+      let both = headed .opens z long in
+      reached-joins stated (length head + k - 2) (omega arith) (omega (arith, ltb-false mtu stated g)))))
+      (λ e.
+      let f = headed .joins (eqb-false (a .want) 0 e) in
+      reached-joins (a .want) (a .have + (length head + k)) (omega arith) hw)
+
+-- A plan is refused by neither 1 nor 2.
+abbrev pub Plans : Plan → Type 0
+Plans (Plan.Refused r) = passes (Refused r) ≡ true
+Plans (Plan.Frames n octets) = Unit {0}
+
+pub plan-passes : (size mtu mps credits out : ℕ) → Plans (planSend size mtu mps credits out)
+unfolding planSend
+plan-passes size mtu mps credits out =
+    if-cases Plans _ (λ _. refl)
+    (λ _. if-cases Plans _ (λ _. refl)
+    (λ _. if-cases Plans _ (λ _. refl) (λ _. if-cases Plans _ (λ _. refl) (λ _. if-cases Plans _ (λ _. refl) (λ _. tt)))))
+
+-- ---- the two calls that ask them
+
+module _ (t : Table) (k s : ℕ) (h : s < t .n) (l : t .n ≤ length (t .slots)) (on : isConnected (slotAt t s .state) ≡ true) where
+  has-begun : begun (slotAt t s .state) ≡ true
+  has-begun = connected-begun (slotAt t s .state) on
+
+  was-live : isDisconnected (slotAt t s .state) ≡ false
+  was-live = begun-live (slotAt t s .state) has-begun
+
+  pub stepped-joined : (slotAt t s .account .credits ≡ 0 → ⊥) → (j : Joined) → Joins (placeOf t) (t .d) (slotAt t s .assembly) (slotAt t s .queue .count) k j
+      → Stepped t k (joined t s (withAccount (received (slotAt t s .account) 1) (slotAt t s)) k j)
+  unfolding joined
+  stepped-joined some (Joined.Refused r) f = stepped-change t k s _ _ h l (go (goes-on was-live refl refl) (use-one some) leave) _ _ f
+  stepped-joined some (Joined.Assembling a) f =
+      rw (f .3) (stepped-change t k s _ _ h l (go (goes-on was-live has-begun refl) (use-one some) (grow has-begun (f .0) (f .1) (f .2))) _ _ refl)
+  stepped-joined some (Joined.Finished len) f =
+      stepped-change t k s _ _ h l (go (goes-on was-live has-begun refl) (use-one some) (finish has-begun (f .0) (f .1) (f .2))) _ _ refl
+  stepped-joined some Joined.Dropped f = stepped-change t k s _ _ h l (go (goes-on was-live has-begun refl) (use-one some) leave) _ _ refl
+
+  pub stepped-planned : (size : ℕ) (p : Plan) → Plans p → Stepped t k (planned t s (slotAt t s) size p)
+  unfolding planned
+  stepped-planned size (Plan.Refused r) f = stepped-still t k _ _ f
+  stepped-planned size (Plan.Frames n octets) f = stepped-change t k s _ _ h l (go (goes-on was-live has-begun refl) same keep) _ _ refl
+
+-- ---- what a frame that fits comes to
+
+-- With it `have` octets of a job of `want` are there, and q of d places are taken.
+abbrev pub Reaches : (d q : ℕ) → Joined → (have want : ℕ) → Type 0
+Reaches d q j have want = j ≡ reached d q want have
+
+pub reaches-first : (mtu mps d : ℕ) (a : Assembly) (q k stated : ℕ) → a .want ≡ 0 → stated ≤ mtu → Reaches d q (joinStep mtu mps d a q (2 + k) stated) k stated
+unfolding joinStep firstStep
+reaches-first mtu mps d a q k stated z m =
+    choose-true _ _ _ (eq-eqb (a .want) 0 z) ∙ choose-false _ _ _ (le-ltb (2 + k) 2 (omega arith)) ∙ choose-false _ _ _ (le-ltb mtu stated m)
+    ∙ (let e : 2 + k - 2 ≡ k = omega arith in rw e)
+
+pub reaches-next : (mtu mps d : ℕ) (a : Assembly) (q k stated : ℕ) → (a .want ≡ 0 → ⊥) → Reaches d q (joinStep mtu mps d a q k stated) (a .have + k) (a .want)
+unfolding joinStep
+reaches-next mtu mps d a q k stated some = choose-false _ _ _ (ne-eqb (a .want) 0 some)
+
+-- An assembly grows; or the job is whole, and a place is free for it.
+module _ (t : Table) (s : ℕ) (x : Slot) (k d q have want : ℕ) (j : Joined) (r : Reaches d q j have want) where
+  pub joined-part : (x .assembly .want ≡ 0 → x .assembly .have ≡ 0) → have < want
+      → joined t s x k j ≡ change t s (withAssembly (record { have = have; want = want }) x) (put (x .assembly .have) (job 0 k) ∷ []) Done []
+  unfolding joined reached
+  joined-part closed l =
+      ap (joined t s x k) (r ∙ choose-false _ _ _ (le-ltb want have (omega arith)) ∙ choose-true _ _ _ (lt-ltb have want l))
+      ∙ ap (λ (n : ℕ). change t s (withAssembly (record { have = have; want = want }) x) (put n (job 0 k) ∷ []) Done []) (assembled-is (x .assembly) closed)
+
+  pub joined-whole : have ≡ want → q < d → joined t s x k j ≡ change t s (withQueue (queued want (x .queue)) (withAssembly idle x)) (finishing t x k) Done []
+  unfolding joined reached
+  joined-whole e l =
+      ap (joined t s x k)
+      (r ∙ choose-false _ _ _ (le-ltb want have (omega arith)) ∙ choose-false _ _ _ (le-ltb have want (omega arith)) ∙ choose-false _ _ _ (lt-leb d q l))
+
+-- ---- what a send that is not refused comes to
+
+pub record Sent (t : Table) (s : ℕ) (x : Slot) (l n : ℕ) (o : Outcome) : Type 0 where
+  pub wide : 23 ≤ x .peer .mps
+  pub count : n ≡ frameCount l (x .peer .mps)
+  pub out : o .out ≡ frames (x .peer .cid) (x .peer .mps) l n
+
+pub planned-frames : (t : Table) (s : ℕ) (x : Slot) (l out link n : ℕ) → planned t s x l (planSend l (x .peer .mtu) (x .peer .mps) (x .peer .credits) out) .answer ≡ Frames link n
+    → Sent t s x l n (planned t s x l (planSend l (x .peer .mtu) (x .peer .mps) (x .peer .credits) out))
+unfolding planned
+planned-frames t s x l out link n = by (planSend l (x .peer .mtu) (x .peer .mps) (x .peer .credits) out) refl
+  where
+    by : (p : Plan) → planSend l (x .peer .mtu) (x .peer .mps) (x .peer .credits) out ≡ p → planned t s x l p .answer ≡ Frames link n → Sent t s x l n (planned t s x l p)
+    by (Plan.Refused r) e f = let z : _≡_ {A = ℕ} 0 1 = cc in absurd (omega arith)
+    by (Plan.Frames k octets) e f =
+        let a = plan-allowed l (x .peer .mtu) (x .peer .mps) (x .peer .credits) out k octets e in
+        let q : k ≡ n = cc in
+        record { wide = a .wide; count = sym q ∙ a .frames; out = ap (λ (m : ℕ). frames (x .peer .cid) (x .peer .mps) l m) q }

@@ -1,0 +1,144 @@
+-- Every kind of step keeps a slot sound. The credit account's own laws carry the sum; the rest is arithmetic and two laws of lists.
+use mathlib.Core.Path.{_≡_, refl, sym, ap, _∙_, subst₂}
+use mathlib.Core.Bool.{Bool, true, false, false≢true}
+use mathlib.Core.List.{List, [], _∷_, _++_}
+use Prim.Native.Nat.{ℕ, zero, suc, _-_, _≤_}
+use native.Mathlib.Numerals.{add-one}
+use native.Mathlib.Omega.{arith}
+use lib.Dec.{leb}
+use lib.ListN.{take, drop, set, length-set, length-append, length-drop}
+use lib.Seq.{take-nil}
+use borrow.Author.Tests.{le-leb}
+use Rattle.lists.specs.Every.{every}
+use Rattle.credit.specs.declared.CreditFlowControl.{CreditFlowControl}
+use Rattle.credit.specs.Account.{creditSum}
+use Rattle.credit.specs.AccountLaws.{received-sum, grant-settles}
+use Rattle.sar.specs.declared.Assembly.{Assembly}
+use Rattle.sar.specs.Joining.{idle}
+use Rattle.channel.specs.Limits.{creditsMost}
+use Rattle.channel.specs.declared.Queue.{Queue}
+use Rattle.channel.specs.declared.Slot.{Slot}
+use Rattle.channel.specs.declared.Table.{Table}
+use Rattle.definition.specs.Mem.{Move}
+use Rattle.definition.specs.Table.{placeOf, fresh, withHold}
+use Rattle.rules.specs.Tests.{and-left, and-right, and-both, begun, begun-live}
+use Rattle.rules.specs.Step.{Accounting, same, use-one, grant, Jobs, keep, leave, grow, finish, hand, Goes, Step, hold, go, accept, free, allocate, Steps, rest, next}
+use Rattle.rules.specs.Sound.{Holding, Sound, AllSound}
+
+-- ---- two laws of lists: one more element that passes; one fewer at the front
+
+module _ {A : Type 0} (p : A → Bool) where
+  every-set : (l : List A) (n : ℕ) (a : A) → every p (take n l) ≡ true → p a ≡ true → every p (take (suc n) (set l n a)) ≡ true
+  unfolding every
+  every-set [] n a h e = refl
+  every-set (x ∷ l) zero a h e = and-both (p a) true e refl
+  every-set (x ∷ l) (suc n) a h e = and-both (p x) _ (and-left (p x) _ h) (every-set l n a (and-right (p x) _ h) e)
+
+  every-end : (l : List A) (n : ℕ) (a : A) → every p (take n l) ≡ true → p a ≡ true → every p (take n (l ++ a ∷ [])) ≡ true
+  unfolding every
+  every-end l zero a h e = refl
+  every-end [] (suc n) a h e = rw (take-nil {A = A} n) (and-both (p a) true e refl)
+  every-end (x ∷ l) (suc n) a h e = and-both (p x) _ (and-left (p x) _ h) (every-end l n a (and-right (p x) _ h) e)
+
+  every-shift : (l : List A) (n : ℕ) (a : A) → every p (take n l) ≡ true → p a ≡ true → every p (take (n - 1) (drop 1 l ++ a ∷ [])) ≡ true
+  unfolding every
+  every-shift l zero a h e = refl
+  every-shift [] (suc n) a h e = let z : suc n - 1 ≡ n = omega arith in rw z (every-end [] n a (rw (take-nil {A = A} n) refl) e)
+  every-shift (x ∷ l) (suc n) a h e = let z : suc n - 1 ≡ n = omega arith in rw z (every-end l n a (and-right (p x) _ h) e)
+
+-- ---- credits: no step but a new account changes the sum
+
+pub accounting-sum : {a b : CreditFlowControl} → Accounting a b → creditSum a ≤ creditsMost → creditSum b ≡ creditSum a
+accounting-sum same h = refl
+accounting-sum {a} (use-one some) h = received-sum a 1 h (omega arith)
+accounting-sum {a} (grant {n} e) h = grant-settles a n h e .sum
+
+-- ---- jobs
+
+idle-holding : (d p : ℕ) (a : Assembly) (q : Queue) → Holding d p a q → Holding d p idle q
+idle-holding d p a q h = record { count = h .count; lens = h .lens; long = h .long; have = omega arith; want = omega arith; closed = λ _. refl }
+
+module _ (t : Table) (k : ℕ) (x : Slot) where
+  jobs-holding : {a : Assembly} {q : Queue} {ms : List Move} → Jobs t k x a q ms → Holding (t .d) (placeOf t) (x .assembly) (x .queue) → Holding (t .d) (placeOf t) a q
+  jobs-holding keep h = h
+  jobs-holding leave h = idle-holding (t .d) (placeOf t) (x .assembly) (x .queue) h
+  jobs-holding (grow b e l w) h = record { count = h .count; lens = h .lens; long = h .long; have = omega arith; want = w; closed = λ z. absurd (omega arith) }
+  jobs-holding (finish {len} b e w f) h =
+      record {
+        count = omega arith;
+        lens = rw (add-one (x .queue .count)) (every-set (λ n. leb n (placeOf t)) (x .queue .lens) (x .queue .count) len (h .lens) (le-leb len (placeOf t) w));
+        long = length-set (x .queue .lens) (x .queue .count) len ∙ h .long;
+        have = omega arith;
+        want = omega arith;
+        closed = λ _. refl;
+      }
+  jobs-holding (hand b c) h =
+      record {
+        count = let g = h .count in omega arith;
+        lens = every-shift (λ n. leb n (placeOf t)) (x .queue .lens) (x .queue .count) 0 (h .lens) (le-leb 0 (placeOf t) (omega arith));
+        long = let g = h .long in simp (length-append, length-drop) (omega arith);
+        have = h .have;
+        want = h .want;
+        closed = h .closed;
+      }
+
+  -- what has not begun holds nothing before and after
+  pub jobs-quiet : {a : Assembly} {q : Queue} {ms : List Move} → Jobs t k x a q ms → begun (x .state) ≡ false → (x .assembly ≡ idle) × (x .queue .count ≡ 0) → (a ≡ idle) × (q .count ≡ 0)
+  jobs-quiet keep f h = h
+  jobs-quiet leave f h = (refl, h .1)
+  jobs-quiet (grow b e l w) f h = absurd (false≢true (sym f ∙ b))
+  jobs-quiet (finish b e w g) f h = absurd (false≢true (sym f ∙ b))
+  jobs-quiet (hand b c) f h = absurd (false≢true (sym f ∙ b))
+
+not-begun : (x y : Slot) → Goes x y → begun (y .state) ≡ false → begun (x .state) ≡ false
+not-begun x y g f = by (begun (x .state)) refl
+  where
+    by : (b : Bool) → begun (x .state) ≡ b → begun (x .state) ≡ false
+    by true e = absurd (false≢true (sym f ∙ g .stays e))
+    by false e = e
+
+-- ---- a slot
+
+pub sound-fresh : (d p h : ℕ) → Sound d p (fresh h)
+unfolding every
+sound-fresh d p h =
+    record {
+      holding = record { count = omega arith; lens = refl; long = refl; have = omega arith; want = omega arith; closed = λ _. refl };
+      mtu = omega arith;
+      sum = omega arith;
+      free = λ _. refl;
+      quiet = λ _. (refl, refl);
+    }
+
+pub step-sound : {t : Table} {k : ℕ} {x y : Slot} {ms : List Move} → Step t k x y ms → Sound (t .d) (placeOf t) x → Sound (t .d) (placeOf t) y
+step-sound {x = x} (hold h) s =
+    record { holding = s .holding; mtu = s .mtu; sum = s .sum; free = λ e. ap (λ (z : Slot). withHold h z) (s .free e); quiet = s .quiet }
+step-sound {t} {k} {x} {y} (go g a j) s =
+    record {
+      holding = jobs-holding t k x j (s .holding);
+      mtu = rw (g .mtu) (s .mtu);
+      sum = rw (accounting-sum a (s .sum)) (s .sum);
+      free = λ e. absurd (false≢true (sym (g .is) ∙ e));
+      quiet = λ f. let b = not-begun x y g f in jobs-quiet t k x j b (s .quiet b);
+    }
+step-sound {t} {k} {x} {y} (accept c) s =
+    record {
+      holding = subst₂ (λ (a : Assembly) (q : Queue). Holding (t .d) (placeOf t) a q) (sym (c .assembly)) (sym (c .queue)) (s .holding);
+      mtu = c .mtu;
+      sum = c .sum;
+      free = λ e. absurd (false≢true (sym (begun-live (y .state) (c .is)) ∙ e));
+      quiet = λ f. absurd (false≢true (sym f ∙ c .is));
+    }
+step-sound {t} (free h) s = sound-fresh (t .d) (placeOf t) h
+step-sound {t} (allocate c) s =
+    record {
+      holding = subst₂ (λ (a : Assembly) (q : Queue). Holding (t .d) (placeOf t) a q) (sym (c .assembly)) (sym (c .queue)) (sound-fresh (t .d) (placeOf t) 0 .holding);
+      mtu = c .mtu;
+      sum = c .sum;
+      free = λ e. absurd (false≢true (sym (c .is) ∙ e));
+      quiet = λ _. (c .assembly, ap (λ (q : Queue). q .count) (c .queue));
+    }
+
+pub steps-sound : {t : Table} {k : ℕ} {xs ys : List Slot} {mss : List (List Move)} → Steps t k xs ys mss → AllSound (t .d) (placeOf t) xs → AllSound (t .d) (placeOf t) ys
+steps-sound rest s = s
+steps-sound (next p r) s = (step-sound p (s .0), steps-sound r (s .1))

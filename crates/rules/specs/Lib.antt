@@ -1,0 +1,18 @@
+-- The rules that hold of every run from a made table, over the definition of the calls.
+pub mod Run
+pub mod Tests
+pub mod Step
+pub mod Forms
+pub mod Sound
+pub mod Join
+pub mod Every
+pub mod Keep
+pub mod Good
+pub mod Rules
+pub mod Places
+pub mod RoomRule
+pub mod Bench
+pub mod Waiting
+pub mod Rejoin
+pub mod Taking
+pub mod Sending

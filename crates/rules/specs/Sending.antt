@@ -1,0 +1,146 @@
+-- Exact rejoining at the table (F), from the sender's SDU to the job taken: what a send that is answered 0 writes, and that its frames, as they come to
+-- the receiver, are that SDU again. Rests on the frames of a job (crate cutting) and on the receiving side (Rejoin.antt, Taking.antt).
+use mathlib.Core.Path.{_≡_, refl, sym, ap, _∙_, subst}
+use mathlib.Core.List.{List, [], _∷_, _++_}
+use Prim.Native.Nat.{ℕ, zero, suc, _+_, _-_, _*_, _≤_, _<_, min}
+use native.Mathlib.Nat.{zero-mul}
+use native.Mathlib.Omega.{arith}
+use lib.ListN.{length, take, drop, length-drop, take-append-drop}
+use lib.Seq.{take-all, length-take-le}
+use Rattle.lists.specs.Choose.{if-cases}
+use Rattle.codes.specs.declared.Refusal.{Refusal}
+use Rattle.octets.specs.Octets.{part, le16}
+use Rattle.octets.specs.Sets.{part-length}
+use Rattle.cutting.specs.Cutting.{ceil, frameCount, stream, pieces, payloads, frame, framesOf}
+use Rattle.cutting.specs.CutLaws.{split, ceil-zero, ceil-more, ceil-holds}
+use Rattle.cutting.specs.FrameLaws.{pieces-nil, pieces-more, framed, framed-nil, framed-start, framed-turn, count-first}
+use Rattle.cutting.specs.Theorems.{cut}
+use Rattle.channel.specs.Limits.{handleMost, signalMost}
+use Rattle.channel.specs.declared.Answer.the-variants.{Frames, Job}
+use Rattle.channel.specs.declared.Slot.{Slot}
+use Rattle.definition.specs.Mem.{fill, fills}
+use Rattle.definition.specs.Table.{slotAt}
+use Rattle.definition.specs.Outcome.{Outcome, refuse}
+use Rattle.definition.specs.Frames.{frames, laterFrames, send}
+use Rattle.definition.specs.Calls.{Window, sends, jobs, bare, decide}
+use Rattle.rules.specs.Run.{State, Asked, outcome, Reached}
+use Rattle.rules.specs.Forms.{gate-cases}
+use Rattle.rules.specs.Join.{planned-frames}
+use Rattle.rules.specs.Rejoin.{Rest, last, more, Arrives, Receiver, Rejoined, jobAt, rejoins}
+use Rattle.rules.specs.Taking.{taking, rejoined-taken}
+
+-- ---- the payloads of a job carry it, and only the last completes it
+
+-- the first k octets, and the pieces of what follows
+cut-rest : (k m : ℕ) (xs : List ℕ) → 0 < m → (0 < length (drop k xs) → Rest (drop k xs) (pieces m (drop k xs))) → Rest xs (take k xs ∷ pieces m (drop k xs))
+cut-rest k m xs some f =
+    split (length xs) k
+    (λ l.
+    let e : pieces m (drop k xs) ≡ [] = pieces-nil m (drop k xs) some (rw length-drop (omega arith)) in
+    rw (e, take-all k xs l) (last xs))
+    (λ l.
+    let q : 0 < length (drop k xs) = rw length-drop (omega arith) in
+    subst (λ (r : List ℕ). Rest r (take k xs ∷ pieces m (drop k xs))) (take-append-drop k xs) (more (take k xs) q (f q)))
+
+pieces-rest : (f m : ℕ) (xs : List ℕ) → 0 < m → length xs ≤ f → 0 < length xs → Rest xs (pieces m xs)
+pieces-rest zero m xs some h l = absurd (omega arith)
+pieces-rest (suc f) m xs some h l =
+    subst (λ (ps : List (List ℕ)). Rest xs ps) (sym (pieces-more m xs some l))
+    (cut-rest m m xs some (λ q. pieces-rest f m (drop m xs) some (rw length-drop (omega arith)) q))
+
+-- the first payload begins with the SDU's length
+payloads-is : (m : ℕ) (sdu : List ℕ) → 2 ≤ m → payloads m sdu ≡ (le16 (length sdu) ++ take (m - 2) sdu) ∷ pieces m (drop (m - 2) sdu)
+unfolding payloads stream
+payloads-is m sdu h =
+    let e : m ≡ suc (suc (m - 2)) = omega arith in
+    pieces-more m (le16 (length sdu) ++ sdu) (omega arith) (omega arith) ∙ ap (λ (k : ℕ). take k (le16 (length sdu) ++ sdu) ∷ pieces m (drop k (le16 (length sdu) ++ sdu))) e
+
+-- ---- what a send writes is the frames of those payloads
+
+module _ (sdu room : List ℕ) (cid m : ℕ) (wide : 2 ≤ m) where
+  abbrev l : ℕ
+  l = length sdu
+
+  later-written : (n from : ℕ) → n ≡ ceil (l - from) m → fills (λ x. x) sdu room (laterFrames cid m l n from) ≡ framed m cid (drop from sdu)
+  unfolding fills fill laterFrames frame
+  later-written zero from e =
+      let c = ceil-holds (l - from) m (omega arith) .enough in
+      let none : l - from ≡ 0 = omega (arith, zero-mul m, ap (λ (k : ℕ). k * m) e) in
+      sym (framed-nil m cid (drop from sdu) (omega arith) (length-drop from sdu ∙ none))
+  later-written (suc n) from e =
+      let some : 0 < l - from = split 1 (l - from) (λ h. h) (λ h. absurd (let z : l - from ≡ 0 = omega arith in let c = rw z at e in omega (arith, ceil-zero m (omega arith)))) in
+      let p = min m (l - from) in
+      let rest = ceil-more (l - from) m (omega arith) some in
+      let count : n ≡ ceil (l - (from + p)) m = (let z : l - (from + p) ≡ l - from - m = omega arith in rw z (omega arith)) in
+      let long : p ≡ length (part sdu from p) = sym (part-length sdu from p (omega arith)) in
+      ap (λ (k : ℕ). le16 k ++ (le16 cid ++ (part sdu from p ++ fills (λ x. x) sdu room (laterFrames cid m l n (from + p))))) long
+      ∙ ap (λ (ys : List ℕ). le16 (length (part sdu from p)) ++ (le16 cid ++ (part sdu from p ++ ys))) (later-written n (from + p) count)
+      ∙ sym (framed-turn m cid sdu from p (omega arith) (omega arith) (omega arith))
+
+  frames-written : (n : ℕ) → n ≡ frameCount l m → fills (λ x. x) sdu room (frames cid m l n) ≡ framesOf cid m sdu
+  unfolding fills fill frames frame
+  frames-written n e =
+      let p = min l (m - 2) in
+      let count : n - 1 ≡ ceil (l - p) m = (let c = count-first m l p wide refl in omega arith) in
+      let long : p + 2 ≡ suc (suc (length (take p sdu))) = (let q = length-take-le p sdu (omega arith) in omega arith) in
+      ap (λ (k : ℕ). le16 k ++ (le16 cid ++ (le16 l ++ (take p sdu ++ fills (λ x. x) sdu room (laterFrames cid m l (n - 1) p))))) long
+      ∙ ap (λ (ys : List ℕ). le16 (suc (suc (length (take p sdu)))) ++ (le16 cid ++ (le16 l ++ (take p sdu ++ ys)))) (later-written (n - 1) p count)
+      ∙ sym (framed-start m cid sdu p wide refl)
+
+-- ---- a send that is answered 0
+
+abbrev pub sending : ℕ → List ℕ → (out size : ℕ) → Window → Asked
+sending j sdu out size w = record { call = sends j sdu w; out = out; job = size }
+
+-- It writes the n frames of the SDU for the peer's MPS. x is the slot that is sent on, o what the call comes to.
+pub record Sends (x : Slot) (sdu room : List ℕ) (n : ℕ) (o : Outcome) : Type 0 where
+  pub octets : fills (λ x. x) sdu room (o .out) ≡ framesOf (x .peer .cid) (x .peer .mps) sdu
+  pub count : length (payloads (x .peer .mps) sdu) ≡ n
+  pub wide : 2 ≤ x .peer .mps
+
+pub sends-frames : (s : State) (j : ℕ) (sdu : List ℕ) (out size : ℕ) (w : Window) (link n : ℕ) → outcome s (sending j sdu out size w) .answer ≡ Frames link n
+    → Sends (slotAt (s .table) j) sdu (s .room) n (outcome s (sending j sdu out size w))
+unfolding decide bare jobs send
+sends-frames s j sdu out size w link n =
+    gate-cases P (s .table) _ _ _ _ (λ r. never)
+    (λ _. if-cases P _ (λ _. never)
+    (λ _ e.
+    let x = slotAt (s .table) j in
+    let z = planned-frames (s .table) j x (length sdu) out link n e in
+    let wide : 2 ≤ x .peer .mps = (let y = z .wide in omega arith) in
+    record {
+      octets = ap (fills (λ x. x) sdu (s .room)) (z .out) ∙ frames-written sdu (s .room) (x .peer .cid) (x .peer .mps) wide n (z .count);
+      count = cut (x .peer .mps) (x .peer .cid) sdu (omega arith) .count ∙ sym (z .count);
+      wide = wide;
+    }))
+  where
+    P : Outcome → Type 0
+    P o = o .answer ≡ Frames link n → Sends (slotAt (s .table) j) sdu (s .room) n o
+
+    never : {r : Refusal} → P (refuse (s .table) r)
+    never e = let z : _≡_ {A = ℕ} 0 1 = cc in absurd (omega arith)
+
+-- ---- THE THEOREM
+
+-- A send was answered 0 with n frames, anywhere. The receiver, in a run of its own, is Connected and idle with n credits, a free queue place and
+-- MTU ≥ L; the frames' payloads come in order on their own link, and other calls between them leave that slot unchanged. Then the job waits there,
+-- whole, behind those that waited before, which are unchanged.
+pub exact-rejoining : (sender : State) (j : ℕ) (sdu : List ℕ) (out size : ℕ) (w : Window) (link′ n : ℕ) → outcome sender (sending j sdu out size w) .answer ≡ Frames link′ n
+    → {s s′ : State} (i link : ℕ) → link ≤ handleMost → Reached s → Receiver s i link n → slotAt (s .table) i .assembly .want ≡ 0 → length sdu ≤ slotAt (s .table) i .mtu
+    → Arrives i link (payloads (slotAt (sender .table) j .peer .mps) sdu) s s′
+    → Rejoined s′ i sdu (slotAt (s .table) i .queue .count) (jobAt s i)
+exact-rejoining sender j sdu out size w link′ n answered {s} {s′} i link handle r v z m a =
+    let f = sends-frames sender j sdu out size w link′ n answered in
+    let mps = slotAt (sender .table) j .peer .mps in
+    let e = payloads-is mps sdu (f .wide) in
+    let wide : 0 < mps = (let y = f .wide in omega arith) in
+    rejoins i link handle (subst (λ (ps : List (List ℕ)). Arrives i link ps s s′) e a)
+    (cut-rest (mps - 2) mps sdu wide (λ q. pieces-rest (length (drop (mps - 2) sdu)) mps (drop (mps - 2) sdu) wide (omega arith) q)) r
+    (subst (λ (k : ℕ). Receiver s i link k) (sym (f .count) ∙ ap length e) v) z m
+
+-- Where no job waited before it, the next take hands out the SDU and reports its length.
+pub exact-taking : {s : State} → Reached s → (i : ℕ) (sdu : List ℕ) (others : ℕ → List ℕ) → Rejoined s i sdu 0 others → (out size : ℕ) → signalMost ≤ out → length sdu ≤ size → (w v : Window)
+    → (fills (λ x. x) [] (s .room) (outcome s (taking i out size w v) .job) ≡ sdu)
+    × (outcome s (taking i out size w v) .answer ≡ Job (slotAt (s .table) i .link) (length sdu) (length sdu))
+unfolding jobs
+exact-taking {s} r i sdu others j out size l big w v = rejoined-taken s r i sdu others j out size l big w v

@@ -1,0 +1,39 @@
+-- What is true of every slot of a table that a run reached, its part of the room apart.
+use mathlib.Core.Path.{_≡_}
+use mathlib.Core.Bool.{true, false}
+use mathlib.Core.List.{List, [], _∷_}
+use Prim.Native.Nat.{ℕ, _≤_}
+use lib.Dec.{leb}
+use lib.ListN.{length, take}
+use Rattle.lists.specs.Every.{every}
+use Rattle.credit.specs.Account.{creditSum}
+use Rattle.sar.specs.declared.Assembly.{Assembly}
+use Rattle.sar.specs.Joining.{idle}
+use Rattle.channel.specs.Limits.{depthMost, creditsMost}
+use Rattle.channel.specs.declared.Queue.{Queue}
+use Rattle.channel.specs.declared.Slot.{Slot}
+use Rattle.definition.specs.Table.{fresh, isDisconnected}
+use Rattle.rules.specs.Tests.{begun}
+
+-- An assembly and a queue of at most d jobs, in places of p octets.
+pub record Holding (d p : ℕ) (a : Assembly) (q : Queue) : Type 0 where
+  pub count : q .count ≤ d
+  pub lens : every (λ n. leb n p) (take (q .count) (q .lens)) ≡ true
+  pub long : length (q .lens) ≡ depthMost
+  pub have : a .have ≤ p
+  pub want : a .want ≤ p
+  -- where no assembly is open, no octet of one is there
+  pub closed : a .want ≡ 0 → a .have ≡ 0
+
+pub record Sound (d p : ℕ) (x : Slot) : Type 0 where
+  pub holding : Holding d p (x .assembly) (x .queue)
+  pub mtu : x .mtu ≤ p
+  pub sum : creditSum (x .account) ≤ creditsMost
+  -- a Disconnected slot is as it was made, but for its holds
+  pub free : isDisconnected (x .state) ≡ true → x ≡ fresh (x .hold)
+  -- before a connection has begun there is no assembly and no job
+  pub quiet : begun (x .state) ≡ false → (x .assembly ≡ idle) × (x .queue .count ≡ 0)
+
+abbrev pub AllSound : ℕ → ℕ → List Slot → Type 0
+AllSound d p [] = Unit {0}
+AllSound d p (x ∷ xs) = Sound d p x × AllSound d p xs

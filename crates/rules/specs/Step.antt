@@ -1,0 +1,125 @@
+-- What a call may do to one slot and to that slot's part of the room, and to all of them: the few kinds of change from which every
+-- rule follows. Rests on nothing but the definition's own words.
+use mathlib.Core.Path.{_≡_}
+use mathlib.Core.Bool.{Bool, true, false, _&&_, not}
+use mathlib.Core.List.{List, [], _∷_}
+use Prim.Native.Nat.{ℕ, _+_, _≤_, _<_}
+use lib.Dec.{eqb}
+use lib.ListN.{length}
+use Rattle.codes.specs.Codes.{refusalNumber}
+use Rattle.credit.specs.declared.CreditFlowControl.{CreditFlowControl}
+use Rattle.credit.specs.declared.Grant.the-variants.{Credits}
+use Rattle.credit.specs.Account.{received, granted, grantOf, creditSum}
+use Rattle.sar.specs.declared.Assembly.{Assembly}
+use Rattle.sar.specs.Joining.{idle}
+use Rattle.writer.specs.Writer.{encodeOf}
+use Rattle.signal.specs.declared.forms.Signal.{Signal}
+use Rattle.channel.specs.Limits.{creditsMost}
+use Rattle.channel.specs.declared.Answer.{Answer}
+use Rattle.channel.specs.declared.Answer.the-variants.{Done, Refused, At, Link, Opened, Due, Frames, Job, Attention, Number, Event}
+use Rattle.channel.specs.declared.Queue.{Queue}
+use Rattle.channel.specs.declared.Slot.{Slot}
+use Rattle.channel.specs.declared.Table.{Table}
+use Rattle.definition.specs.Mem.{Fill, given, zeros, job, Move, put, wipe}
+use Rattle.definition.specs.Table.{placeOf, fresh, live, isDisconnected, isPeerConnecting, withHold, nextId, spent}
+use Rattle.definition.specs.Outcome.{Outcome}
+use Rattle.definition.specs.Frames.{queued, finishing, shifted, movingUp}
+use Rattle.rules.specs.Tests.{begun}
+
+-- ---- the credit account: untouched, one credit used by a frame, or a grant of what the policy says
+
+pub data Accounting (a : CreditFlowControl) : CreditFlowControl → Type 0 where
+  same : Accounting a a
+  use-one : (a .credits ≡ 0 → ⊥) → Accounting a (received a 1)
+  grant : {n : ℕ} → grantOf a ≡ Credits n → Accounting a (granted a n)
+
+-- ---- jobs: what becomes of the assembly, of the waiting jobs and of their places. k is the number of job octets that the call brings.
+
+pub data Jobs (t : Table) (k : ℕ) (x : Slot) : Assembly → Queue → List Move → Type 0 where
+  keep : Jobs t k x (x .assembly) (x .queue) []
+  leave : Jobs t k x idle (x .queue) (put 0 (zeros (placeOf t)) ∷ [])
+  grow : {a : Assembly} → begun (x .state) ≡ true → a .have ≡ x .assembly .have + k → a .have < a .want → a .want ≤ placeOf t
+      → Jobs t k x a (x .queue) (put (x .assembly .have) (job 0 k) ∷ [])
+  finish : {len : ℕ} → begun (x .state) ≡ true → len ≡ x .assembly .have + k → len ≤ placeOf t → x .queue .count < t .d
+      → Jobs t k x idle (queued len (x .queue)) (finishing t x k)
+  hand : begun (x .state) ≡ true → 0 < x .queue .count → Jobs t k x (x .assembly) (shifted (x .queue)) (movingUp t x)
+
+-- ---- one slot: x becomes y
+
+-- The connection goes on: not freed, our MTU the same, and once begun it stays so.
+pub record Goes (x y : Slot) : Type 0 where
+  pub was : isDisconnected (x .state) ≡ false
+  pub is : isDisconnected (y .state) ≡ false
+  pub stays : begun (x .state) ≡ true → begun (y .state) ≡ true
+  pub mtu : y .mtu ≡ x .mtu
+
+-- A pending connection is accepted, with our numbers and a new account.
+pub record Accepts (t : Table) (x y : Slot) : Type 0 where
+  pub was : isPeerConnecting (x .state) ≡ true
+  pub is : begun (y .state) ≡ true
+  pub mtu : y .mtu ≤ placeOf t
+  pub sum : creditSum (y .account) ≤ creditsMost
+  pub assembly : y .assembly ≡ x .assembly
+  pub queue : y .queue ≡ x .queue
+
+-- A free slot is given to a new connection.
+pub record Allocates (t : Table) (x y : Slot) : Type 0 where
+  pub was : isDisconnected (x .state) ≡ true
+  pub unheld : x .hold ≡ 0
+  pub is : isDisconnected (y .state) ≡ false
+  pub unbegun : begun (y .state) ≡ false
+  pub mtu : y .mtu ≤ placeOf t
+  pub sum : creditSum (y .account) ≤ creditsMost
+  pub assembly : y .assembly ≡ idle
+  pub queue : y .queue ≡ fresh 0 .queue
+
+pub data Step (t : Table) (k : ℕ) (x : Slot) : Slot → List Move → Type 0 where
+  hold : (h : ℕ) → Step t k x (withHold h x) []
+  go : {y : Slot} {ms : List Move} → Goes x y → Accounting (x .account) (y .account) → Jobs t k x (y .assembly) (y .queue) ms → Step t k x y ms
+  accept : {y : Slot} → Accepts t x y → Step t k x y []
+  free : (h : ℕ) → Step t k x (fresh h) (wipe ∷ [])
+  allocate : {y : Slot} → Allocates t x y → Step t k x y []
+
+-- ---- all slots, each with the moves in its own part of the room
+
+pub data Steps (t : Table) (k : ℕ) : List Slot → List Slot → List (List Move) → Type 0 where
+  rest : {xs : List Slot} → Steps t k xs xs []
+  next : {x y : Slot} {ms : List Move} {xs ys : List Slot} {mss : List (List Move)} → Step t k x y ms → Steps t k xs ys mss → Steps t k (x ∷ xs) (y ∷ ys) (ms ∷ mss)
+
+-- ---- the identifier: kept, or used, and then what is written is nothing or one signal that carries it
+
+pub data Numbered (t : Table) : ℕ → List Fill → Type 0 where
+  kept : {out : List Fill} → Numbered t (t .identifier) out
+  refused : Numbered t (spent t .identifier) []
+  told : (s : Signal) → Numbered t (spent t .identifier) (given (encodeOf (nextId t) s) ∷ [])
+
+-- ---- the answer
+
+-- The paper's number for an answer: 0, or the refusal's.
+abbrev pub number : Answer → ℕ
+number Done = 0
+number (Refused r) = refusalNumber r
+number (At i) = 0
+number (Link link) = 0
+number Opened = 0
+number (Due link i) = 0
+number (Frames link n) = 0
+number (Job link copied len) = 0
+number (Attention set n lowest) = 0
+number (Number n) = 0
+number (Event min max latency timeout) = 0
+
+-- neither refusal 1 nor refusal 2
+abbrev pub passes : Answer → Bool
+passes a = not (eqb (number a) 1) && not (eqb (number a) 2)
+
+-- ---- a call
+
+pub record Stepped (t : Table) (k : ℕ) (o : Outcome) : Type 0 where
+  pub answer : passes (o .answer) ≡ true
+  pub n : o .table .n ≡ t .n
+  pub d : o .table .d ≡ t .d
+  pub m : o .table .m ≡ t .m
+  pub long : length (o .table .slots) ≡ length (t .slots)
+  pub identifier : Numbered t (o .table .identifier) (o .out)
+  pub slots : Steps t k (live t) (live (o .table)) (o .parts)

@@ -1,0 +1,109 @@
+-- What the tests of the definition tell: of two tests joined, and of the states of a slot.
+use mathlib.Core.Path.{_≡_, refl, sym}
+use mathlib.Core.Bool.{Bool, true, false, _&&_, _||_, false≢true}
+use Rattle.channel.specs.declared.ChannelState.{ChannelState}
+use Rattle.channel.specs.declared.ChannelState.the-variants.{Disconnected, Connecting, PeerConnecting, Connected, ConnectFailed, PeerDisconnecting, Disconnecting}
+use Rattle.definition.specs.Table.{isDisconnected, isConnecting, isPeerConnecting, isConnected, isConnectFailed, isDue}
+
+pub and-left : (a b : Bool) → (a && b) ≡ true → a ≡ true
+and-left true b e = refl
+and-left false b e = e
+
+pub and-right : (a b : Bool) → (a && b) ≡ true → b ≡ true
+and-right true b e = e
+and-right false b e = absurd (false≢true e)
+
+pub and-both : (a b : Bool) → a ≡ true → b ≡ true → (a && b) ≡ true
+and-both true b e f = f
+and-both false b e f = e
+
+pub or-left : (a b : Bool) → (a || b) ≡ false → a ≡ false
+or-left true b e = e
+or-left false b e = refl
+
+pub or-right : (a b : Bool) → (a || b) ≡ false → b ≡ false
+or-right true b e = absurd (false≢true (sym e))
+or-right false b e = e
+
+-- A connection has begun: jobs may stand in the slot. (It was Connected, or was left on the way there.)
+abbrev pub begun : ChannelState → Bool
+begun Disconnected = false
+begun (Connecting i) = false
+begun (PeerConnecting i) = false
+begun Connected = true
+begun (ConnectFailed c) = false
+begun (PeerDisconnecting i) = true
+begun (Disconnecting a) = true
+
+pub begun-live : (k : ChannelState) → begun k ≡ true → isDisconnected k ≡ false
+begun-live Disconnected e = absurd (false≢true e)
+begun-live (Connecting i) e = refl
+begun-live (PeerConnecting i) e = refl
+begun-live Connected e = refl
+begun-live (ConnectFailed c) e = refl
+begun-live (PeerDisconnecting i) e = refl
+begun-live (Disconnecting a) e = refl
+
+pub connected-begun : (k : ChannelState) → isConnected k ≡ true → begun k ≡ true
+connected-begun Disconnected e = e
+connected-begun (Connecting i) e = e
+connected-begun (PeerConnecting i) e = e
+connected-begun Connected e = refl
+connected-begun (ConnectFailed c) e = e
+connected-begun (PeerDisconnecting i) e = refl
+connected-begun (Disconnecting a) e = refl
+
+pub due-begun : (k : ChannelState) → isDue k ≡ true → begun k ≡ true
+due-begun Disconnected e = e
+due-begun (Connecting i) e = e
+due-begun (PeerConnecting i) e = e
+due-begun Connected e = refl
+due-begun (ConnectFailed c) e = e
+due-begun (PeerDisconnecting i) e = refl
+due-begun (Disconnecting a) e = refl
+
+pub attempt-live : (k : ChannelState) → isConnecting k ≡ true → isDisconnected k ≡ false
+attempt-live Disconnected e = absurd (false≢true e)
+attempt-live (Connecting i) e = refl
+attempt-live (PeerConnecting i) e = refl
+attempt-live Connected e = refl
+attempt-live (ConnectFailed c) e = refl
+attempt-live (PeerDisconnecting i) e = refl
+attempt-live (Disconnecting a) e = refl
+
+pub attempt-unbegun : (k : ChannelState) → isConnecting k ≡ true → begun k ≡ false
+attempt-unbegun Disconnected e = refl
+attempt-unbegun (Connecting i) e = refl
+attempt-unbegun (PeerConnecting i) e = refl
+attempt-unbegun Connected e = absurd (false≢true e)
+attempt-unbegun (ConnectFailed c) e = refl
+attempt-unbegun (PeerDisconnecting i) e = absurd (false≢true e)
+attempt-unbegun (Disconnecting a) e = absurd (false≢true e)
+
+pub pending-live : (k : ChannelState) → isPeerConnecting k ≡ true → isDisconnected k ≡ false
+pending-live Disconnected e = absurd (false≢true e)
+pending-live (Connecting i) e = refl
+pending-live (PeerConnecting i) e = refl
+pending-live Connected e = refl
+pending-live (ConnectFailed c) e = refl
+pending-live (PeerDisconnecting i) e = refl
+pending-live (Disconnecting a) e = refl
+
+-- none of the four states in which nothing is taken
+pub takes-begun : (k : ChannelState) → (isDisconnected k || (isConnecting k || (isPeerConnecting k || isConnectFailed k))) ≡ false → begun k ≡ true
+takes-begun Disconnected e = sym e
+takes-begun (Connecting i) e = sym e
+takes-begun (PeerConnecting i) e = sym e
+takes-begun Connected e = refl
+takes-begun (ConnectFailed c) e = sym e
+takes-begun (PeerDisconnecting i) e = refl
+takes-begun (Disconnecting a) e = refl
+
+pub begun-takes : (k : ChannelState) → begun k ≡ true → (isDisconnected k || (isConnecting k || (isPeerConnecting k || isConnectFailed k))) ≡ false
+begun-takes Disconnected e = sym e
+begun-takes (Connecting i) e = sym e
+begun-takes (PeerConnecting i) e = sym e
+begun-takes Connected e = refl
+begun-takes (ConnectFailed c) e = sym e
+begun-takes (PeerDisconnecting i) e = refl
+begun-takes (Disconnecting a) e = refl

@@ -1,0 +1,2 @@
+-- The table of calls.
+pub mod Script

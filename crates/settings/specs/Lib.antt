@@ -1,0 +1,2 @@
+-- The response of an accept.
+pub mod Response

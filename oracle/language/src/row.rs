@@ -1,0 +1,118 @@
+//! What a call prints.
+
+use crate::view::View;
+use std::fmt;
+
+/// The first word of a row.
+#[derive(Clone, Copy, Debug, PartialEq, Eq)]
+pub enum Answer {
+    /// 0, or the refusal's number.
+    Number(u16),
+    /// The original panicked; the port never prints this.
+    Panic,
+    /// The line cannot be read.
+    Unread,
+    /// The original was not asked and document 01 names no answer for it.
+    Skipped,
+}
+
+#[derive(Clone, Debug, PartialEq, Eq)]
+pub struct Row {
+    pub answer: Answer,
+    pub octets: Vec<u8>,
+    pub columns: Vec<String>,
+    /// Why the original was not asked for this row, where it wasn't. Never printed.
+    pub not_run: Option<&'static str>,
+}
+
+impl Row {
+    pub fn new(answer: Answer) -> Self {
+        Self { answer, octets: Vec::new(), columns: Vec::new(), not_run: None }
+    }
+
+    pub fn number(number: u16) -> Self {
+        Self::new(Answer::Number(number))
+    }
+
+    pub fn octets(mut self, octets: Vec<u8>) -> Self {
+        self.octets = octets;
+        self
+    }
+
+    pub fn column(mut self, column: impl fmt::Display) -> Self {
+        self.columns.push(column.to_string());
+        self
+    }
+
+    pub fn not_run(mut self, why: &'static str) -> Self {
+        self.not_run = Some(why);
+        self
+    }
+}
+
+/// Everything that one call prints.
+#[derive(Clone, Debug, PartialEq, Eq)]
+pub struct Reply {
+    pub rows: Vec<Row>,
+    /// What a `V` line shows.
+    pub view: Option<View>,
+    /// The views between the signals of one `S` line: one less than its rows.
+    pub between: Vec<View>,
+}
+
+impl Reply {
+    pub fn lines(&self) -> Vec<String> {
+        let slots = self.view.iter().flat_map(|view| view.slots.iter().enumerate().map(|(slot, record)| record.line(slot)));
+        self.rows.iter().map(Row::to_string).chain(slots).collect()
+    }
+
+    pub fn panicked(&self) -> bool {
+        self.rows.iter().any(|row| row.answer == Answer::Panic)
+    }
+}
+
+impl From<Row> for Reply {
+    fn from(row: Row) -> Self {
+        Self { rows: vec![row], view: None, between: Vec::new() }
+    }
+}
+
+impl From<Vec<Row>> for Reply {
+    fn from(rows: Vec<Row>) -> Self {
+        Self { rows, view: None, between: Vec::new() }
+    }
+}
+
+impl From<View> for Reply {
+    fn from(view: View) -> Self {
+        let row = Row::number(0).column(view.n()).column(view.d).column(view.m).column(view.next_identifier);
+        Self { rows: vec![row], view: Some(view), between: Vec::new() }
+    }
+}
+
+impl fmt::Display for Answer {
+    fn fmt(&self, f: &mut fmt::Formatter<'_>) -> fmt::Result {
+        match self {
+            Answer::Number(number) => write!(f, "{number}"),
+            Answer::Panic => write!(f, "panic"),
+            Answer::Unread => write!(f, "?"),
+            Answer::Skipped => write!(f, "~"),
+        }
+    }
+}
+
+impl fmt::Display for Row {
+    fn fmt(&self, f: &mut fmt::Formatter<'_>) -> fmt::Result {
+        write!(f, "{} {}", self.answer, hex(&self.octets))?;
+        self.columns.iter().try_for_each(|column| write!(f, " {column}"))
+    }
+}
+
+/// Octets as the language writes them.
+pub fn hex(octets: &[u8]) -> String {
+    if octets.is_empty() {
+        return "-".to_string();
+    }
+    let digit = |value: u8| char::from_digit(u32::from(value), 16).expect("below 16");
+    octets.iter().flat_map(|octet| [digit(octet >> 4), digit(octet & 15)]).collect()
+}

@@ -1,0 +1,197 @@
+//! The view of a table: what `V` prints.
+
+use crate::call::Policy;
+use crate::BASE_ID;
+use std::fmt;
+
+#[derive(Clone, Copy, Debug, PartialEq, Eq)]
+pub enum State {
+    Disconnected,
+    Connecting(u8),
+    PeerConnecting(u8),
+    Connected,
+    ConnectFailed(u16),
+    PeerDisconnecting(u8),
+    Disconnecting { announced: bool },
+}
+
+/// What of a slot's record is the last owner's, because a free of the original set the state and nothing else. The port has no such
+/// records.
+#[derive(Clone, Copy, Debug, Default, PartialEq, Eq)]
+pub enum Stale {
+    #[default]
+    Nothing,
+    /// Disconnected: link, CID and every number still stand.
+    All,
+    /// Taken by a peer's request since: our MPS and MTU and the credit account still stand, until an accept writes them.
+    Ours,
+    /// Taken by an attempt of our own since: the peer's MPS, MTU and credits still stand, until a response writes them.
+    Peers,
+}
+
+/// A slot's record. `stale` is not printed.
+#[derive(Clone, Debug, PartialEq, Eq)]
+pub struct SlotView {
+    pub state: State,
+    pub link: u16,
+    pub spsm: u16,
+    pub mps: u16,
+    pub mtu: u16,
+    pub policy: Policy,
+    pub credits: u16,
+    pub received: u16,
+    pub peer_cid: u16,
+    pub peer_mps: u16,
+    pub peer_mtu: u16,
+    pub peer_credits: u16,
+    pub hold: u16,
+    /// The open assembly's octets so far and in all.
+    pub have: u16,
+    pub want: u16,
+    /// The waiting jobs, oldest first.
+    pub jobs: Vec<u16>,
+    pub stale: Stale,
+}
+
+#[derive(Clone, Debug, PartialEq, Eq)]
+pub struct View {
+    pub d: u16,
+    pub m: u16,
+    pub next_identifier: u8,
+    pub slots: Vec<SlotView>,
+}
+
+impl View {
+    /// The table of no slots.
+    pub fn none() -> Self {
+        Self { d: 0, m: 0, next_identifier: 1, slots: Vec::new() }
+    }
+
+    pub fn n(&self) -> u16 {
+        self.slots.len() as u16
+    }
+
+    pub fn settled(&self) -> Self {
+        Self { slots: self.slots.iter().map(SlotView::settled).collect(), ..*self }
+    }
+
+    /// The slot of a local CID.
+    pub fn slot_of(&self, cid: u16) -> Option<usize> {
+        let slot = usize::from(cid.checked_sub(BASE_ID)?);
+        (slot < self.slots.len()).then_some(slot)
+    }
+}
+
+impl SlotView {
+    pub fn fresh() -> Self {
+        Self {
+            state: State::Disconnected,
+            link: 0,
+            spsm: 0,
+            mps: 0,
+            mtu: 0,
+            policy: Policy::Every(1),
+            credits: 0,
+            received: 0,
+            peer_cid: 0,
+            peer_mps: 0,
+            peer_mtu: 0,
+            peer_credits: 0,
+            hold: 0,
+            have: 0,
+            want: 0,
+            jobs: Vec::new(),
+            stale: Stale::Nothing,
+        }
+    }
+
+    pub fn free(&self) -> bool {
+        self.state == State::Disconnected
+    }
+
+    /// Not free, and of this link.
+    pub fn is_of(&self, link: u16) -> bool {
+        !self.free() && self.link == link
+    }
+
+    /// A disconnect that the next disconnect would give.
+    pub fn disconnect_due(&self) -> bool {
+        matches!(self.state, State::PeerDisconnecting(_) | State::Disconnecting { announced: false })
+    }
+
+    /// The bit of the attention set.
+    pub fn calls(&self) -> bool {
+        !self.jobs.is_empty() || self.disconnect_due() || matches!(self.state, State::ConnectFailed(_))
+    }
+
+    /// The record as document 01 has it: freed means reset but for the holds, and an assembly ends where Connected is left. What of the
+    /// original's record this drops is the differences "left behind" of the list, and no call of the original reads it.
+    pub fn settled(&self) -> Self {
+        let mut record = match (self.state, self.stale) {
+            (State::Disconnected, Stale::All) => Self { hold: self.hold, ..Self::fresh() },
+            _ => self.clone(),
+        };
+        let fresh = Self::fresh();
+        match self.stale {
+            Stale::Nothing | Stale::All => {}
+            Stale::Ours => {
+                (record.mps, record.mtu, record.policy) = (fresh.mps, fresh.mtu, fresh.policy);
+                (record.credits, record.received) = (fresh.credits, fresh.received);
+            }
+            Stale::Peers => {
+                (record.peer_mps, record.peer_mtu, record.peer_credits) = (fresh.peer_mps, fresh.peer_mtu, fresh.peer_credits);
+            }
+        }
+        if self.state != State::Connected {
+            (record.have, record.want) = (0, 0);
+        }
+        if self.free() {
+            record.jobs.clear();
+        }
+        record.stale = Stale::Nothing;
+        record
+    }
+
+    /// The slot's line of a view.
+    pub fn line(&self, slot: usize) -> String {
+        let mut line = format!(
+            "= {slot} {} {} {} {} {} {} {} {} {} {} {} {} {} {} {} {} {}",
+            self.state,
+            self.link,
+            usize::from(BASE_ID) + slot,
+            self.spsm,
+            self.mps,
+            self.mtu,
+            self.policy,
+            self.credits,
+            self.received,
+            self.peer_cid,
+            self.peer_mps,
+            self.peer_mtu,
+            self.peer_credits,
+            self.hold,
+            self.have,
+            self.want,
+            self.jobs.len(),
+        );
+        for job in &self.jobs {
+            line.push_str(&format!(" {job}"));
+        }
+        line
+    }
+}
+
+impl fmt::Display for State {
+    fn fmt(&self, f: &mut fmt::Formatter<'_>) -> fmt::Result {
+        match self {
+            State::Disconnected => write!(f, "disconnected"),
+            State::Connecting(identifier) => write!(f, "connecting:{identifier}"),
+            State::PeerConnecting(identifier) => write!(f, "peer-connecting:{identifier}"),
+            State::Connected => write!(f, "connected"),
+            State::ConnectFailed(code) => write!(f, "connect-failed:{code}"),
+            State::PeerDisconnecting(identifier) => write!(f, "peer-disconnecting:{identifier}"),
+            State::Disconnecting { announced: false } => write!(f, "disconnecting"),
+            State::Disconnecting { announced: true } => write!(f, "disconnecting:announced"),
+        }
+    }
+}

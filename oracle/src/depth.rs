@@ -1,0 +1,93 @@
+//! What deep places a run reached, counted: the list of issue texts and bench cases that a generator has to meet to be worth its time.
+
+use language::{signals, Answer, Call, Reply, State, View};
+
+/// The notable things about one call, from the table before it and what the original answered.
+pub fn marks(view: &View, call: &Call, reply: &Reply) -> Vec<&'static str> {
+    let mut marks = Vec::new();
+    let answered = reply.rows.last().map(|row| row.answer);
+    let ok = answered == Some(Answer::Number(0));
+    let named = call.slot().and_then(|slot| view.slots.get(usize::from(slot)));
+    let columns = &reply.rows[0].columns;
+    match call {
+        Call::Frame { cid, payload, .. } => {
+            let slot = view.slot_of(*cid).map(|slot| &view.slots[slot]);
+            let joins = slot.is_some_and(|slot| slot.state == State::Connected && slot.want > 0);
+            let ends = slot.is_some_and(|slot| usize::from(slot.have) + payload.len() == usize::from(slot.want));
+            if joins && ends && ok {
+                marks.push("a job of several frames joined");
+            }
+            if joins && answered == Some(Answer::Number(9)) {
+                marks.push("a frame past the job's end");
+            }
+            if answered == Some(Answer::Number(21)) {
+                marks.push("a job dropped at a full queue");
+            }
+        }
+        Call::Take { .. } if ok && columns.len() == 3 => {
+            marks.push("a job taken");
+            if columns[0] != columns[1] {
+                marks.push("a job cut by a short buffer");
+            }
+            if columns[2] != "-" {
+                marks.push("credits granted");
+            }
+        }
+        Call::Send { .. } if ok && columns.len() == 1 => {
+            if columns[0] != "1" {
+                marks.push("a job sent in several frames");
+            }
+            if named.is_some_and(|slot| slot.peer_credits.to_string() == columns[0]) {
+                marks.push("the last peer credit used");
+            }
+        }
+        Call::LinkDown { link } if view.slots.iter().any(|slot| slot.is_of(*link) && slot.state == State::Connected && slot.want > 0) => {
+            marks.push("a link down in the middle of a job");
+        }
+        Call::Signal { link, pdu, .. } => {
+            let parts = signals(pdu).unwrap_or_default();
+            if parts.len() > 1 {
+                marks.push("several signals in one PDU");
+            }
+            let open = |slot: &language::SlotView| slot.is_of(*link) && slot.state == State::Connected && slot.want > 0;
+            if parts.iter().any(|part| part[0] == 0x06) && view.slots.iter().any(open) {
+                marks.push("a peer's disconnect while its link has a job half sent");
+            }
+        }
+        _ => {}
+    }
+    let taken = |wanted: fn(&State) -> bool| view.slots.iter().any(|slot| wanted(&slot.state));
+    if taken(|state| matches!(state, State::Connecting(_))) && taken(|state| matches!(state, State::PeerConnecting(_))) {
+        marks.push("both sides opening");
+    }
+    let mut links: Vec<u16> = view.slots.iter().filter(|slot| !slot.free()).map(|slot| slot.link).collect();
+    links.sort_unstable();
+    links.dedup();
+    if links.len() > 2 {
+        marks.push("three links or more at once");
+    }
+    if view.slots.iter().any(|slot| slot.state == State::Connected && slot.peer_credits == 65_535) {
+        marks.push("peer credits at 65,535");
+    }
+    if view.slots.iter().any(|slot| slot.jobs.len() == usize::from(view.d) && !slot.free()) {
+        marks.push("a full queue");
+    }
+    if view.slots.len() > 3 && view.slots.iter().all(|slot| slot.state == State::Connected) {
+        marks.push("four slots or more, all connected");
+    }
+    let attempt = |slot: &language::SlotView| match slot.state {
+        State::Connecting(identifier) => Some(identifier),
+        _ => None,
+    };
+    let waiting: Vec<u8> = view.slots.iter().filter_map(attempt).collect();
+    if (1..waiting.len()).any(|at| waiting[..at].contains(&waiting[at])) {
+        marks.push("two attempts with one identifier");
+    }
+    if view.slots.iter().any(|slot| slot.free() && slot.hold > 0) {
+        marks.push("a free slot that is held");
+    }
+    if view.next_identifier == 255 && matches!(call, Call::Create { .. } | Call::NextDisconnect | Call::Take { .. }) {
+        marks.push("identifier 255 before a request, grant or attempt");
+    }
+    marks
+}

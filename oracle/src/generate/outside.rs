@@ -1,0 +1,137 @@
+//! Calls that the list of differences speaks of, made on purpose: one for each entry that a call can reach.
+
+use super::{numbers, Generator};
+use crate::kinds::Kind;
+use language::{Call, Config, SlotView, State, View, BASE_ID};
+
+impl Generator {
+    /// A call of one entry of the list, where the table allows one.
+    pub(super) fn outside(&mut self, view: &View) -> Option<Call> {
+        match self.rng.pick(&Kind::ALL) {
+            Kind::SpsmIgnored => Some(Call::Register { spsm: self.rng.pick(&[0, 256, 0x8000, 65_535]) }),
+            Kind::SlotPanic => Some(Call::AddHold { slot: self.n }),
+            Kind::HeldPanic => self.held_wrong(view),
+            Kind::AcceptUnheld => {
+                let slot = self.one_of(view, |slot| pending(slot) && slot.hold == 0)?;
+                Some(Call::Accept { slot, config: Config::default() })
+            }
+            Kind::LocalMtu => {
+                let config = Config { mtu: Some(self.rng.pick(&[self.m - 5, self.m, 65_535])), ..Config::default() };
+                match self.one_of(view, pending) {
+                    Some(slot) if self.rng.chance(50) => Some(Call::Accept { slot, config }),
+                    _ => Some(Call::Create { link: self.a_link(), spsm: 128, config }),
+                }
+            }
+            Kind::DropElsewhere => {
+                let slot = self.one_of(view, |slot| !pending(slot) && slot.state != State::Connected)?;
+                Some(Call::DropPending { slot })
+            }
+            Kind::OpenedOrder | Kind::OpenedPanic => {
+                let slot = self.rng.below(view.slots.len()) as u16;
+                Some(Call::Opened { slot, link: self.a_link(), up: self.rng.chance(50) })
+            }
+            Kind::GiveUpAnything => {
+                let slot = self.one_of(view, |slot| !matches!(slot.state, State::Connecting(_) | State::ConnectFailed(_)))?;
+                Some(Call::GiveUp { slot })
+            }
+            Kind::FrameAnyLink => {
+                let slot = self.one_of(view, |slot| slot.state == State::Connected)?;
+                Some(Call::Frame { link: self.a_link(), cid: BASE_ID + slot, payload: vec![1, 0, 7] })
+            }
+            Kind::ShortFrame => self.first(view, |_, _| Vec::new()),
+            Kind::LongerThanLength => self.first(view, |this, mtu| {
+                let length = this.rng.below(usize::from(mtu.min(20)) + 1);
+                let carried = (length + this.rng.between(1, 3)).min(usize::from(this.m) - 2);
+                let octets = this.rng.octets(carried);
+                [&(length as u16).to_le_bytes()[..], &octets].concat()
+            }),
+            Kind::SmallMps | Kind::LongFrame => {
+                let slot =
+                    self.one_of(view, |slot| slot.state == State::Connected && (slot.peer_mps < 23 || slot.peer_mps > view.m - 4))?;
+                let length = usize::from(view.slots[usize::from(slot)].peer_mtu).min(usize::from(self.m) + 40);
+                Some(Call::Send { slot, sdu: self.rng.octets(length) })
+            }
+            Kind::TooLong => {
+                let slot = self.one_of(view, |slot| slot.state == State::Connected && slot.peer_mtu == 65_535)?;
+                // Such a line has 131,072 digits: a few are enough.
+                if !self.rng.chance(20) {
+                    return None;
+                }
+                let length = self.rng.between(65_534, 65_535);
+                Some(Call::Send { slot, sdu: self.rng.octets(length) })
+            }
+            Kind::TakeWhileClosing => {
+                let slot = self.one_of(view, |slot| slot.disconnect_due() || slot.state == State::Disconnecting { announced: true })?;
+                Some(Call::Take { slot, size: self.rng.pick(&[0, 5, 1_024]) })
+            }
+            Kind::ZeroGrant => {
+                let slot = self.one_of(view, |slot| slot.state == State::Connected && !slot.jobs.is_empty() && slot.received == 0)?;
+                Some(Call::Take { slot, size: 1_024 })
+            }
+            Kind::ClosedHit | Kind::DisconnectAnyLink => {
+                let slot = self.rng.below(view.slots.len()) as u16;
+                let dcid = if self.rng.chance(30) { 0 } else { BASE_ID + slot };
+                let link = self.a_link();
+                self.signal_line(|this| Some((link, this.disconnect(0x06, dcid, 0x40))))
+            }
+            Kind::ResponseAnyLink => {
+                let slot = self.one_of(view, |slot| matches!(slot.state, State::Disconnecting { .. }))?;
+                let link = self.a_link();
+                self.signal_line(|this| Some((link, this.disconnect(0x07, 0x40, BASE_ID + slot))))
+            }
+            Kind::NoPacket => {
+                let slot = self.rng.below(view.slots.len()) as u16;
+                let (link, length) = (self.link_of(view, slot), usize::from(self.m) + self.rng.between(1, 9));
+                Some(Call::Frame { link, cid: BASE_ID + slot, payload: self.rng.octets(length) })
+            }
+            Kind::NumbersLeft | Kind::JobsLeft | Kind::AssemblyLeft => {
+                let slot = self.one_of(view, SlotView::free)?;
+                Some(if self.rng.chance(50) { Call::Queries { slot } } else { Call::Room { slot } })
+            }
+        }
+    }
+
+    /// A hold count that the step can't use.
+    fn held_wrong(&mut self, view: &View) -> Option<Call> {
+        match self.rng.below(5) {
+            0 => {
+                let slot = self.one_of(view, |slot| pending(slot) && slot.hold > 0)?;
+                Some(Call::NextPending { link: view.slots[usize::from(slot)].link, up: true })
+            }
+            1 => {
+                let slot = self.one_of(view, |slot| pending(slot) && slot.hold == 0)?;
+                Some(if self.rng.chance(50) {
+                    Call::DropPending { slot }
+                } else {
+                    Call::Reject { slot, result: numbers::result(&mut self.rng) }
+                })
+            }
+            2 => Some(Call::Release { slot: self.one_of(view, |slot| slot.hold == 0)? }),
+            3 => Some(Call::AddHold { slot: self.one_of(view, |slot| slot.hold == 255)? }),
+            _ => {
+                let slot = self.one_of(view, |slot| slot.state == State::Connected && slot.hold > 0)?;
+                Some(Call::Opened { slot, link: view.slots[usize::from(slot)].link, up: true })
+            }
+        }
+    }
+
+    /// A first frame for an idle channel that has a credit.
+    fn first(&mut self, view: &View, payload: impl FnOnce(&mut Self, u16) -> Vec<u8>) -> Option<Call> {
+        let slot = self.one_of(view, |slot| slot.state == State::Connected && slot.credits > 0 && slot.want == 0)?;
+        let record = &view.slots[usize::from(slot)];
+        Some(Call::Frame { link: record.link, cid: BASE_ID + slot, payload: payload(self, record.mtu) })
+    }
+
+    fn one_of(&mut self, view: &View, test: impl Fn(&SlotView) -> bool) -> Option<u16> {
+        let fit: Vec<u16> = (0..view.n()).filter(|slot| test(&view.slots[usize::from(*slot)])).collect();
+        if fit.is_empty() {
+            None
+        } else {
+            Some(self.rng.pick(&fit))
+        }
+    }
+}
+
+fn pending(slot: &SlotView) -> bool {
+    matches!(slot.state, State::PeerConnecting(_))
+}

@@ -1,0 +1,368 @@
+//! The list of differences, as a decision: given the table before a call, does document 01 have another row than the original, which one,
+//! and can the two tables still be compared after it? A call without a verdict is in the domain: both must print the same row.
+//! The numbers are those of docs/DIFFERENCES.md.
+
+use language::{hex, signals, Call, Config, Policy, Row, SlotView, Stale, State, View, BASE_ID};
+
+#[derive(Clone, Copy, Debug, PartialEq, Eq, PartialOrd, Ord)]
+pub enum Kind {
+    SpsmIgnored = 1,
+    SlotPanic = 2,
+    HeldPanic = 3,
+    AcceptUnheld = 4,
+    LocalMtu = 5,
+    DropElsewhere = 6,
+    OpenedOrder = 7,
+    OpenedPanic = 8,
+    GiveUpAnything = 9,
+    FrameAnyLink = 10,
+    ShortFrame = 11,
+    LongerThanLength = 12,
+    SmallMps = 13,
+    TooLong = 14,
+    LongFrame = 15,
+    TakeWhileClosing = 16,
+    ZeroGrant = 17,
+    ClosedHit = 18,
+    DisconnectAnyLink = 19,
+    ResponseAnyLink = 20,
+    NumbersLeft = 21,
+    JobsLeft = 22,
+    AssemblyLeft = 23,
+    NoPacket = 24,
+}
+
+impl Kind {
+    pub const ALL: [Kind; 24] = [
+        Kind::SpsmIgnored,
+        Kind::SlotPanic,
+        Kind::HeldPanic,
+        Kind::AcceptUnheld,
+        Kind::LocalMtu,
+        Kind::DropElsewhere,
+        Kind::OpenedOrder,
+        Kind::OpenedPanic,
+        Kind::GiveUpAnything,
+        Kind::FrameAnyLink,
+        Kind::ShortFrame,
+        Kind::LongerThanLength,
+        Kind::SmallMps,
+        Kind::TooLong,
+        Kind::LongFrame,
+        Kind::TakeWhileClosing,
+        Kind::ZeroGrant,
+        Kind::ClosedHit,
+        Kind::DisconnectAnyLink,
+        Kind::ResponseAnyLink,
+        Kind::NumbersLeft,
+        Kind::JobsLeft,
+        Kind::AssemblyLeft,
+        Kind::NoPacket,
+    ];
+
+    pub fn number(self) -> usize {
+        self as usize
+    }
+
+    pub fn title(self) -> &'static str {
+        match self {
+            Kind::SpsmIgnored => "registering an SPSM outside 1..=255 is ignored in silence",
+            Kind::SlotPanic => "a slot past the table panics",
+            Kind::HeldPanic => "a hold count that the step can't use panics",
+            Kind::AcceptUnheld => "a pending without a hold is accepted",
+            Kind::LocalMtu => "a local MTU above M-6 is taken",
+            Kind::DropElsewhere => "dropping a pending that is none any more keeps its hold",
+            Kind::OpenedOrder => "the opened query asks whether the link is up before whose slot it is",
+            Kind::OpenedPanic => "the opened query of another link's or a free slot panics",
+            Kind::GiveUpAnything => "a give-up frees the slot whoever has it",
+            Kind::FrameAnyLink => "a frame is taken from any link",
+            Kind::ShortFrame => "a first frame under 2 octets panics",
+            Kind::LongerThanLength => "a first frame longer than its length opens an assembly",
+            Kind::SmallMps => "a peer MPS below 23 is sent with, or panics at 0 and 1",
+            Kind::TooLong => "an SDU of 65,534 or 65,535 octets is counted short",
+            Kind::LongFrame => "a frame longer than the packet is refused",
+            Kind::TakeWhileClosing => "finished jobs can't be taken while disconnecting",
+            Kind::ZeroGrant => "a grant of 0 credits is sent and uses an identifier",
+            Kind::ClosedHit => "a disconnect request turns a free slot PeerDisconnecting",
+            Kind::DisconnectAnyLink => "a disconnect request is taken from any link",
+            Kind::ResponseAnyLink => "a disconnect response is taken from any link",
+            Kind::NumbersLeft => "numbers of the last owner stand in a freed slot",
+            Kind::JobsLeft => "jobs of the last owner stand in a freed slot",
+            Kind::AssemblyLeft => "an assembly stays open after Connected is left",
+            Kind::NoPacket => "a payload longer than M has no packet in the original",
+        }
+    }
+}
+
+/// A difference that the list foretells for one row.
+#[derive(Clone, Debug, PartialEq, Eq)]
+pub struct Verdict {
+    pub kind: Kind,
+    /// What document 01 has the port print.
+    pub row: String,
+    /// The tables differ from here on.
+    pub parts: bool,
+}
+
+fn refusal(kind: Kind, number: u16, parts: bool) -> Option<Verdict> {
+    Some(Verdict { kind, row: Row::number(number).to_string(), parts })
+}
+
+/// The verdict on a call other than `S`, from the table before it and the oldest job of the slot that it names.
+pub fn verdict(view: &View, oldest_job: Option<&[u8]>, call: &Call) -> Option<Verdict> {
+    let slot = match call.slot() {
+        Some(slot) if slot >= view.n() => {
+            let run = slot <= 255 && !matches!(call, Call::Room { .. });
+            return if run { refusal(Kind::SlotPanic, 6, false) } else { None };
+        }
+        Some(slot) => Some(&view.slots[usize::from(slot)]),
+        None => None,
+    };
+    match (call, slot) {
+        (Call::Register { spsm: 0 | 256.. }, _) => refusal(Kind::SpsmIgnored, 5, false),
+        (Call::NextPending { link, .. }, _) => {
+            let lowest = view.slots.iter().find(|slot| pending(slot) && slot.link == *link);
+            if lowest.is_some_and(|slot| slot.hold > 0) {
+                refusal(Kind::HeldPanic, 22, false)
+            } else {
+                None
+            }
+        }
+        (Call::Accept { config, .. }, Some(slot)) => accept(view, slot, config),
+        (Call::Reject { result, .. }, Some(slot)) if listed(*result) && pending(slot) && slot.hold == 0 => {
+            refusal(Kind::HeldPanic, 22, false)
+        }
+        (Call::DropPending { .. }, Some(slot)) => drop_pending(slot),
+        (Call::Create { config, .. }, _) if sizes_fit(view, config) == Sizes::OnlyMtu => {
+            refusal(Kind::LocalMtu, 12, view.slots.iter().any(|slot| slot.free() && slot.hold == 0))
+        }
+        (Call::Opened { link, up, .. }, Some(slot)) => opened(slot, *link, *up),
+        (Call::GiveUp { .. }, Some(slot)) => match slot.state {
+            State::Connecting(_) | State::ConnectFailed(_) => None,
+            State::Connected if slot.hold == 0 => None,
+            _ => refusal(Kind::GiveUpAnything, 8, !slot.free()),
+        },
+        (Call::AddHold { .. }, Some(slot)) if slot.hold == 255 => refusal(Kind::HeldPanic, 22, false),
+        (Call::Release { .. }, Some(slot)) if slot.hold == 0 => refusal(Kind::HeldPanic, 22, false),
+        (Call::Frame { link, cid, payload }, _) => frame(view, *link, *cid, payload),
+        (Call::Send { sdu, .. }, Some(slot)) => send(view, slot, sdu),
+        (Call::Take { size, .. }, Some(slot)) => take(slot, oldest_job, usize::from(*size)),
+        _ => None,
+    }
+}
+
+fn pending(slot: &SlotView) -> bool {
+    matches!(slot.state, State::PeerConnecting(_))
+}
+
+/// The result codes of document 01.
+pub fn listed(result: u16) -> bool {
+    matches!(result, 0 | 2 | 4..=11)
+}
+
+#[derive(PartialEq, Eq)]
+enum Sizes {
+    Fit,
+    Mps,
+    OnlyMtu,
+}
+
+fn sizes_fit(view: &View, config: &Config) -> Sizes {
+    if config.mps.is_some_and(|mps| mps > view.m - 4) {
+        Sizes::Mps
+    } else if config.mtu.is_some_and(|mtu| mtu > view.m - 6) {
+        Sizes::OnlyMtu
+    } else {
+        Sizes::Fit
+    }
+}
+
+fn accept(view: &View, slot: &SlotView, config: &Config) -> Option<Verdict> {
+    match sizes_fit(view, config) {
+        Sizes::Mps => None,
+        Sizes::OnlyMtu => refusal(Kind::LocalMtu, 12, pending(slot)),
+        Sizes::Fit if pending(slot) && slot.hold == 0 => refusal(Kind::AcceptUnheld, 22, true),
+        Sizes::Fit => None,
+    }
+}
+
+fn drop_pending(slot: &SlotView) -> Option<Verdict> {
+    match slot.state {
+        State::Connected => None,
+        State::PeerConnecting(_) if slot.hold == 0 => refusal(Kind::HeldPanic, 22, false),
+        State::PeerConnecting(_) => None,
+        _ if slot.hold == 0 => refusal(Kind::DropElsewhere, 22, false),
+        _ => refusal(Kind::DropElsewhere, 0, true),
+    }
+}
+
+fn opened(slot: &SlotView, link: u16, up: bool) -> Option<Verdict> {
+    if slot.free() {
+        let own = slot.stale == Stale::All && slot.link == link;
+        if up && !own {
+            refusal(Kind::OpenedPanic, 18, false)
+        } else {
+            None
+        }
+    } else if slot.link != link {
+        refusal(if up { Kind::OpenedPanic } else { Kind::OpenedOrder }, 8, true)
+    } else if up && slot.state == State::Connected && slot.hold > 0 {
+        // The unwinding drops the attempt, which closes the slot.
+        refusal(Kind::HeldPanic, 22, true)
+    } else {
+        None
+    }
+}
+
+fn frame(view: &View, link: u16, cid: u16, payload: &[u8]) -> Option<Verdict> {
+    if payload.len() > usize::from(view.m) {
+        return no_packet(view, link, cid);
+    }
+    let slot = &view.slots[view.slot_of(cid)?];
+    if slot.state != State::Connected {
+        return None;
+    }
+    if slot.link != link {
+        return refusal(Kind::FrameAnyLink, 8, slot.credits > 0);
+    }
+    if slot.credits == 0 || slot.want > 0 {
+        return None;
+    }
+    let [low, high, job @ ..] = payload else {
+        return refusal(Kind::ShortFrame, 19, true);
+    };
+    let length = u16::from_le_bytes([*low, *high]);
+    if length <= slot.mtu && job.len() > usize::from(length) {
+        return refusal(Kind::LongerThanLength, 9, true);
+    }
+    None
+}
+
+/// A payload that no packet holds never reaches the original's channels. It is past every length that document 01 allows: 9 at the latest.
+fn no_packet(view: &View, link: u16, cid: u16) -> Option<Verdict> {
+    let (number, parts) = match view.slot_of(cid).map(|slot| &view.slots[slot]) {
+        None => (7, false),
+        Some(slot) if slot.state != State::Connected => (0, false),
+        Some(slot) if slot.link != link => (8, false),
+        Some(slot) if slot.credits == 0 => (10, false),
+        Some(_) => (9, true),
+    };
+    refusal(Kind::NoPacket, number, parts)
+}
+
+/// The frames of document 01 for an SDU that is sent: the only rows that this list has to work out itself.
+fn cut(sdu: &[u8], mps: u16, peer_cid: u16) -> Row {
+    let stream: Vec<u8> = (sdu.len() as u16).to_le_bytes().iter().chain(sdu).copied().collect();
+    let frames = stream.chunks(usize::from(mps));
+    let n = frames.len();
+    let octets = frames.flat_map(|payload| {
+        let header = [(payload.len() as u16).to_le_bytes(), peer_cid.to_le_bytes()].concat();
+        header.into_iter().chain(payload.iter().copied())
+    });
+    Row::number(0).octets(octets.collect()).column(n)
+}
+
+fn send(view: &View, slot: &SlotView, sdu: &[u8]) -> Option<Verdict> {
+    if slot.state != State::Connected || sdu.len() > usize::from(slot.peer_mtu) {
+        return None;
+    }
+    let mps = usize::from(slot.peer_mps);
+    // The original's own count: its length sum stops at 65,535.
+    let paid = mps > 0 && (sdu.len() + 2).min(65_535).div_ceil(mps) <= usize::from(slot.peer_credits);
+    let fits = (sdu.len() + 2).min(mps) + 4 <= usize::from(view.m);
+    let sent = mps >= 2 && paid && fits;
+    if sdu.len() >= 65_534 {
+        refusal(Kind::TooLong, 23, sent)
+    } else if mps < 23 {
+        refusal(Kind::SmallMps, 20, sent)
+    } else if paid && !fits {
+        Some(Verdict { kind: Kind::LongFrame, row: cut(sdu, slot.peer_mps, slot.peer_cid).to_string(), parts: true })
+    } else {
+        None
+    }
+}
+
+fn take(slot: &SlotView, oldest_job: Option<&[u8]>, size: usize) -> Option<Verdict> {
+    // What a take without a grant prints.
+    let taken = oldest_job.map_or(Row::number(0), |job| {
+        let copied = job.len().min(size);
+        Row::number(0).octets(job[..copied].to_vec()).column(copied).column(job.len()).column(hex(&[]))
+    });
+    let waits = oldest_job.is_some();
+    match slot.state {
+        State::Disconnecting { .. } | State::PeerDisconnecting(_) => {
+            Some(Verdict { kind: Kind::TakeWhileClosing, row: taken.to_string(), parts: waits })
+        }
+        State::Connected if waits && slot.received == 0 && grants(slot) => {
+            Some(Verdict { kind: Kind::ZeroGrant, row: taken.to_string(), parts: true })
+        }
+        _ => None,
+    }
+}
+
+/// The original's policy test.
+fn grants(slot: &SlotView) -> bool {
+    match slot.policy {
+        Policy::Every(count) => slot.received >= count,
+        Policy::MinThreshold(threshold) => slot.credits < threshold,
+    }
+}
+
+/// The verdicts on the signals of an `S` line, one each, from the tables before each.
+pub fn signal_verdicts<'a>(link: u16, pdu: &[u8], before: impl Iterator<Item = &'a View>) -> Vec<Option<Verdict>> {
+    let parts = signals(pdu).unwrap_or_default();
+    parts.iter().zip(before).map(|(part, view)| signal_verdict(view, link, part)).collect()
+}
+
+/// The CID that the original has stored in a slot: 0 once it was closed.
+fn stored_cid(slot: usize, record: &SlotView) -> u16 {
+    if record.free() && record.stale != Stale::All {
+        0
+    } else {
+        BASE_ID + slot as u16
+    }
+}
+
+pub fn signal_verdict(view: &View, link: u16, signal: &[u8]) -> Option<Verdict> {
+    let (code, identifier, body) = (signal[0], signal[1], &signal[4..]);
+    let [dcid_low, dcid_high, scid_low, scid_high] = *body else {
+        return None;
+    };
+    match code {
+        0x06 => {
+            let dcid = u16::from_le_bytes([dcid_low, dcid_high]);
+            let hit = view.slots.iter().enumerate().find(|(slot, record)| stored_cid(*slot, record) == dcid);
+            let (_, record) = hit.filter(|(_, record)| !record.is_of(link))?;
+            let kind = if record.free() { Kind::ClosedHit } else { Kind::DisconnectAnyLink };
+            let reject = Row::number(0).octets(vec![0x06, 0x00, 0x05, 0x00, 0x01, identifier, 0x02, 0x00, 0x02, 0x00]);
+            Some(Verdict { kind, row: reject.to_string(), parts: true })
+        }
+        0x07 => {
+            let record = &view.slots[view.slot_of(u16::from_le_bytes([scid_low, scid_high]))?];
+            let other = matches!(record.state, State::Disconnecting { .. }) && record.link != link;
+            if other {
+                refusal(Kind::ResponseAnyLink, 0, true)
+            } else {
+                None
+            }
+        }
+        _ => None,
+    }
+}
+
+/// The differences that settling a record drops: see `SlotView::settled`.
+pub fn left_in(record: &SlotView) -> Vec<Kind> {
+    let settled = record.settled();
+    let mut kinds = Vec::new();
+    if (SlotView { jobs: settled.jobs.clone(), have: settled.have, want: settled.want, stale: settled.stale, ..record.clone() }) != settled
+    {
+        kinds.push(Kind::NumbersLeft);
+    }
+    if record.jobs != settled.jobs {
+        kinds.push(Kind::JobsLeft);
+    }
+    if (record.have, record.want) != (settled.have, settled.want) {
+        kinds.push(Kind::AssemblyLeft);
+    }
+    kinds
+}

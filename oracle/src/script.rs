@@ -1,0 +1,204 @@
+//! A script judged: each call with what the original printed, what the port must print, and the differences that the list foretells.
+//! Where the list says that the tables part, the script ends.
+
+use crate::depth::marks;
+use crate::kinds::{left_in, signal_verdicts, verdict, Kind, Verdict};
+use crate::play;
+use language::{can_be_made, Call, Eyes, Feed, Manner, Reply, Row, State, View, HIGHEST_LINK};
+
+/// Where the calls of a script come from; it sees the table before each.
+pub trait Source {
+    fn next(&mut self, view: &View) -> Option<Call>;
+}
+
+impl<I: Iterator<Item = Call>> Source for I {
+    fn next(&mut self, _view: &View) -> Option<Call> {
+        Iterator::next(self)
+    }
+}
+
+#[derive(Clone, Debug)]
+pub struct Step {
+    pub call: Call,
+    /// What the original printed.
+    pub original: Vec<String>,
+    /// What the port must print, line for line; none for the signals of a PDU behind one at which the tables part.
+    pub port: Vec<Option<String>>,
+    pub kinds: Vec<Kind>,
+    pub not_run: Vec<&'static str>,
+    /// What deep place this call met.
+    pub marks: Vec<&'static str>,
+    /// The link of the slot that the call names by number or CID, where it isn't free.
+    pub owner: Option<u16>,
+    /// No assembly is open on the slot that the call names.
+    pub idle: bool,
+    /// The original panicked and the list doesn't say so.
+    pub surprise: bool,
+}
+
+/// A `T` line and the calls on its table.
+#[derive(Clone, Debug, Default)]
+pub struct Script {
+    pub steps: Vec<Step>,
+}
+
+impl Script {
+    /// Runs the original on a table of these sizes and judges every call. The sizes must be among those that it is built for.
+    pub fn judge(n: u16, d: u16, m: u16, manner: Manner, source: &mut dyn Source) -> Self {
+        assert!(can_be_made(n, d, m), "a script starts with a table that can be made");
+        let make = Reply::from(Row::number(0));
+        let first = Step::plain(Call::Make { n, d, m }, &make);
+        let mut judge = Judge { source, asked: None, script: Script { steps: vec![first] }, parted: false };
+        assert!(play::session(n, d, m, manner, &mut judge), "the original is built for this M");
+        judge.script
+    }
+
+    /// Judges a list of calls that starts with `T`. None where it doesn't, or where the original can't be made so.
+    pub fn of(calls: &[Call]) -> Option<Self> {
+        Self::in_manner(calls, Manner::default())
+    }
+
+    pub fn in_manner(calls: &[Call], manner: Manner) -> Option<Self> {
+        let [Call::Make { n, d, m }, calls @ ..] = calls else {
+            return None;
+        };
+        let known = can_be_made(*n, *d, *m) && play::SIZES.contains(m) && !calls.iter().any(|call| matches!(call, Call::Make { .. }));
+        known.then(|| Self::judge(*n, *d, *m, manner, &mut calls.iter().cloned()))
+    }
+
+    pub fn calls(&self) -> Vec<Call> {
+        self.steps.iter().map(|step| step.call.clone()).collect()
+    }
+
+    pub fn text(&self) -> String {
+        self.steps.iter().map(|step| format!("{}\n", step.call)).collect()
+    }
+
+    pub fn lines(&self) -> usize {
+        self.steps.iter().map(|step| step.port.len()).sum()
+    }
+}
+
+impl Step {
+    /// A call on which both must agree.
+    fn plain(call: Call, reply: &Reply) -> Self {
+        let original = reply.lines();
+        let port = original.iter().cloned().map(Some).collect();
+        let not_run = reply.rows.iter().filter_map(|row| row.not_run).collect();
+        Self { call, original, port, kinds: Vec::new(), not_run, marks: Vec::new(), owner: None, idle: true, surprise: false }
+    }
+}
+
+/// What stood before the call that is being answered.
+struct Before {
+    call: Call,
+    view: View,
+    oldest_job: Option<Vec<u8>>,
+}
+
+struct Judge<'a> {
+    source: &'a mut dyn Source,
+    asked: Option<Before>,
+    script: Script,
+    parted: bool,
+}
+
+impl Feed for Judge<'_> {
+    fn next(&mut self, eyes: &dyn Eyes) -> Option<Call> {
+        if self.parted {
+            return None;
+        }
+        let view = eyes.view();
+        let call = self.source.next(&view)?;
+        let named = call.slot().map(usize::from).filter(|slot| *slot < view.slots.len());
+        let oldest_job = match call {
+            Call::Take { .. } => named.and_then(|slot| eyes.oldest_job(slot)),
+            _ => None,
+        };
+        self.asked = Some(Before { call: call.clone(), view, oldest_job });
+        Some(call)
+    }
+
+    fn answered(&mut self, reply: Reply) {
+        let before = self.asked.take().expect("a reply follows a call");
+        let (step, parted) = before.judge(&reply);
+        self.parted = parted;
+        self.script.steps.push(step);
+    }
+}
+
+impl Before {
+    fn judge(self, reply: &Reply) -> (Step, bool) {
+        let mut step = Step::plain(self.call.clone(), reply);
+        if !self.call.only_looks() {
+            step.marks = marks(&self.view, &self.call, reply);
+        }
+        let cid = match self.call {
+            Call::Frame { cid, .. } => self.view.slot_of(cid),
+            _ => None,
+        };
+        let named = self.call.slot().map(usize::from).or(cid).and_then(|slot| self.view.slots.get(slot));
+        step.owner = named.filter(|record| !record.free()).map(|record| record.link);
+        step.idle = named.is_none_or(|record| record.settled().want == 0);
+        let verdicts = self.verdicts(reply);
+        let mut parted = false;
+        for (line, verdict) in step.port.iter_mut().zip(&verdicts) {
+            if parted {
+                *line = None;
+            } else if let Some(verdict) = verdict {
+                *line = Some(verdict.row.clone());
+                parted = verdict.parts;
+            }
+        }
+        step.kinds = verdicts.iter().flatten().map(|verdict| verdict.kind).collect();
+        self.settle(reply, &mut step);
+        let foretold = verdicts.iter().any(Option::is_some);
+        step.surprise = reply.panicked() && !foretold;
+        let parts = parted || step.surprise;
+        (step, parts)
+    }
+
+    fn verdicts(&self, reply: &Reply) -> Vec<Option<Verdict>> {
+        match &self.call {
+            Call::Signal { link, .. } if *link > HIGHEST_LINK => Vec::new(),
+            Call::Signal { link, pdu, .. } => signal_verdicts(*link, pdu, std::iter::once(&self.view).chain(&reply.between)),
+            call if call.link().is_some_and(|link| link > HIGHEST_LINK) => Vec::new(),
+            call => vec![verdict(&self.view, self.oldest_job.as_deref(), call)],
+        }
+    }
+
+    /// The lines that show records: the port's have nothing left behind.
+    fn settle(&self, reply: &Reply, step: &mut Step) {
+        let named = self.call.slot().map(usize::from).and_then(|slot| self.view.slots.get(slot));
+        match (&self.call, &reply.view, named) {
+            (Call::View, Some(view), _) => {
+                for (slot, record) in view.slots.iter().enumerate() {
+                    step.port[1 + slot] = Some(record.settled().line(slot));
+                    step.kinds.extend(left_in(record));
+                }
+            }
+            (Call::Queries { .. }, _, Some(record)) => {
+                let record = record.settled();
+                let row = Row::number(0).column(record.spsm).column(record.mtu).column(record.mps);
+                step.port[0] = Some(row.column(record.peer_mtu).column(record.peer_mps).to_string());
+                if step.port[0].as_ref() != step.original.first() {
+                    step.kinds.push(Kind::NumbersLeft);
+                }
+            }
+            (Call::Room { .. }, _, Some(record)) => {
+                let mut row = reply.rows[0].clone();
+                let place = row.octets.len() / (usize::from(self.view.d) + 1);
+                if record.free() {
+                    row.octets.fill(0);
+                } else if record.state != State::Connected {
+                    row.octets[..place].fill(0);
+                }
+                if row.octets != reply.rows[0].octets {
+                    step.kinds.push(if record.free() { Kind::JobsLeft } else { Kind::AssemblyLeft });
+                }
+                step.port[0] = Some(row.to_string());
+            }
+            _ => {}
+        }
+    }
+}

@@ -1,0 +1,165 @@
+//! The oracle's own tests: that it plays what document 01 prints, that its list and its parts fit together, that the comparison finds what
+//! it must, and the findings that are too long for a file.
+
+use language::{Answer, Call, Manner};
+use oracle::compare::batch;
+use oracle::faults::{Fault, Faulty};
+use oracle::generate::{Generator, Plan};
+use oracle::kinds::Kind;
+use oracle::play::{play, quiet};
+use oracle::rng::Rng;
+use oracle::run::{run, script, Extent};
+use oracle::script::Script;
+use oracle::shrink::shrink;
+use oracle::twin::Twin;
+
+fn rows(text: &str) -> Vec<String> {
+    quiet();
+    let mut rows = Vec::new();
+    play(text.lines().map(|line| Call::parse(line.trim())), Manner::default(), |_, reply| rows.extend(reply.lines()));
+    rows
+}
+
+/// A short run; the seed is the test's own.
+fn extent(seed: u64, calls: usize) -> Extent {
+    Extent { seed, calls, ..Extent::default() }
+}
+
+#[test]
+fn the_sample_of_document_01() {
+    let printed = rows("T 2 1 64\nR 128\nS 1 1 c 14070a0080004000170017000500\nS 1 1 c 14080a0081004100170017000500");
+    assert_eq!(printed, ["0 -", "0 -", "0 -", "0 0e00050015080a0000000000000000000200"]);
+}
+
+#[test]
+fn the_bench_frame_counts() {
+    for (length, frames) in [(0, 1), (21, 1), (22, 2), (44, 2), (45, 3), (65_533, 2_850)] {
+        let sdu = if length == 0 { "-".to_string() } else { "00".repeat(length) };
+        let script = format!("T 2 2 64\nR 128\nS 1 1 c 14070a0080005000ffff1700ffff\nP 1 1\nA 0 - - - -\nK 0 {sdu}");
+        let row = rows(&script).pop().unwrap();
+        assert!(row.starts_with("0 ") && row.ends_with(&format!(" {frames}")), "{length}");
+        if length == 0 {
+            assert_eq!(row, "0 020050000000 1");
+        }
+    }
+}
+
+#[test]
+fn the_bench_credits() {
+    for (more, row) in [("0500", "0 -"), ("0600", "9 -")] {
+        let script = format!("T 2 2 64\nR 128\nS 1 1 c 14070a008000500064001700faff\nP 1 1\nA 0 - - - -\nS 1 1 c 160904005000{more}");
+        assert_eq!(rows(&script).pop().unwrap(), row);
+    }
+}
+
+#[test]
+fn the_bench_cids() {
+    assert_eq!(rows("T 2 1 64\nF 1 63 0000\nF 1 65 0000\nF 1 66 0000")[1..], ["7 -", "0 -", "7 -"]);
+}
+
+#[test]
+fn a_table_that_cannot_be_made_and_lines_that_cannot_be_read() {
+    assert_eq!(rows("V\nR 5\nT 0 1 64\nS 1 1 c 16090400500001001609040050000100\nx"), ["0 - 0 0 0 1", "1 -", "1 -", "1 -", "1 -", "? -"]);
+    // 16 slots of 5 places: 825 is the largest packet for the room that chanrun lends.
+    assert_eq!(rows("T 16 4 825\nT 16 4 826"), ["0 -", "1 -"]);
+    // A size that no build has is made, and then nothing is asked.
+    assert_eq!(rows("T 1 1 77\nR 128\nV"), ["0 -", "~ -", "~ -"]);
+}
+
+#[test]
+fn after_a_panic_nothing_is_asked() {
+    assert_eq!(rows("T 1 1 29\nL 0\nR 128\nT 1 1 29\nR 128"), ["0 -", "panic -", "panic -", "0 -", "0 -"]);
+}
+
+#[test]
+fn an_undefined_result_code_never_reaches_the_original() {
+    quiet();
+    let lines = ["T 1 1 29", "C 1 128 - - - -", "S 1 1 c 15010a0050006400170005000300", "X 0 3"];
+    let mut not_run = Vec::new();
+    play(lines.iter().map(|line| Call::parse(line)), Manner::default(), |_, reply| {
+        not_run.extend(reply.rows.iter().map(|row| (row.answer, row.not_run.is_some())));
+    });
+    let number = |number, not_run| (Answer::Number(number), not_run);
+    assert_eq!(not_run, [number(0, false), number(0, false), number(15, true), number(15, true)]);
+}
+
+#[test]
+fn the_list_is_numbered_in_order() {
+    let numbers: Vec<usize> = Kind::ALL.iter().map(|kind| kind.number()).collect();
+    assert_eq!(numbers, (1..=Kind::ALL.len()).collect::<Vec<_>>());
+}
+
+#[test]
+fn a_script_is_made_again_from_its_number() {
+    let wanted = extent(5, 0);
+    for number in 0..40 {
+        assert_eq!(script(&wanted, number).text(), script(&wanted, number).text());
+    }
+    assert_ne!(script(&wanted, 0).text(), script(&wanted, 1).text());
+}
+
+#[test]
+fn the_original_agrees_with_itself() {
+    quiet();
+    let found = run(&mut Faulty(Fault::None), &extent(11, 6_000), 1, |_| {}).unwrap();
+    assert!(found.clean());
+    assert!(found.counts.calls >= 6_000);
+}
+
+#[test]
+fn the_lost_line_is_found_and_made_small() {
+    quiet();
+    let found = run(&mut Faulty(Fault::LostLine), &extent(1, 40_000), 1, |_| {}).unwrap();
+    let (script, difference) = found.differences.first().expect("found");
+    assert!(script.steps.len() < 16, "{}", script.text());
+    assert_ne!(difference.expected, difference.got);
+    // The small script still shows it, and shows nothing without the fault.
+    let calls = script.calls();
+    assert!(shrink(&mut Faulty(Fault::LostLine), &calls).is_some());
+    assert!(shrink(&mut Faulty(Fault::None), &calls).is_none());
+}
+
+#[test]
+fn a_missing_row_does_not_hide_the_scripts_behind_it() {
+    quiet();
+    let scripts: Vec<_> = (0..30).map(|number| script(&extent(1, 0), number)).collect();
+    let several = |script: &&Script| script.steps.iter().any(|step| step.call.rows() > 1);
+    let wanted = scripts.iter().filter(several).count();
+    assert_eq!(batch(&mut Faulty(Fault::RowMissing), &scripts).unwrap().len(), wanted);
+}
+
+#[test]
+fn twin_runs_find_octets_that_reach_another_link() {
+    quiet();
+    let extent = extent(2, 0);
+    let pairs = |fault: Fault| {
+        let twins = (0..900).filter_map(|number| Twin::new(&script(&extent, number), &mut Rng::new(number)));
+        twins.filter(|twin| twin.run(&mut Faulty(fault)).unwrap().is_some()).count()
+    };
+    assert_eq!(pairs(Fault::None), 0);
+    assert!(pairs(Fault::LostLine) > 0);
+}
+
+/// With `confirm` called at once, as published, the original panics where the list says and nowhere else.
+#[test]
+fn as_published_the_original_panics_only_where_the_list_says() {
+    quiet();
+    let published = Manner { confirm_at_once: true, ..Manner::default() };
+    for number in 0..600 {
+        let mut generator = Generator::new(number, Plan { outside: number % 2 == 0, view_every: 4, longest: 120 });
+        let (n, d, m) = generator.sizes();
+        let script = Script::judge(n, d, m, published, &mut generator);
+        assert!(script.steps.iter().all(|step| !step.surprise), "{}", script.text());
+    }
+}
+
+/// Finding 14. 65,535 is 51 times 1,285: the original's sum of 65,535 and 2 stops at 65,535, and the last frame goes out without a credit.
+#[test]
+fn an_sdu_of_65535_octets_is_counted_one_frame_short() {
+    let printed =
+        rows(&format!("T 2 2 64\nR 128\nS 1 1 c 14070a0080005000ffff33000505\nP 1 1\nA 0 - - - -\nV\nK 0 {}\nV", "00".repeat(65_535)));
+    let credits = |line: &String| line.split(' ').nth(14).map(str::to_string);
+    assert_eq!(credits(&printed[6]).as_deref(), Some("1285"));
+    assert!(printed[8].ends_with(" 1286"));
+    assert_eq!(credits(&printed[10]).as_deref(), Some("0"));
+}

@@ -109,6 +109,35 @@ carrier t (sends s sdu out) = holder (slotAt t s)
 carrier t (down link) = nobody
 carrier t (plain r out job) = nobody
 
+-- Whose jobs or frames a call hands out: the link of the slot that is taken from, or sent on.
+abbrev pub takenFrom : Table → Request → Holder
+takenFrom t (register spsm) = nobody
+takenFrom t (signals link listening central pdu) = nobody
+takenFrom t (pends link up) = nobody
+takenFrom t (rejectsAll link) = nobody
+takenFrom t (accepts s c) = nobody
+takenFrom t (rejects s result) = nobody
+takenFrom t (drops s) = nobody
+takenFrom t (creates link spsm c) = nobody
+takenFrom t (opens s link up) = nobody
+takenFrom t (gives s) = nobody
+takenFrom t (holds s) = nobody
+takenFrom t (releases s) = nobody
+takenFrom t (leaves s) = nobody
+takenFrom t (leavesCid cid) = nobody
+takenFrom t announces = nobody
+takenFrom t (takes s) = holder (slotAt t s)
+takenFrom t attends = nobody
+takenFrom t (asks of s) = nobody
+takenFrom t (sendsSignal link s) = nobody
+takenFrom t (writes octets) = nobody
+
+abbrev pub handedOut : Table → Call → Holder
+handedOut t (frame link cid payload) = nobody
+handedOut t (sends s sdu out) = holder (slotAt t s)
+handedOut t (down link) = nobody
+handedOut t (plain r out job) = takenFrom t r
+
 -- ---- all calls. `count` is the number of job octets, `room` the room's length, `out` and `job` those of the lent buffers.
 
 unfoldable pub serve : Table → Request → (room out job : ℕ) → Outcome

@@ -9,7 +9,7 @@ use native.Mathlib.Omega.{arith}
 use lib.Dec.{leb}
 use lib.ListN.{length, take, getD, set, length-take, length-set}
 use lib.Seq.{take-set-lt, getD-take}
-use borrow.Author.Tests.{leb-false, ltb-true, lt-leb}
+use borrow.Author.Tests.{leb-false, not-false, ltb-true, lt-leb}
 use Rattle.lists.specs.Choose.{choose, if-cases}
 use Rattle.lists.specs.Both.{and-left, and-right}
 use Rattle.lists.specs.First.{first-passes}
@@ -26,7 +26,7 @@ use Rattle.channel.specs.declared.Verdict.the-variants.{Pass, Stop}
 use Rattle.channel.specs.declared.Slot.{Slot}
 use Rattle.channel.specs.declared.Table.{Table}
 use Rattle.definition.specs.Mem.{Fill, Move, wipe}
-use Rattle.definition.specs.Table.{gap, freed, slotAt, live, width, found, isDisconnected, isFree, isCid, slotOf, spent, registered}
+use Rattle.definition.specs.Table.{gap, freed, slotAt, live, width, found, isDisconnected, isFree, isCid, slotOf, spent, registered, wellFormed}
 use Rattle.definition.specs.Outcome.{Outcome, still, only, change, sweep, verdict, passed, gate}
 use Rattle.definition.specs.Calls.{nobody, by, holderIn, holder}
 
@@ -118,16 +118,20 @@ module _ {t : Table} where
   pub with-spsm : (spsm : ℕ) → Like t (registered t spsm)
   with-spsm spsm = record { slots = refl; n = refl; d = refl; m = refl }
 
--- ---- the refusals that come first let pass only a slot in use
+-- ---- the refusals that come first let pass only a table that is well-formed, and a slot in use
 
 stopped : (b : Bool) (r : Refusal) (v : Verdict) → choose b (Stop r) v ≡ Pass → (b ≡ false) × (v ≡ Pass)
 unfolding choose
 stopped true r v e = let z : _≡_ {A = ℕ} 0 1 = cc in absurd (omega arith)
 stopped false r v e = (refl, e)
 
-pass-slot : (t : Table) (room signal link : Given) (s : ℕ) → verdict t room signal link (Is s) ≡ Pass → leb (t .n) s ≡ false
+pub pass-slot : (t : Table) (room signal link : Given) (s : ℕ) → verdict t room signal link (Is s) ≡ Pass → leb (t .n) s ≡ false
 unfolding verdict
 pass-slot t room signal link s e = stopped _ _ _ (stopped _ _ _ (stopped _ _ _ (stopped _ _ _ (stopped _ _ _ e .1) .1) .1) .1) .0
+
+pub pass-well : (t : Table) (room signal link slot : Given) → verdict t room signal link slot ≡ Pass → wellFormed t ≡ true
+unfolding verdict
+pass-well t room signal link slot e = not-false _ (stopped _ _ _ e .0)
 
 -- ---- the forms of an outcome
 

@@ -15,4 +15,5 @@ pub mod Public
 pub mod Forms
 pub mod Safe
 pub mod Apart
+pub mod Handed
 pub mod Example

@@ -1,7 +1,7 @@
--- Demand 3, proved: by induction on the calls, from `rel-parts` and `rel-memory` (Same), `contained-step` (Contained), and `safe` and
--- `down-clears` (crate definition).
+-- Demand 3, proved: by induction on the calls, from `rel-parts` and `rel-memory` (Same), `contained-step` (Contained), `memory-masked`
+-- (Masked), and `safe`, `down-clears` and `hands` (crate definition).
 use mathlib.Core.Path.{_≡_, refl, sym, _∙_, ap, ap₂, subst}
-use mathlib.Core.Bool.{Bool, true, false, _&&_, false≢true}
+use mathlib.Core.Bool.{Bool, true, false, _&&_, and-false, false≢true}
 use mathlib.Core.List.{List, [], _∷_, map}
 use Prim.Native.Nat.{ℕ, zero, suc, _*_, _≤_}
 use native.Mathlib.Omega.{arith}
@@ -16,16 +16,18 @@ use Rattle.channel.specs.declared.Table.{Table}
 use Rattle.definition.specs.Table.{fresh, gap, slotAt, live, width, roomSize}
 use Rattle.definition.specs.Outcome.{Outcome}
 use Rattle.definition.specs.Asking.{Made, blank, make}
-use Rattle.definition.specs.Calls.{Window, Call, frame, sends, down, plain, jobs, bare, carrier, decide, Holder, nobody, by, holder, isBy}
+use Rattle.definition.specs.Calls.{Window, Call, frame, sends, down, plain, jobs, bare, carrier, handedOut, decide, Holder, nobody, by, holder, isBy}
 use Rattle.definition.specs.Numbers.{answerNumber}
 use Rattle.definition.specs.Ending.{itself}
 use Rattle.definition.specs.Run.{State, lent, outWindow, jobWindow, outcome, roomLeft, memoryLeft, after, made, run, outcomes}
 use Rattle.definition.specs.Public.{framed-bare, framed-count, sent-bare, sent-count}
 use Rattle.definition.specs.Forms.{Fit}
 use Rattle.definition.specs.Safe.{Safe, Without, safe, down-clears}
-use Rattle.isolation.specs.Statement.{isDown, overAfter, Exchanged, sent, framed, Alike, same, exchanged, AlikeRuns, Marks, carries, unmarked, marked, marksFrom, marksOf, Isolated, Demand3}
+use Rattle.definition.specs.Handed.{hands}
+use Rattle.isolation.specs.Statement.{isDown, overAfter, Exchanged, sent, framed, Alike, same, exchanged, AlikeRuns, Marks, carries, unmarked, mask, marked, marksFrom, marksOf, Isolated, Demand3}
 use Rattle.isolation.specs.Same.{Rel, nil, cons, rel-take, rel-drop, rel-map, rel-lent, rel-length, rel-parts, rel-memory}
 use Rattle.isolation.specs.Contained.{Off, Clean, clean-dark, length-parts, Contained, contained-step, contained-without, contained-dead, contained-clean, contained-slot}
+use Rattle.isolation.specs.Masked.{clean-stretch, memory-masked}
 
 -- Two octets and a mark: equal unless marked.
 abbrev Agree : ℕ → ℕ → Bool → Type 0
@@ -149,6 +151,15 @@ module _ (k j : ℕ) where
     jobs-agree : Rel Agree (jobs t c) (jobs t d) (map (λ _. carries k j (m .over) t c) (jobs t c))
     jobs-agree = agree-jobs (jobs t c) (jobs t d) (carries k j (m .over) t c) (alike-common e .count) (alike-jobs e)
 
+    -- what the call hands out is marked only where it is that link's
+    handed-out : memoryLeft unmarked (map (λ _. carries k j (m .over) t c) (jobs t c)) o (outWindow c) (jobWindow c) (m .room) (m .memory)
+        ≡ memoryLeft unmarked (mask (isBy k (handedOut t c)) (map (λ _. carries k j (m .over) t c) (jobs t c))) o (outWindow c) (jobWindow c) (mask (isBy k (handedOut t c)) (m .room)) (m .memory)
+    handed-out =
+        memory-masked t (carrier t c) (handedOut t c) (isBy k (handedOut t c)) _ (m .room) (m .memory) o (outWindow c) (jobWindow c) (hands t (h .fit) c _ _ _ _)
+        (λ f e. clean-jobs (jobs t c) _ (ap (λ (x : Bool). eqb (m .over) j && x) (ap (isBy k) e ∙ f) ∙ and-false (eqb (m .over) j)))
+        (λ f from n p. clean-stretch k (width t) _ (live t) (m .room) (p .slot) from n (h .contained)
+        (rw (getD-take (t .n) (t .slots) (p .slot) gap (p .within)) (ap (isBy k) (p .whose) ∙ f)) (p .low) (p .high))
+
     kept : Kept (o .table) (after (state t ra ma) c .room) (next-b .room) (after (state t ra ma) c .memory) (next-b .memory) (marked k j (state t ra ma) m c)
     unfolding after next-b marked overAfter
     kept =
@@ -160,7 +171,8 @@ module _ (k j : ℕ) where
         contained-step k (width t) (eqb (m .over) j) (carrier t c) js (λ f. clean-jobs (jobs t c) b f) (s .parts) (m .room) (h .contained) in
         record {
           room = rel-parts Agree itself itself unmarked (λ x _. refl) jobs-agree (width t) (h .room) (o .parts);
-          memory = rel-memory Agree itself itself unmarked (λ x _. refl) jobs-agree o (outWindow c) (jobWindow c) (h .room) (h .memory);
+          memory = subst (λ (l : List Bool). Rel Agree (after (state t ra ma) c .memory) (next-b .memory) l) handed-out
+              (rel-memory Agree itself itself unmarked (λ x _. refl) jobs-agree o (outWindow c) (jobWindow c) (h .room) (h .memory));
           contained = rw (s .width)
               (if-cases (λ (n : ℕ). Contained k (width t) (eqb n j) (live (o .table)) ms) _
               (λ f. contained-clean k (width t) _ (live (o .table)) ms

@@ -1,5 +1,6 @@
 pub mod Statement
 pub mod Same
 pub mod Contained
+pub mod Masked
 pub mod Isolation
 pub mod Example

@@ -13,7 +13,7 @@ use Rattle.lists.specs.Choose.{choose}
 use Rattle.channel.specs.declared.Table.{Table}
 use Rattle.definition.specs.Table.{slotAt, width, roomSize}
 use Rattle.definition.specs.Asking.{make}
-use Rattle.definition.specs.Calls.{Window, Call, frame, sends, down, plain, jobs, carrier, by, holder, isBy}
+use Rattle.definition.specs.Calls.{Window, Call, frame, sends, down, plain, jobs, carrier, handedOut, by, holder, isBy}
 use Rattle.definition.specs.Numbers.{answerNumber}
 use Rattle.definition.specs.Run.{State, outWindow, jobWindow, outcome, roomLeft, memoryLeft, after, made, run, outcomes}
 use Rattle.definition.specs.Public.{Assembling}
@@ -54,7 +54,8 @@ AlikeRuns k j over s (c ∷ cs) (d ∷ ds) = Alike k j over (s .table) c d × Al
 
 -- ---- 3. Where that life's octets stand: a mark for each octet of room and memory. It is the definition itself, run on marks in place of
 -- octets. A job octet of that life comes in marked, every other octet (headers, signals, zeros, other links' jobs) unmarked; a mark goes
--- where its octet is copied, and is gone where another octet is written over it.
+-- where its octet is copied, and is gone where another octet is written over it. Only a take from, or a send on, a slot that is link k's
+-- hands marks out to memory: what any other call writes there counts as unmarked, and so has to be equal.
 
 pub record Marks : Type 0 where
   pub over : ℕ
@@ -68,13 +69,17 @@ carries k j over t c = eqb over j && isBy k (carrier t c)
 abbrev pub unmarked : ℕ → Bool
 unmarked x = false
 
+abbrev pub mask : Bool → List Bool → List Bool
+mask own ms = map (λ b. own && b) ms
+
 unfoldable pub marked : ℕ → ℕ → State → Marks → Call → Marks
 marked k j s m c =
     let js = map (λ _. carries k j (m .over) (s .table) c) (jobs (s .table) c) in
+    let own = isBy k (handedOut (s .table) c) in
     record {
       over = overAfter k (m .over) s c;
       room = roomLeft unmarked js (s .table) (outcome s c) (m .room);
-      memory = memoryLeft unmarked js (outcome s c) (outWindow c) (jobWindow c) (m .room) (m .memory);
+      memory = memoryLeft unmarked (mask own js) (outcome s c) (outWindow c) (jobWindow c) (mask own (m .room)) (m .memory);
     }
 
 unfoldable pub marksFrom : ℕ → ℕ → State → Marks → List Call → Marks

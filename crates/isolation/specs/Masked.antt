@@ -1,0 +1,85 @@
+-- Only a take from, or a send on, a slot of the link hands its marks out: what any other call writes to memory is the same, whether the
+-- marks are masked or not. From what each call hands out (Handed.antt of crate definition) and where marks stand (Contained.antt).
+use mathlib.Core.Path.{_≡_, refl, sym, _∙_, ap, ap₂, subst}
+use mathlib.Core.Bool.{Bool, true, false, _&&_}
+use mathlib.Core.List.{List, [], _∷_, _++_}
+use Prim.Native.Nat.{ℕ, zero, suc, _+_, _-_, _*_, _≤_}
+use native.Mathlib.Omega.{arith}
+use lib.ListN.{take, drop, getD}
+use lib.Seq.{sets, drop-drop, take-take}
+use Rattle.channel.specs.declared.Slot.{Slot}
+use Rattle.channel.specs.declared.Table.{Table}
+use Rattle.definition.specs.Mem.{Fill, fill, fills, written}
+use Rattle.definition.specs.Table.{gap}
+use Rattle.definition.specs.Outcome.{Outcome}
+use Rattle.definition.specs.Calls.{Window, Holder, holder, isBy}
+use Rattle.definition.specs.Run.{lent, memoryLeft}
+use Rattle.definition.specs.Handed.{OwnPart, OwnFill, zeroed, worked, carried, stored, OwnFills, none, more, Hands}
+use Rattle.isolation.specs.Statement.{unmarked, mask}
+use Rattle.isolation.specs.Same.{nil, cons, rel-take, rel-drop}
+use Rattle.isolation.specs.Contained.{Off, Clean, Contained, contained-slot}
+
+-- ---- a stretch within a part
+
+stretch : (w r n : ℕ) (l : List Bool) → r + n ≤ w → take n (drop r (take w l)) ≡ take n (drop r l)
+stretch zero r n l h = let e : n ≡ 0 = omega arith in rw e refl
+stretch (suc w) zero n l h = take-take n (suc w) l (omega arith)
+stretch (suc w) (suc r) n [] h = refl
+stretch (suc w) (suc r) n (x ∷ l) h = stretch w r n l (omega arith)
+
+pub clean-stretch : (k w : ℕ) (lasts : Bool) (xs : List Slot) (ms : List Bool) (s from n : ℕ) → Contained k w lasts xs ms → isBy k (holder (getD xs s gap)) ≡ false
+    → s * w ≤ from → from + n ≤ s * w + w → Clean (take n (drop from ms))
+clean-stretch k w lasts xs ms s from n c e low high =
+    let r : ℕ = from - s * w in
+    let q : s * w + r ≡ from = omega arith in
+    subst (λ (l : List Bool). Clean (take n l)) (drop-drop r (s * w) ms ∙ ap (λ (i : ℕ). drop i ms) q)
+    (subst Clean (stretch w r n (drop (s * w) ms) (omega arith)) (rel-take Off n (rel-drop Off r (contained-slot k w lasts xs ms s c e))))
+
+-- ---- marks that no call hands out: masked or not, what is written is the same
+
+pub clean-masked : {ms : List Bool} → Clean ms → ms ≡ mask false ms
+clean-masked nil = refl
+clean-masked (cons e r) = ap₂ (λ (b : Bool) (l : List Bool). b ∷ l) e (clean-masked r)
+
+all-masked : (ms : List Bool) → ms ≡ mask true ms
+all-masked [] = refl
+all-masked (m ∷ ms) = ap (λ (l : List Bool). m ∷ l) (all-masked ms)
+
+take-mask : (own : Bool) (n : ℕ) (ms : List Bool) → take n (mask own ms) ≡ mask own (take n ms)
+take-mask own zero ms = refl
+take-mask own (suc n) [] = refl
+take-mask own (suc n) (m ∷ ms) = ap (λ (l : List Bool). (own && m) ∷ l) (take-mask own n ms)
+
+drop-mask : (own : Bool) (n : ℕ) (ms : List Bool) → drop n (mask own ms) ≡ mask own (drop n ms)
+drop-mask own zero ms = refl
+drop-mask own (suc n) [] = refl
+drop-mask own (suc n) (m ∷ ms) = drop-mask own n ms
+
+-- k's octets are in nothing that is h's: neither in the call's job octets, where they are h's, nor in h's parts of the room
+module _ (t : Table) (c h : Holder) (js room : List Bool) (carried-clean : c ≡ h → Clean js) (stored-clean : (from n : ℕ) → OwnPart t h from n → Clean (take n (drop from room))) where
+  fill-masked : {f : Fill} → OwnFill t c h f → fill unmarked js room f ≡ fill unmarked (mask false js) (mask false room) f
+  unfolding fill
+  fill-masked zeroed = refl
+  fill-masked worked = refl
+  fill-masked (carried {from = from} {n = n} e) = ap (λ (l : List Bool). take n (drop from l)) (clean-masked (carried-clean e))
+  fill-masked (stored {from = from} {n = n} p) =
+      clean-masked (stored-clean from n p) ∙ sym (ap (take n) (drop-mask false from room) ∙ take-mask false n (drop from room))
+
+  fills-masked : {fs : List Fill} → OwnFills t c h fs → fills unmarked js room fs ≡ fills unmarked (mask false js) (mask false room) fs
+  unfolding fills
+  fills-masked none = refl
+  fills-masked (more p ps) = ap₂ (λ (a b : List Bool). a ++ b) (fill-masked p) (fills-masked ps)
+
+-- what is written to memory, by the two lists that are written
+abbrev written-two : (v w : Window) (memory a b : List Bool) → List Bool
+written-two v w memory a b =
+    let m = sets memory (w .from) (sets (lent w memory) 0 b) in
+    sets m (v .from) (sets (lent v m) 0 a)
+
+pub memory-masked : (t : Table) (c h : Holder) (own : Bool) (js room memory : List Bool) (o : Outcome) (v w : Window) → Hands t c h o
+    → (own ≡ false → c ≡ h → Clean js) → (own ≡ false → (from n : ℕ) → OwnPart t h from n → Clean (take n (drop from room)))
+    → memoryLeft unmarked js o v w room memory ≡ memoryLeft unmarked (mask own js) o v w (mask own room) memory
+unfolding written
+memory-masked t c h true js room memory o v w p cj cr = ap₂ (λ (a b : List Bool). memoryLeft unmarked a o v w b memory) (all-masked js) (all-masked room)
+memory-masked t c h false js room memory o v w p cj cr =
+    ap₂ (written-two v w memory) (fills-masked t c h js room (cj refl) (cr refl) (p .out)) (fills-masked t c h js room (cj refl) (cr refl) (p .tray))

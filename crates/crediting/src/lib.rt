@@ -2,7 +2,7 @@
 // to be as long as the table says; it is `pub` for the signal call alone. Its contract is the equation with the definition's handler.
 ghost use mathlib.Core.Path.{_≡_};
 ghost use mathlib.Core.List.{[]};
-ghost use Prim.Native.Nat.{_≤_};
+ghost use Prim.Native.Nat.{_+_, _≤_};
 ghost use lib.ListN.{length};
 ghost use Rattle.channel.specs.Limits.{signalMost};
 ghost use Rattle.definition.specs.Ending.{end, endOf};
@@ -15,6 +15,13 @@ use channel::Table;
 use codes::Refusal;
 use signal::bodies::LeCreditFlowIndRead;
 use slot::Want;
+
+// What the peer holds and what it is given.
+fn total(held: u16, more: u16) -> u32
+    ensures { λ r. ⌜ r ≡ held + more ⌝ }
+{
+    held as u32 + more as u32
+}
 
 // Code 0x16: more credits for the first Connected slot of this link with that peer CID; a sum above 65,535 ends the channel.
 pub fn on_credits(
@@ -37,7 +44,7 @@ pub fn on_credits(
                 return slots::refused(t, Refusal::NotFound);
             }
             let x = slots::slot_at(t, s);
-            let sum = x.peer.credits as u32 + ind.credits as u32;
+            let sum = total(x.peer.credits, ind.credits);
             if 65535 < sum {
                 return forms::leave(
                     t,

@@ -56,7 +56,12 @@ pub fn on_reject(t: Table, out: &mut [u8], id: u8, read: CommandRejectResRead) -
 }
 
 // Code 0x13: read, and nothing more.
-pub fn on_parameter_response(t: Table, out: &mut [u8], id: u8, read: ConnParamUpdateResRead) -> Served
+pub fn on_parameter_response(
+    t: Table,
+    out: &mut [u8],
+    id: u8,
+    read: ConnParamUpdateResRead,
+) -> Served
     requires { ⌜ signalMost ≤ length (now out) ⌝ }
     ensures { λ r. ⌜ ((t₀ : TableOf) (room job : List ℕ) → end r room (now (out .exit)) job ≡ endOf t₀ [] room (now (out .entry)) job (onParameterResponse t id read)) ⌝ }
 {

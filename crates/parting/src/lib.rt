@@ -1,4 +1,4 @@
-// The peer's disconnect requests and responses: codes 0x06 and 0x07 (`handle_disconnection_request`, `handle_disconnection_response` in
+// The peer's disconnect requests and responses: codes 0x06 and 0x07 (`handle_disconnect_request`, `handle_disconnect_response` in
 // the original). They stand behind the gate, which has found room and signal buffer to be as long as the table says; each is `pub` for the
 // signal call alone. Each contract is the equation with the definition's handler.
 ghost use mathlib.Core.Path.{_≡_};

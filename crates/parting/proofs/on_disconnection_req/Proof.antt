@@ -12,76 +12,50 @@ use Rattle.slots.specs.Named.{named}
 use borrow.Author.Needs.{needs}
 use Rattle.parting.proofs.on_disconnection_req.Statement.{statement}
 use Rattle.parting.proofs.on_disconnection_req.Tie as tie
-use Rattle.parting.proofs.on_disconnection_req.Reads as reads
-use Rattle.parting.proofs.on_disconnection_req.Lts as lts
-use Rattle.forms.proofs.leave.Reads as leave-reads
-use Rattle.rejects.proofs.bad_body.Reads as bad-body-reads
-use Rattle.rejects.proofs.reject.Reads as reject-reads
-use Rattle.slot.proofs.of_link.Reads as of-link-reads
-use Rattle.slots.proofs.is_cid.Reads as is-cid-reads
-use Rattle.slots.proofs.number.Reads as number-reads
-use Rattle.slots.proofs.slot_at.Reads as slot-at-reads
-use Rattle.slots.proofs.slot_of.Reads as slot-of-reads
 
--- src/lib.rt:33:62
 enum-told : tie.Need-enum-told
 enum-told c = search needs
 
--- src/lib.rt:33:41
 bad-body-requires : tie.Need-bad-body-requires
 bad-body-requires c κs = search needs
 
--- src/lib.rt:34:34
 enum-known-read : tie.Need-enum-known-read
 enum-known-read c = search needs
 
--- src/lib.rt:36:17
 is-cid-requires : tie.Need-is-cid-requires
 is-cid-requires c κs = search needs
 
--- src/lib.rt:37:17
 reject-requires : tie.Need-reject-requires
 reject-requires c κs = search needs
 
--- src/lib.rt:37:17
 same-length : tie.Need-same-length
 same-length c = search needs
 
--- src/lib.rt:37:17
 returns : tie.Need-returns
 unfolding choose sizes onDisconnectionReq
 returns c =
     rw (c .before .before .before .before .before .before .before .read .given .1, ← c .before .before .before .before .before .is-cid .ensures, c .before .before .before .before .if1 .taken) (c .before .before .reject .ensures _ _ [])
 
-
--- src/lib.rt:39:35
 slot-of-requires : tie.Need-slot-of-requires
 slot-of-requires c κs =
     let h = named (c .before .before .before .before .before .before .before .args .t) (c .before .before .before .read .given .0 .0 .dcid) (sym (c .before .is-cid .ensures) ∙ not-false _ (c .if1 .left)) in
     omega (arith, h, c .before .before .before .before .before .before .before .pre .0 .sizes .n-most)
 
-
--- src/lib.rt:39:17
 number-requires : tie.Need-number-requires
 number-requires c κs = search needs
 
--- src/lib.rt:40:17
 slot-at-requires : tie.Need-slot-at-requires
 slot-at-requires c κs = search needs
 
--- src/lib.rt:41:17
 of-link-requires : tie.Need-of-link-requires
 of-link-requires c κs = search needs
 
--- src/lib.rt:42:17
 reject-requires-2 : tie.Need-reject-requires-2
 reject-requires-2 c κs = search needs
 
--- src/lib.rt:42:17
 same-length-2 : tie.Need-same-length-2
 same-length-2 c = search needs
 
--- src/lib.rt:42:17
 returns-2 : tie.Need-returns-2
 unfolding choose sizes onDisconnectionReq
 returns-2 c =
@@ -95,30 +69,22 @@ returns-2 c =
       c .before .before .before .before .if2 .taken,
     ) (c .before .before .reject2 .ensures _ _ [])
 
-
--- src/lib.rt:44:13
 leave-requires : tie.Need-leave-requires
 leave-requires c κs =
     let h = named (c .before .before .before .before .before .before .before .before .before .before .before .before .before .args .t) (c .before .before .before .before .before .before .before .before .before .read .given .0 .0 .dcid) (sym (c .before .before .before .before .before .before .before .is-cid .ensures) ∙ not-false _ (c .before .before .before .before .before .before .if1 .left)) in
     (c .before .before .before .before .before .before .before .before .before .before .before .before .before .pre .0, rw (c .before .before .before .before .number .ensures ∙ ap (λ (i : ChannelIndex). i .0) (c .before .before .before .before .before .slot-of .ensures)) h)
 
-
--- src/lib.rt:21:1
 same-length-3 : tie.Need-same-length-3
 same-length-3 c = search needs
 
--- src/lib.rt:21:1
 returns-3 : tie.Need-returns-3
 unfolding choose sizes onDisconnectionReq
 returns-3 c =
     rw (c .before .before .before .before .enum-told .given .1) (c .before .before .bad-body .ensures _ _ [])
 
-
--- src/lib.rt:21:1
 same-length-4 : tie.Need-same-length-4
 same-length-4 c = search needs
 
--- src/lib.rt:21:1
 returns-4 : tie.Need-returns-4
 unfolding choose sizes onDisconnectionReq
 returns-4 c =

@@ -12,68 +12,44 @@ use Rattle.slots.specs.Named.{named}
 use borrow.Author.Needs.{needs}
 use Rattle.parting.proofs.on_disconnection_res.Statement.{statement}
 use Rattle.parting.proofs.on_disconnection_res.Tie as tie
-use Rattle.parting.proofs.on_disconnection_res.Reads as reads
-use Rattle.parting.proofs.on_disconnection_res.Lts as lts
-use Rattle.forms.proofs.free.Reads as free-reads
-use Rattle.rejects.proofs.bad_body.Reads as bad-body-reads
-use Rattle.slots.proofs.done.Reads as done-reads
-use Rattle.slots.proofs.is_cid.Reads as is-cid-reads
-use Rattle.slots.proofs.number.Reads as number-reads
-use Rattle.slots.proofs.slot_at.Reads as slot-at-reads
-use Rattle.slots.proofs.slot_of.Reads as slot-of-reads
-use Rattle.state.proofs.is_disconnecting.Reads as is-disconnecting-reads
 
--- src/lib.rt:69:62
 enum-told : tie.Need-enum-told
 enum-told c = search needs
 
--- src/lib.rt:69:41
 bad-body-requires : tie.Need-bad-body-requires
 bad-body-requires c κs = search needs
 
--- src/lib.rt:70:34
 enum-known-read : tie.Need-enum-known-read
 enum-known-read c = search needs
 
--- src/lib.rt:72:17
 is-cid-requires : tie.Need-is-cid-requires
 is-cid-requires c κs = search needs
 
--- src/lib.rt:73:17
 done-requires : tie.Need-done-requires
 done-requires c κs = search needs
 
--- src/lib.rt:73:17
 returns : tie.Need-returns
 unfolding choose sizes onDisconnectionRes
 returns c =
     rw (c .before .before .before .before .read .given .1, ← c .before .before .is-cid .ensures, c .before .if1 .taken, c .done .ensures) (sym (end-still _ _ _ _ _ _ _))
 
-
--- src/lib.rt:75:35
 slot-of-requires : tie.Need-slot-of-requires
 slot-of-requires c κs =
     let h = named (c .before .before .before .before .before .before .before .args .t) (c .before .before .before .read .given .0 .0 .scid) (sym (c .before .is-cid .ensures) ∙ not-false _ (c .if1 .left)) in
     omega (arith, h, c .before .before .before .before .before .before .before .pre .0 .sizes .n-most)
 
-
--- src/lib.rt:75:17
 number-requires : tie.Need-number-requires
 number-requires c κs = search needs
 
--- src/lib.rt:76:17
 slot-at-requires : tie.Need-slot-at-requires
 slot-at-requires c κs = search needs
 
--- src/lib.rt:78:18
 is-disconnecting-requires : tie.Need-is-disconnecting-requires
 is-disconnecting-requires c κs = search needs
 
--- src/lib.rt:79:17
 done-requires-2 : tie.Need-done-requires-2
 done-requires-2 c κs = search needs
 
--- src/lib.rt:79:17
 returns-2 : tie.Need-returns-2
 unfolding choose sizes onDisconnectionRes
 returns-2 c =
@@ -88,30 +64,22 @@ returns-2 c =
       c .done2 .ensures,
     ) (sym (end-still _ _ _ _ _ _ _))
 
-
--- src/lib.rt:81:13
 free-requires : tie.Need-free-requires
 free-requires c κs =
     let h = named (c .before .before .before .before .before .before .before .before .before .before .before .before .before .before .args .t) (c .before .before .before .before .before .before .before .before .before .before .read .given .0 .0 .scid) (sym (c .before .before .before .before .before .before .before .before .is-cid .ensures) ∙ not-false _ (c .before .before .before .before .before .before .before .if1 .left)) in
     (c .before .before .before .before .before .before .before .before .before .before .before .before .before .before .pre .0, rw (c .before .before .before .before .before .number .ensures ∙ ap (λ (i : ChannelIndex). i .0) (c .before .before .before .before .before .before .slot-of .ensures)) h)
 
-
--- src/lib.rt:57:1
 same-length : tie.Need-same-length
 same-length c = search needs
 
--- src/lib.rt:57:1
 returns-3 : tie.Need-returns-3
 unfolding choose sizes onDisconnectionRes
 returns-3 c =
     rw (c .before .before .before .before .enum-told .given .1) (c .before .before .bad-body .ensures _ _ [])
 
-
--- src/lib.rt:57:1
 same-length-2 : tie.Need-same-length-2
 same-length-2 c = search needs
 
--- src/lib.rt:57:1
 returns-4 : tie.Need-returns-4
 unfolding choose sizes onDisconnectionRes
 returns-4 c =

@@ -14,18 +14,21 @@ use Rattle.lists.specs.Choose.{choose}
 use Rattle.lists.specs.Both.{and-left, and-right}
 use Rattle.lists.specs.Every.{every}
 use Rattle.octets.specs.Octets.{u16At}
+use Rattle.octets.specs.Sets.{sets-out}
 use Rattle.codes.specs.declared.Refusal.the-variants.{InvalidChannelId, NotFound, OutOfMemory}
 use Rattle.credit.specs.Account.{received}
 use Rattle.sar.specs.declared.Assembly.{Assembly}
 use Rattle.sar.specs.Joining.{isIdle, jobOctets, joinStep}
+use Rattle.channel.specs.declared.Served.{Served}
 use Rattle.channel.specs.declared.Slot.{Slot}
 use Rattle.channel.specs.declared.Table.{Table}
+use Rattle.definition.specs.Mem.{Fill, fills, written}
 use Rattle.definition.specs.Table.{if_then_else_, placeOf, gap, slotAt, live, isConnected, withAccount, isCid, slotOf, sizesFit, slotFits, wellFormed}
 use Rattle.definition.specs.Outcome.{Outcome, refuse, done}
 use Rattle.definition.specs.Frames.{joined, dispatch}
 use Rattle.definition.specs.Calls.{frame, joining, jobs, bare, decide}
-use Rattle.definition.specs.Run.{State, outcome}
-use Rattle.definition.specs.Ending.{endOf}
+use Rattle.definition.specs.Run.{State, outcome, after}
+use Rattle.definition.specs.Ending.{itself, End, end, endOf, roomAfter}
 
 -- ---- what the call comes to
 
@@ -40,6 +43,22 @@ frameIn t room link cid p = dispatch t room link cid (headOf t cid p) (length (j
 pub frame-in : (s : State) (link cid : ℕ) (p : List ℕ) → outcome s (frame link cid p) ≡ frameIn (s .table) (length (s .room)) link cid p
 unfolding decide bare headOf
 frame-in s link cid p = refl
+
+nothing-lent : (js room : List ℕ) (fs : List Fill) → written itself js room fs [] ≡ []
+unfolding written
+nothing-lent js room fs = sets-out [] 0 (fills itself js room fs) (omega arith)
+
+-- a call that ends as the contract says leaves what stands next in a run
+pub frame-after : (s : State) (link cid : ℕ) (p : List ℕ) (r : Served) (room : List ℕ)
+    → end r room [] [] ≡ endOf (s .table) (jobs (s .table) (frame link cid p)) (s .room) [] [] (frameIn (s .table) (length (s .room)) link cid p)
+    → after s (frame link cid p) ≡ record { table = r .table; room = room; memory = s .memory }
+unfolding after decide bare headOf endOf
+frame-after s link cid p r room h =
+    let o = frameIn (s .table) (length (s .room)) link cid p in
+    let js = jobs (s .table) (frame link cid p) in
+    let e : r .table ≡ o .table = ap (λ (x : End). x .served .table) h in
+    let f : room ≡ roomAfter (s .table) js (s .room) o = ap (λ (x : End). x .room) h in
+    rw (e, f, nothing-lent js (s .room) (o .job), nothing-lent js (s .room) (o .out))
 
 -- behind the first refusals
 unfoldable pub admitted : Table → (link cid : ℕ) → List ℕ → ℕ → Outcome

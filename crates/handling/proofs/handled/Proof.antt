@@ -1,12 +1,12 @@
--- `signals::handled` meets its contract: each code goes to the handler that the definition names.
+-- `handling::handled` meets its contract: each code goes to the handler that the definition names.
 use mathlib.Core.List.{[]}
 use borrow.Author.Tests.{ne-eqb}
 use Rattle.lists.specs.Choose.{choose}
 use Rattle.definition.specs.Mem.{sizes}
 use Rattle.definition.specs.Signals.{handled}
 use borrow.Author.Needs.{needs}
-use Rattle.signals.proofs.handled.Statement.{statement}
-use Rattle.signals.proofs.handled.Tie as tie
+use Rattle.handling.proofs.handled.Statement.{statement}
+use Rattle.handling.proofs.handled.Tie as tie
 
 read-command-reject-res-requires : tie.Need-read-command-reject-res-requires
 read-command-reject-res-requires c κs = search needs

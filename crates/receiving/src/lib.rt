@@ -11,6 +11,7 @@ ghost use Rattle.credit.specs.declared.Grant.the-variants.{Credits};
 ghost use Rattle.definition.specs.Frames.{grantIn, taken, receive};
 ghost use Rattle.room.specs.Placed.{RoomOf};
 ghost use Rattle.receiving.specs.Taken.{crediting, takenOn};
+use channel::CID_BASE;
 use channel::ChannelIndex;
 use channel::Given;
 use channel::Served;
@@ -82,7 +83,7 @@ fn hand_and_grant(
     let u = slots::spent(t);
     let id = slots::next_id(t);
     let a = x.account;
-    let y = slot::with_account(x, a.confirm_granted(n));
+    let y = slot::with_account(x, account::granted_through(a, n));
     let ind = credits_of(s, n);
     let octets = reply::reply(signal, id, Signal::LeCreditFlowInd(ind));
     handing::hand(u, room, s, y, job, octets)
@@ -106,7 +107,7 @@ fn credits_of(s: usize, n: u16) -> LeCreditFlowInd
     ensures { λ r. ⌜ r ≡ crediting s n ⌝ }
 {
     LeCreditFlowInd {
-        cid: 0x40 + s as u16,
+        cid: CID_BASE + s as u16,
         credits: n,
     }
 }

@@ -10,8 +10,8 @@ spent-requires c κs = search needs
 next-id-requires : tie.Need-next-id-requires
 next-id-requires c κs = search needs
 
-confirm-granted-requires : tie.Need-confirm-granted-requires
-confirm-granted-requires c κs = search needs
+granted-through-requires : tie.Need-granted-through-requires
+granted-through-requires c κs = search needs
 
 with-account-requires : tie.Need-with-account-requires
 with-account-requires c κs = search needs
@@ -43,7 +43,7 @@ returns c =
     let a = c .before .before .before .before .before .before .before .before .before .before .before .before .before .before .before .before .before .before .before .before .args in
     takes-granting (a .t) (a .s) (a .x) (a .signal .now)
     (r .before .before .before .before .before .before .before .spent .ensures)
-    (rw (r .before .before .before .before .confirm-granted .ensures) at (r .before .before .before .with-account .ensures))
+    (rw (r .before .before .before .before .granted-through .ensures) at (r .before .before .before .with-account .ensures))
     (r .before .before .before .before .before .before .next-id .ensures)
     (r .before .before .credits-of .ensures)
     (c .before .before .before .before .hand .ensures)
@@ -55,7 +55,7 @@ hand-and-grant-spec =
     (tie.spec
     spent-requires
     next-id-requires
-    confirm-granted-requires
+    granted-through-requires
     with-account-requires
     credits-of-requires
     reply-requires

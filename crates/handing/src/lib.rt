@@ -1,29 +1,24 @@
 // A finished job handed out of a slot: its octets are copied to the lent buffer, the later jobs move up one place, and the last place that
-// was occupied is zeroed; and the same with a grant. specs/Handed.antt says what that leaves, and that it is the end of the definition's
-// `handing`; specs/Granted.antt the same of `taken`.
+// was occupied is zeroed. specs/Handed.antt says what that leaves, and that it is the end of the definition's `handing`.
 ghost use mathlib.Core.Path.{_≡_};
 ghost use mathlib.Core.List.{[]};
 ghost use Prim.Native.Nat.{_+_, _-_, _*_, _≤_, _<_, min};
 ghost use lib.ListN.{length};
 ghost use lib.Seq.{sets};
 ghost use Rattle.octets.specs.Octets.{part};
-ghost use Rattle.credit.specs.declared.Grant.the-variants.{Credits};
-ghost use Rattle.channel.specs.Limits.{signalMost, packetMost, jobHead};
+ghost use Rattle.channel.specs.Limits.{packetMost, jobHead};
 ghost use Rattle.definition.specs.Mem.{moves, parts};
 ghost use Rattle.definition.specs.Outcome.{only};
-ghost use Rattle.definition.specs.Ending.{itself, end, endOf};
-ghost use Rattle.definition.specs.Frames.{shifted, taken};
+ghost use Rattle.definition.specs.Ending.{itself};
+ghost use Rattle.definition.specs.Frames.{shifted};
 ghost use Rattle.gate.specs.Sizes.{partWidth};
 ghost use Rattle.room.specs.Placed.{Placed, RoomOf};
 ghost use Rattle.handing.specs.Handed.{upwards, Handed};
-ghost use Rattle.handing.specs.Granted.{crediting};
 use channel::Answer;
 use channel::Queue;
 use channel::Served;
 use channel::Slot;
 use channel::Table;
-use signal::forms::LeCreditFlowInd;
-use signal::forms::Signal;
 
 // Slot s, as x, hands its oldest job out; `octets` is what was written of a signal.
 pub fn hand(t: Table, room: &mut [u8], s: usize, x: Slot, job: &mut [u8], octets: usize) -> Served
@@ -46,39 +41,6 @@ pub fn hand(t: Table, room: &mut [u8], s: usize, x: Slot, job: &mut [u8], octets
         },
         octets,
     )
-}
-
-// Slot s, as x, hands its oldest job out, and its peer is granted n credits: the signal uses an identifier, and the credits are booked.
-pub fn hand_and_grant(
-    t: Table,
-    room: &mut [u8],
-    signal: &mut [u8],
-    s: usize,
-    x: Slot,
-    job: &mut [u8],
-    n: u16,
-) -> Served
-    requires { ⌜ RoomOf t (length (now room)) × (s < t .n) × (signalMost ≤ length (now signal)) × (0 < x .queue .count) ⌝ }
-    ensures { λ r. ⌜ end r (now (room .exit)) (now (signal .exit)) (now (job .exit)) ≡ endOf t [] (now (room .entry)) (now (signal .entry)) (now (job .entry)) (taken t s x (length (now (job .entry))) (Credits n)) ⌝ }
-{
-    let u = slots::spent(t);
-    let id = slots::next_id(t);
-    let a = x.account;
-    let y = slot::with_account(x, a.confirm_granted(n));
-    let ind = credits_of(s, n);
-    let octets = reply::reply(signal, id, Signal::LeCreditFlowInd(ind));
-    hand(u, room, s, y, job, octets)
-}
-
-// The signal that grants n credits to slot s's peer.
-fn credits_of(s: usize, n: u16) -> LeCreditFlowInd
-    requires { ⌜ s < 256 ⌝ }
-    ensures { λ r. ⌜ r ≡ crediting s n ⌝ }
-{
-    LeCreditFlowInd {
-        cid: 0x40 + s as u16,
-        credits: n,
-    }
 }
 
 // How many octets of a job of `len` go to a buffer of `size`.

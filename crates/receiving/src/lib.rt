@@ -6,9 +6,10 @@ ghost use Prim.Native.Nat.{_≤_, _<_};
 ghost use lib.ListN.{length};
 ghost use Rattle.channel.specs.Limits.{signalMost};
 ghost use Rattle.definition.specs.Ending.{end, endOf};
-ghost use Rattle.definition.specs.Frames.{grantIn, receive};
+ghost use Rattle.credit.specs.declared.Grant.the-variants.{Credits};
+ghost use Rattle.definition.specs.Frames.{grantIn, taken, receive};
 ghost use Rattle.room.specs.Placed.{RoomOf};
-ghost use Rattle.receiving.specs.Taken.{takenOn};
+ghost use Rattle.receiving.specs.Taken.{crediting, takenOn};
 use channel::ChannelIndex;
 use channel::Given;
 use channel::Served;
@@ -17,6 +18,8 @@ use channel::Table;
 use channel::Verdict;
 use codes::Refusal;
 use credit::Grant;
+use signal::forms::LeCreditFlowInd;
+use signal::forms::Signal;
 
 // Takes the oldest job that waits in a slot.
 pub fn receive(
@@ -58,8 +61,30 @@ fn take(t: Table, room: &mut [u8], signal: &mut [u8], s: usize, job: &mut [u8]) 
     }
     match grant_in(x) {
         Grant::Nothing => handing::hand(t, room, s, x, job, 0),
-        Grant::Credits(n) => handing::hand_and_grant(t, room, signal, s, x, job, n),
+        Grant::Credits(n) => hand_and_grant(t, room, signal, s, x, job, n),
     }
+}
+
+// Slot s, as x, hands its oldest job out, and its peer is granted n credits: the signal uses an identifier, and the credits are booked.
+fn hand_and_grant(
+    t: Table,
+    room: &mut [u8],
+    signal: &mut [u8],
+    s: usize,
+    x: Slot,
+    job: &mut [u8],
+    n: u16,
+) -> Served
+    requires { ⌜ RoomOf t (length (now room)) × (s < t .n) × (signalMost ≤ length (now signal)) × (0 < x .queue .count) ⌝ }
+    ensures { λ r. ⌜ end r (now (room .exit)) (now (signal .exit)) (now (job .exit)) ≡ endOf t [] (now (room .entry)) (now (signal .entry)) (now (job .entry)) (taken t s x (length (now (job .entry))) (Credits n)) ⌝ }
+{
+    let u = slots::spent(t);
+    let id = slots::next_id(t);
+    let a = x.account;
+    let y = slot::with_account(x, a.confirm_granted(n));
+    let ind = credits_of(s, n);
+    let octets = reply::reply(signal, id, Signal::LeCreditFlowInd(ind));
+    handing::hand(u, room, s, y, job, octets)
 }
 
 // What is granted: only a channel that is Connected gets new credits.
@@ -72,4 +97,15 @@ fn grant_in(x: Slot) -> Grant
         return a.process();
     }
     Grant::Nothing
+}
+
+// The signal that grants n credits to slot s's peer.
+fn credits_of(s: usize, n: u16) -> LeCreditFlowInd
+    requires { ⌜ s < 256 ⌝ }
+    ensures { λ r. ⌜ r ≡ crediting s n ⌝ }
+{
+    LeCreditFlowInd {
+        cid: 0x40 + s as u16,
+        credits: n,
+    }
 }

@@ -4,7 +4,7 @@ use borrow.Author.Tests.{eq-eqb, ne-eqb}
 use Rattle.lists.specs.Choose.{choose}
 use Rattle.definition.specs.Mem.{sizes}
 use Rattle.definition.specs.Ending.{end-still}
-use Rattle.handing.specs.Granted.{takes}
+use Rattle.receiving.specs.Taken.{takes}
 use borrow.Author.Needs.{needs}
 use Rattle.receiving.proofs.take.Statement.{statement}
 use Rattle.receiving.proofs.take.Tie as tie

@@ -1,6 +1,5 @@
 // A finished job taken from a slot (`receive` in the original): it is copied to the lent buffer, the later jobs move up one place, and a
-// credit signal is written where a grant is due. The contract is the equation with the definition of that call; specs/Handed.antt brings
-// the octets that are copied and moved to it.
+// credit signal is written where a grant is due. The contract is the equation with the definition of that call; it rests on `handing`.
 ghost use mathlib.Core.Path.{_≡_};
 ghost use mathlib.Core.List.{[]};
 ghost use Prim.Native.Nat.{_≤_, _<_};

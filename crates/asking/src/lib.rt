@@ -8,6 +8,7 @@ ghost use Rattle.definition.specs.Asking.{registerSpsm, spsm, mtu, mps, peerMtu
 use channel::Answer;
 use channel::ChannelIndex;
 use channel::Given;
+use channel::SPSM_MOST;
 use channel::Served;
 use channel::Table;
 use channel::Verdict;
@@ -27,7 +28,7 @@ pub fn register_spsm(t: Table, n: u16) -> Served
     ) {
         Verdict::Stop(r) => slots::refused(t, r),
         Verdict::Pass => {
-            if !((1 <= n) & (n <= 255)) {
+            if !((1 <= n) & (n <= SPSM_MOST)) {
                 return slots::refused(t, Refusal::BadSpsm);
             }
             slots::still(spsms::registered(t, n), Answer::Done, 0)

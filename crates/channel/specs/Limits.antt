@@ -33,6 +33,10 @@ handleMost = 0x0EFF
 abbrev pub signalMost : ℕ
 signalMost = 18
 
+-- identifiers are 1..=255
+abbrev pub identifierMost : ℕ
+identifierMost = 255
+
 -- the SPSMs that can be registered are 1..=255
 abbrev pub spsmMost : ℕ
 spsmMost = 255

@@ -12,6 +12,34 @@ pub const SLOTS: usize = 16;
 // The most finished jobs that wait in a slot (L2CAP_RX_QUEUE_SIZE).
 pub const DEPTH: usize = 4;
 
+// A packet's octets are PACKET_LEAST to PACKET_MOST; a frame's header takes FRAME_HEAD of them, the header and the SDU length JOB_HEAD.
+pub const PACKET_LEAST: usize = 29;
+
+pub const PACKET_MOST: usize = 1024;
+
+pub const FRAME_HEAD: usize = 4;
+
+pub const JOB_HEAD: usize = 6;
+
+// A slot's CID is CID_BASE and its number.
+pub const CID_BASE: u16 = 0x40;
+
+// Link handles are 0 to HANDLE_MOST.
+pub const HANDLE_MOST: usize = 0x0EFF;
+
+// The longest signal that is written.
+pub const SIGNAL_MOST: usize = 18;
+
+// Identifiers are 1 to IDENTIFIER_MOST, the SPSMs that can be registered 1 to SPSM_MOST.
+pub const IDENTIFIER_MOST: u8 = 255;
+
+pub const SPSM_MOST: u16 = 255;
+
+// Holds and sums of credits end here.
+pub const HOLDS_MOST: u8 = 255;
+
+pub const CREDITS_MOST: u32 = 65535;
+
 // A slot's number. It becomes a CID by the 0x40 rule alone.
 pub struct ChannelIndex(pub u8);
 

@@ -13,7 +13,7 @@ use Rattle.credit.specs.declared.CreditFlowControl.{CreditFlowControl}
 use Rattle.credit.specs.declared.CreditFlowPolicy.the-variants.{Every}
 use Rattle.credit.specs.Account.{newAccount, creditSum}
 use Rattle.sar.specs.declared.Assembly.{Assembly}
-use Rattle.channel.specs.Limits.{slotsMost, depthMost, packetLeast, packetMost, jobHead, cidBase, spsmMost, creditsMost}
+use Rattle.channel.specs.Limits.{slotsMost, depthMost, packetLeast, packetMost, jobHead, cidBase, identifierMost, spsmMost, creditsMost}
 use Rattle.channel.specs.declared.ChannelIndex.{ChannelIndex}
 use Rattle.channel.specs.declared.ChannelState.{ChannelState}
 use Rattle.channel.specs.declared.ChannelState.the-variants.{Disconnected, Connecting, PeerConnecting, Connected, ConnectFailed, PeerDisconnecting, Disconnecting}
@@ -273,7 +273,7 @@ nextId t = choose (eqb (t .identifier) 0) 1 (t .identifier)
 
 -- The table once that identifier was used.
 abbrev pub spent : Table → Table
-spent t = record { slots = t .slots; n = t .n; d = t .d; m = t .m; identifier = choose (eqb (nextId t) 255) 1 (nextId t + 1); spsms = t .spsms }
+spent t = record { slots = t .slots; n = t .n; d = t .d; m = t .m; identifier = choose (eqb (nextId t) identifierMost) 1 (nextId t + 1); spsms = t .spsms }
 
 -- ---- registered SPSMs: bit s % 8 of octet s / 8
 

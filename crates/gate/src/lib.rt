@@ -9,7 +9,13 @@ ghost use Rattle.channel.specs.Limits.{depthMost, packetMost, jobHead};
 ghost use Rattle.definition.specs.Table.{placeOf, live, sizesFit, slotFits, wellFormed};
 ghost use Rattle.definition.specs.Outcome.{fails, verdict};
 ghost use Rattle.gate.specs.Sizes.{Sized, partWidth};
+use channel::DEPTH;
 use channel::Given;
+use channel::HANDLE_MOST;
+use channel::JOB_HEAD;
+use channel::PACKET_LEAST;
+use channel::PACKET_MOST;
+use channel::SIGNAL_MOST;
 use channel::SLOTS;
 use channel::Slot;
 use channel::Table;
@@ -22,14 +28,15 @@ use codes::Refusal;
 pub fn sizes_fit(n: usize, d: usize, m: usize) -> bool
     ensures { λ r. ⌜ r ≡ sizesFit n d m ⌝ }
 {
-    (1 <= n) & ((n <= 16) & ((1 <= d) & ((d <= 4) & ((29 <= m) & (m <= 1024)))))
+    (1 <= n)
+        & ((n <= SLOTS) & ((1 <= d) & ((d <= DEPTH) & ((PACKET_LEAST <= m) & (m <= PACKET_MOST)))))
 }
 
 // The octets of a place.
 pub fn place_size(m: usize) -> usize
     ensures { λ r. ⌜ r ≡ m - jobHead ⌝ }
 {
-    if m < 6 { 0 } else { m - 6 }
+    if m < JOB_HEAD { 0 } else { m - JOB_HEAD }
 }
 
 // The octets of a slot's part of the room: a place for assembly, then D for finished jobs.
@@ -116,8 +123,8 @@ pub fn gate(t: Table, room: Given, signal: Given, link: Given, slot: Given) -> V
     ensures { λ r. ⌜ r ≡ verdict t room signal link slot ⌝ }
 {
     let formed = well_formed(t);
-    let short = below(signal, 18);
-    let beyond = above(link, 0x0EFF);
+    let short = below(signal, SIGNAL_MOST);
+    let beyond = above(link, HANDLE_MOST);
     let no_slot = reaching(slot, t.n);
     if !formed {
         return Verdict::Stop(Refusal::BadTable);

@@ -5,7 +5,10 @@ ghost use Prim.Native.Nat.{_≤_, _<_};
 ghost use Rattle.channel.specs.Limits.{packetLeast, packetMost, depthMost};
 ghost use Rattle.definition.specs.Pending.{settled, mtuOf, mpsOf, creditsOf, acceptedAs};
 ghost use Rattle.settings.specs.Response.{accepting, attempting, requesting};
+use channel::CID_BASE;
 use channel::ChannelState;
+use channel::FRAME_HEAD;
+use channel::JOB_HEAD;
 use channel::L2capChannelConfig;
 use channel::Setting;
 use channel::Slot;
@@ -31,7 +34,7 @@ pub fn mtu_of(t: Table, c: L2capChannelConfig) -> u16
     ensures { λ r. ⌜ r ≡ mtuOf t c ⌝ }
 {
     let g = c.mtu;
-    settled((t.m - 6) as u16, g)
+    settled((t.m - JOB_HEAD) as u16, g)
 }
 
 pub fn mps_of(t: Table, c: L2capChannelConfig) -> u16
@@ -39,7 +42,7 @@ pub fn mps_of(t: Table, c: L2capChannelConfig) -> u16
     ensures { λ r. ⌜ r ≡ mpsOf t c ⌝ }
 {
     let g = c.mps;
-    settled((t.m - 4) as u16, g)
+    settled((t.m - FRAME_HEAD) as u16, g)
 }
 
 pub fn credits_of(t: Table, c: L2capChannelConfig) -> u16
@@ -77,7 +80,7 @@ pub fn response(s: usize, mtu: u16, mps: u16, credits: u16) -> LeCreditConnRes
     ensures { λ r. ⌜ r ≡ accepting s mtu mps credits ⌝ }
 {
     LeCreditConnRes {
-        dcid: 0x40 + s as u16,
+        dcid: CID_BASE + s as u16,
         mtu,
         mps,
         credits,
@@ -121,7 +124,7 @@ pub fn request(s: usize, spsm: u16, mtu: u16, mps: u16, credits: u16) -> LeCredi
 {
     LeCreditConnReq {
         spsm,
-        scid: 0x40 + s as u16,
+        scid: CID_BASE + s as u16,
         mtu,
         mps,
         credits,

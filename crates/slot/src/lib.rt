@@ -8,6 +8,7 @@ ghost use Prim.Native.Nat.{min};
 ghost use Rattle.definition.specs.Table.{fresh, freed, inState, withHold, withAccount, withPeer, withPeerCredits, withAssembly, withQueue, left};
 ghost use Rattle.definition.specs.Table.{isFree, ofLink, pendingOf, unheldPendingOf, attemptOf, attemptBy, connectedTo, usesPeer, dueSlot, calls, slotFits};
 ghost use Rattle.slot.specs.Want.{wanted, lensFit};
+use channel::CREDITS_MOST;
 use channel::ChannelState;
 use channel::DEPTH;
 use channel::Peer;
@@ -265,7 +266,7 @@ fn lens_fit(q: Queue, place: usize) -> bool
 fn sum_fits(a: CreditFlowControl) -> bool
     ensures { λ r. ⌜ r ≡ leb (creditSum a) creditsMost ⌝ }
 {
-    (a.credits as u32 + a.received as u32) <= 65535
+    (a.credits as u32 + a.received as u32) <= CREDITS_MOST
 }
 
 // Is no job, queue count or local MTU beyond its place, and no credit sum above 65,535?

@@ -4,14 +4,17 @@ ghost use mathlib.Core.Path.{_≡_};
 ghost use Prim.Native.Nat.{_+_, _<_};
 ghost use lib.Dec.{eqb};
 ghost use Rattle.lists.specs.Choose.{choose};
+ghost use Rattle.channel.specs.Limits.{identifierMost};
 ghost use Rattle.channel.specs.declared.Answer.the-variants.{Done};
 ghost use Rattle.definition.specs.Table.{slotAt, putSlot, found, freed, index, cidOf, isCid, slotOf, nextId, spent};
 ghost use Rattle.definition.specs.Outcome.{sweep, refuse, done};
-ghost use Rattle.slots.specs.Served.{served, servedOf};
+ghost use Rattle.definition.specs.Ending.{gave, servedOf};
 ghost use Rattle.slot.specs.Want.{wanted};
 use channel::Answer;
+use channel::CID_BASE;
 use channel::ChannelIndex;
 use channel::Cid;
+use channel::IDENTIFIER_MOST;
 use channel::SLOTS;
 use channel::Served;
 use channel::Slot;
@@ -91,9 +94,9 @@ pub fn next_id(t: Table) -> u8
 }
 
 fn id_after(id: u8) -> u8
-    ensures { λ r. ⌜ r ≡ choose (eqb id 255) 1 (id + 1) ⌝ }
+    ensures { λ r. ⌜ r ≡ choose (eqb id identifierMost) 1 (id + 1) ⌝ }
 {
-    if id == 255 { 1 } else { id + 1 }
+    if id == IDENTIFIER_MOST { 1 } else { id + 1 }
 }
 
 // The table once the next identifier was used.
@@ -124,18 +127,17 @@ pub fn index_at(s: usize) -> ChannelIndex
 pub fn cid_of(i: ChannelIndex) -> Cid
     ensures { λ r. ⌜ r .0 ≡ cidOf (i .0) ⌝ }
 {
-    Cid(0x40 + i.0 as u16)
+    Cid(CID_BASE + i.0 as u16)
 }
 
 // Does the CID name a slot?
 pub fn is_cid(t: Table, cid: Cid) -> bool
     ensures { λ r. ⌜ r ≡ isCid t (cid .0) ⌝ }
 {
-    let c = cid.0 as usize;
-    if c < 0x40 {
+    if cid.0 < CID_BASE {
         return false;
     }
-    c - 0x40 < t.n
+    ((cid.0 - CID_BASE) as usize) < t.n
 }
 
 // The slot that the CID names.
@@ -143,10 +145,10 @@ pub fn slot_of(cid: Cid) -> ChannelIndex
     requires { ⌜ slotOf (cid .0) < 256 ⌝ }
     ensures { λ r. ⌜ r ≡ index (slotOf (cid .0)) ⌝ }
 {
-    if cid.0 < 0x40 {
+    if cid.0 < CID_BASE {
         return ChannelIndex(0);
     }
-    ChannelIndex((cid.0 - 0x40) as u8)
+    ChannelIndex((cid.0 - CID_BASE) as u8)
 }
 
 // ---- what a call gives back
@@ -167,7 +169,7 @@ pub fn done(t: Table) -> Served
 
 // No slot changes; so many octets were written.
 pub fn still(t: Table, a: Answer, octets: usize) -> Served
-    ensures { λ x. ⌜ x ≡ served a t octets ⌝ }
+    ensures { λ x. ⌜ x ≡ gave a t octets ⌝ }
 {
     Served {
         answer: a,
@@ -178,7 +180,7 @@ pub fn still(t: Table, a: Answer, octets: usize) -> Served
 
 // Slot s becomes x; so many octets were written.
 pub fn changed(t: Table, s: usize, x: Slot, a: Answer, octets: usize) -> Served
-    ensures { λ r. ⌜ r ≡ served a (putSlot t s x) octets ⌝ }
+    ensures { λ r. ⌜ r ≡ gave a (putSlot t s x) octets ⌝ }
 {
     still(put_slot(t, s, x), a, octets)
 }

@@ -6,6 +6,7 @@ ghost use Prim.Native.Nat.{_+_, _/_, _%_, _^_, _≤_, _<_};
 ghost use lib.Dec.{eqb};
 ghost use Rattle.channel.specs.Limits.{spsmMost};
 ghost use Rattle.definition.specs.Table.{isRegistered, registered};
+use channel::SPSM_MOST;
 use channel::Table;
 
 fn two_to(k: u16) -> u8
@@ -57,7 +58,7 @@ pub fn is_registered(t: Table, spsm: u16) -> bool
     if spsm < 1 {
         return false;
     }
-    if 255 < spsm {
+    if SPSM_MOST < spsm {
         return false;
     }
     let i = (spsm / 8) as usize;

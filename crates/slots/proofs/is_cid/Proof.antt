@@ -4,14 +4,14 @@ use Rattle.lists.proofs.Rules.{tests}
 use Rattle.slots.proofs.is_cid.Statement.{statement}
 use Rattle.slots.proofs.is_cid.Tie as tie
 
-cast-c : tie.Need-cast-c
-cast-c c = search needs
-
 returns : tie.Need-returns
 returns c = search tests
+
+cast-result : tie.Need-cast-result
+cast-result c = search needs
 
 returns-2 : tie.Need-returns-2
 returns-2 c = search tests
 
 pub is-cid-spec : {M : Type 1} → statement M
-is-cid-spec = tie.close (tie.spec cast-c returns returns-2)
+is-cid-spec = tie.close (tie.spec returns cast-result returns-2)

@@ -1,4 +1,4 @@
--- `opening::create` meets its contract: behind the gate code and definition make the same tests in the same order.
+-- `creating::create` meets its contract: behind the gate code and definition make the same tests in the same order.
 use mathlib.Core.Path.{sym, _∙_}
 use mathlib.Core.List.{[]}
 use native.Mathlib.Omega.{arith}
@@ -10,8 +10,8 @@ use Rattle.lists.specs.Choose.{choose}
 use Rattle.definition.specs.Mem.{sizes}
 use Rattle.definition.specs.Opening.{create}
 use borrow.Author.Needs.{needs}
-use Rattle.opening.proofs.create.Statement.{statement}
-use Rattle.opening.proofs.create.Tie as tie
+use Rattle.creating.proofs.create.Statement.{statement}
+use Rattle.creating.proofs.create.Tie as tie
 
 gate-requires : tie.Need-gate-requires
 gate-requires c κs = search needs

@@ -1,11 +1,11 @@
--- `closing::inc_ref` meets its contract: behind the gate code and definition make the same tests in the same order.
+-- `holding::inc_ref` meets its contract: behind the gate code and definition make the same tests in the same order.
 use borrow.Author.Tests.{le-leb, lt-leb}
 use Rattle.lists.specs.Choose.{choose}
 use Rattle.definition.specs.Mem.{sizes}
 use Rattle.definition.specs.Closing.{incRef}
 use borrow.Author.Needs.{needs}
-use Rattle.closing.proofs.inc_ref.Statement.{statement}
-use Rattle.closing.proofs.inc_ref.Tie as tie
+use Rattle.holding.proofs.inc_ref.Statement.{statement}
+use Rattle.holding.proofs.inc_ref.Tie as tie
 
 number-requires : tie.Need-number-requires
 number-requires c κs = search needs

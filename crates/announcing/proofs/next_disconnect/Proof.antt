@@ -1,4 +1,4 @@
--- `closing::next_disconnect` meets its contract: behind the gate code and definition make the same tests in the same order.
+-- `announcing::next_disconnect` meets its contract: behind the gate code and definition make the same tests in the same order.
 use mathlib.Core.Path.{sym, _∙_}
 use mathlib.Core.List.{[]}
 use native.Mathlib.Omega.{arith}
@@ -10,8 +10,8 @@ use Rattle.lists.specs.Choose.{choose}
 use Rattle.definition.specs.Mem.{sizes}
 use Rattle.definition.specs.Closing.{nextDisconnect}
 use borrow.Author.Needs.{needs}
-use Rattle.closing.proofs.next_disconnect.Statement.{statement}
-use Rattle.closing.proofs.next_disconnect.Tie as tie
+use Rattle.announcing.proofs.next_disconnect.Statement.{statement}
+use Rattle.announcing.proofs.next_disconnect.Tie as tie
 
 gate-requires : tie.Need-gate-requires
 gate-requires c κs = search needs

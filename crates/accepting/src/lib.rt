@@ -39,17 +39,20 @@ pub fn accept_pending(
     ) {
         Verdict::Stop(r) => slots::refused(t, r),
         Verdict::Pass => {
-            let mps = settings::mps_of(t, c);
-            let mtu = settings::mtu_of(t, c);
-            if t.m - FRAME_HEAD < mps as usize {
-                return slots::refused(t, Refusal::InsufficientSpace);
-            }
-            if t.m - JOB_HEAD < mtu as usize {
-                return slots::refused(t, Refusal::InsufficientSpace);
-            }
             let x = slots::slot_at(t, s);
             let k = x.state;
-            if !state::is_peer_connecting(k) {
+            let asked = state::is_peer_connecting(k);
+            let mps = settings::mps_of(t, c);
+            let mtu = settings::mtu_of(t, c);
+            let long = settings::above(t.m - FRAME_HEAD, mps);
+            let wide = settings::above(t.m - JOB_HEAD, mtu);
+            if long {
+                return slots::refused(t, Refusal::InsufficientSpace);
+            }
+            if wide {
+                return slots::refused(t, Refusal::InsufficientSpace);
+            }
+            if !asked {
                 return slots::refused(t, Refusal::NotFound);
             }
             if x.hold == 0 {

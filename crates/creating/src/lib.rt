@@ -33,10 +33,12 @@ pub fn create(t: Table, signal: &mut [u8], link: u16, spsm: u16, c: L2capChannel
             let u = slots::spent(t);
             let mps = settings::mps_of(t, c);
             let mtu = settings::mtu_of(t, c);
-            if t.m - FRAME_HEAD < mps as usize {
+            let long = settings::above(t.m - FRAME_HEAD, mps);
+            let wide = settings::above(t.m - JOB_HEAD, mtu);
+            if long {
                 return slots::refused(u, Refusal::InsufficientSpace);
             }
-            if t.m - JOB_HEAD < mtu as usize {
+            if wide {
                 return slots::refused(u, Refusal::InsufficientSpace);
             }
             let s = slots::find(t, Want::Free);

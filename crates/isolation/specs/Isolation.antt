@@ -11,6 +11,7 @@ use lib.Seq.{getD-take}
 use borrow.Author.Tests.{eqb-true, eq-eqb, ne-eqb, leb-true, not-false}
 use Rattle.lists.specs.Choose.{if-cases}
 use Rattle.lists.specs.Both.{and-left, and-right}
+use Rattle.channel.specs.Limits.{slotsMost}
 use Rattle.channel.specs.declared.Slot.{Slot}
 use Rattle.channel.specs.declared.Table.{Table}
 use Rattle.definition.specs.Table.{fresh, gap, slotAt, live, width, roomSize}
@@ -210,7 +211,7 @@ record Start (n d m : ℕ) (before : List ℕ) (made : Made) : Type 0 where
   table : made .table ≡ blank n d m
   room : made .room ≡ map (λ _. 0) before
   size : length before ≡ roomSize (blank n d m)
-  fits : n ≤ 16
+  fits : n ≤ slotsMost
 
 start : (n d m : ℕ) (room : List ℕ) → answerNumber (make n d m room .answer) ≡ 0 → Start n d m room (make n d m room)
 unfolding make
@@ -223,7 +224,7 @@ start n d m room =
       table = refl;
       room = refl;
       size = eqb-true _ _ (not-false _ g);
-      fits = leb-true n 16 (and-left (leb n 16) _ (and-right (leb 1 n) _ (not-false _ f)));
+      fits = leb-true n slotsMost (and-left (leb n slotsMost) _ (and-right (leb 1 n) _ (not-false _ f)));
     }))
 
 zeroed : (xs ys : List ℕ) → length xs ≡ length ys → _≡_ {A = List ℕ} (map (λ _. 0) xs) (map (λ _. 0) ys)
@@ -249,7 +250,7 @@ at-end k j n d m room₁ room₂ memory h₁ h₂ cs ds =
       memory = agree-same memory;
       contained = contained-clean k (width t) _ (live t) _ (clean-dark zs);
       sized = length-map room₁ (λ _. 0) ∙ s₁ .size;
-      fit = record { fits = omega (arith, s₁ .fits, length-replicate {A = Slot} 16 (fresh 0)) };
+      fit = record { fits = omega (arith, s₁ .fits, length-replicate {A = Slot} slotsMost (fresh 0)) };
     }) e
 
 -- runs that are alike are alike as far as any call

@@ -51,7 +51,8 @@ use Rattle.definition.specs.Frames.{dispatch, send, receive, taken, grantIn}
 use Rattle.definition.specs.Asking.{registerSpsm, attention, query, sendSignal}
 use Rattle.definition.specs.Calls.{Call, frame, sends, down, plain, Request, register, signals, pends, rejectsAll, accepts, rejects, drops, creates, opens, gives, holds, releases, leaves, leavesCid, announces, takes, attends, asks, sendsSignal, writes, jobs, bare, joining, decide, serve}
 use Rattle.rules.specs.Run.{offers, SettingFits, Fits}
-use Rattle.rules.specs.Tests.{and-left, and-right, and-both, begun, begun-live, connected-begun, due-begun, attempt-live, attempt-unbegun, takes-begun}
+use Rattle.lists.specs.Both.{and-left, and-right}
+use Rattle.rules.specs.Tests.{and-both, begun, begun-live, connected-begun, due-begun, attempt-live, attempt-unbegun, takes-begun}
 use Rattle.rules.specs.Step.{same, grant, keep, leave, hand, hold, go, accept, free, allocate, kept, refused, told, rest, passes, Stepped}
 use Rattle.rules.specs.Forms.{goes-on, found-passes, stepped-still, stepped-spent, stepped-change, stepped-change-spent, stepped-sweep, stepped-gate}
 use Rattle.rules.specs.Sound.{Sound}

@@ -10,7 +10,7 @@ use lib.ListN.{length, getD, take, set, length-set, length-take, length-map, len
 use lib.Seq.{getD-take, take-set-lt}
 use borrow.Author.Tests.{leb-false}
 use Rattle.lists.specs.Choose.{choose, if-cases}
-use Rattle.lists.specs.First.{first}
+use Rattle.lists.specs.First.{first-passes}
 use Rattle.lists.specs.Each.{mapFirst}
 use Rattle.codes.specs.declared.Refusal.{Refusal}
 use Rattle.channel.specs.declared.Answer.{Answer}
@@ -34,17 +34,8 @@ pub live-at : (t : Table) (s : ℕ) → s < t .n → getD (live t) s gap ≡ slo
 live-at t s h = getD-take (t .n) (t .slots) s gap h
 
 -- the slot that a search found passes the test
-first-passes : (p : Slot → Bool) (xs : List Slot) → first p xs < length xs → p (getD xs (first p xs) gap) ≡ true
-unfolding first choose
-first-passes p [] h = absurd (not-suc-le-zero h)
-first-passes p (x ∷ xs) h = go (p x) refl (first-passes p xs)
-  where
-    go : (b : Bool) → p x ≡ b → (first p xs < length xs → p (getD xs (first p xs) gap) ≡ true) → p (getD (x ∷ xs) (choose (p x) 0 (suc (first p xs))) gap) ≡ true
-    go true e f = rw e e
-    go false e f = rw e (f (le-of-suc-le-suc (rw e at h)))
-
 pub found-passes : (p : Slot → Bool) (t : Table) → t .n ≤ length (t .slots) → found p t < t .n → p (slotAt t (found p t)) ≡ true
-found-passes p t l h = rw (← live-at t (found p t) h) (first-passes p (live t) (rw (live-length t l) h))
+found-passes p t l h = rw (← live-at t (found p t) h) (first-passes p gap (live t) (rw (live-length t l) h))
 
 module _ {t : Table} {k : ℕ} where
   pub steps-set : (xs : List Slot) (s : ℕ) (y : Slot) (ms : List Move) → s < length xs → Step t k (getD xs s gap) y ms → Steps t k xs (set xs s y) (only s ms)

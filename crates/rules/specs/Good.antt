@@ -11,7 +11,7 @@ use lib.Seq.{sets, length-sets}
 use borrow.Author.Tests.{leb-true, le-leb, eqb-true, eqb-false, not-false}
 use Rattle.lists.specs.Choose.{if-cases}
 use Rattle.lists.specs.Every.{every}
-use Rattle.channel.specs.Limits.{slotsMost, depthMost, packetLeast, packetMost, creditsMost}
+use Rattle.channel.specs.Limits.{slotsMost, depthMost, packetLeast, packetMost, creditsMost, identifierMost}
 use Rattle.channel.specs.declared.Answer.the-variants.{Done}
 use Rattle.channel.specs.declared.Slot.{Slot}
 use Rattle.channel.specs.declared.Table.{Table}
@@ -21,7 +21,8 @@ use Rattle.definition.specs.Outcome.{Outcome}
 use Rattle.definition.specs.Asking.{Made, make, blank}
 use Rattle.definition.specs.Calls.{Call, jobs, bare, decide}
 use Rattle.rules.specs.Run.{State, Asked, after, Fits, Reached, start, next}
-use Rattle.rules.specs.Tests.{and-left, and-right, and-both}
+use Rattle.lists.specs.Both.{and-left, and-right}
+use Rattle.rules.specs.Tests.{and-both}
 use Rattle.rules.specs.Step.{Numbered, kept, refused, told, Stepped}
 use Rattle.rules.specs.Forms.{live-at, live-length}
 use Rattle.rules.specs.Sound.{Sound, AllSound}
@@ -31,7 +32,7 @@ use Rattle.rules.specs.Keep.{sound-fresh, steps-sound}
 pub record Good (t : Table) (room : List ℕ) : Type 0 where
   pub sizes : sizesFit (t .n) (t .d) (t .m) ≡ true
   pub long : length (t .slots) ≡ slotsMost
-  pub identifier : (1 ≤ t .identifier) × (t .identifier ≤ 255)
+  pub identifier : (1 ≤ t .identifier) × (t .identifier ≤ identifierMost)
   pub slots : AllSound (t .d) (placeOf t) (live t)
   pub size : length room ≡ roomSize t
 
@@ -98,13 +99,13 @@ good-formed {t} g = and-both (sizesFit (t .n) (t .d) (t .m)) _ (g .sizes) (all-f
 
 -- ---- identifiers
 
-pub next-id : (t : Table) → 1 ≤ t .identifier → t .identifier ≤ 255 → (1 ≤ nextId t) × (nextId t ≤ 255)
-next-id t l h = if-cases (λ (n : ℕ). (1 ≤ n) × (n ≤ 255)) (eqb (t .identifier) 0) (λ _. omega arith) (λ _. (l, h))
+pub next-id : (t : Table) → 1 ≤ t .identifier → t .identifier ≤ identifierMost → (1 ≤ nextId t) × (nextId t ≤ identifierMost)
+next-id t l h = if-cases (λ (n : ℕ). (1 ≤ n) × (n ≤ identifierMost)) (eqb (t .identifier) 0) (λ _. omega arith) (λ _. (l, h))
 
-spent-id : (t : Table) → (1 ≤ nextId t) × (nextId t ≤ 255) → (1 ≤ spent t .identifier) × (spent t .identifier ≤ 255)
-spent-id t h = if-cases (λ (n : ℕ). (1 ≤ n) × (n ≤ 255)) (eqb (nextId t) 255) (λ _. omega arith) (λ e. let f = eqb-false (nextId t) 255 e in omega arith)
+spent-id : (t : Table) → (1 ≤ nextId t) × (nextId t ≤ identifierMost) → (1 ≤ spent t .identifier) × (spent t .identifier ≤ identifierMost)
+spent-id t h = if-cases (λ (n : ℕ). (1 ≤ n) × (n ≤ identifierMost)) (eqb (nextId t) identifierMost) (λ _. omega arith) (λ e. let f = eqb-false (nextId t) identifierMost e in omega arith)
 
-numbered : (t : Table) → (1 ≤ t .identifier) × (t .identifier ≤ 255) → {i : ℕ} {out : List Fill} → Numbered t i out → (1 ≤ i) × (i ≤ 255)
+numbered : (t : Table) → (1 ≤ t .identifier) × (t .identifier ≤ identifierMost) → {i : ℕ} {out : List Fill} → Numbered t i out → (1 ≤ i) × (i ≤ identifierMost)
 numbered t h kept = h
 numbered t h refused = spent-id t (next-id t (h .0) (h .1))
 numbered t h (told s) = spent-id t (next-id t (h .0) (h .1))

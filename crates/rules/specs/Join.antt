@@ -15,7 +15,7 @@ use Rattle.sar.specs.declared.Joined.the-variants as Joined
 use Rattle.sar.specs.Joining.{idle, assembled, reached, firstStep, joinStep}
 use Rattle.cutting.specs.declared.Plan.{Plan}
 use Rattle.cutting.specs.declared.Plan.the-variants as Plan
-use Rattle.cutting.specs.Cutting.{frameCount, planSend}
+use Rattle.cutting.specs.Cutting.{frameCount, leastMps, planSend}
 use Rattle.cutting.specs.CutLaws.{plan-allowed}
 use Rattle.channel.specs.declared.Answer.the-variants.{Done, Refused, Frames}
 use Rattle.channel.specs.declared.Slot.{Slot}
@@ -142,7 +142,7 @@ module _ (t : Table) (s : ℕ) (x : Slot) (k d q have want : ℕ) (j : Joined) (
 -- ---- what a send that is not refused comes to
 
 pub record Sent (t : Table) (s : ℕ) (x : Slot) (l n : ℕ) (o : Outcome) : Type 0 where
-  pub wide : 23 ≤ x .peer .mps
+  pub wide : leastMps ≤ x .peer .mps
   pub count : n ≡ frameCount l (x .peer .mps)
   pub out : o .out ≡ frames (x .peer .cid) (x .peer .mps) l n
 

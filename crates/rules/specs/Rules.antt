@@ -16,7 +16,7 @@ use Rattle.codes.specs.declared.LeCreditConnResultCode.the-variants.{Success}
 use Rattle.credit.specs.Account.{creditSum}
 use Rattle.writer.specs.Writer.{encodeOf}
 use Rattle.signal.specs.declared.forms.Signal.the-variants.{LeCreditConnReq, LeCreditConnRes}
-use Rattle.channel.specs.Limits.{creditsMost}
+use Rattle.channel.specs.Limits.{creditsMost, identifierMost}
 use Rattle.channel.specs.declared.Answer.the-variants.{At, Link}
 use Rattle.channel.specs.declared.ChannelIndex.{ChannelIndex}
 use Rattle.channel.specs.declared.ChannelState.{ChannelState}
@@ -31,7 +31,7 @@ use Rattle.definition.specs.Calls.{jobs}
 use Rattle.definition.specs.Pending.{acceptPending, mtuOf, mpsOf, creditsOf}
 use Rattle.definition.specs.Opening.{create}
 use Rattle.rules.specs.Run.{State, Asked, outcome, after, run, Fits, AllFit, Reached, next}
-use Rattle.rules.specs.Tests.{and-left, and-right}
+use Rattle.lists.specs.Both.{and-left, and-right}
 use Rattle.rules.specs.Step.{number, Step, hold, go, accept, free, allocate, Steps, Numbered}
 use Rattle.rules.specs.Step as Step
 use Rattle.rules.specs.Forms.{live-at, gate-cases}
@@ -56,7 +56,7 @@ credit-sum r i h = slot-sound (reached-good r) i h .sum
 
 -- ---- B. "Identifiers run 1 to 255, then 1."
 
-pub identifiers : {s : State} → Reached s → (1 ≤ nextId (s .table)) × (nextId (s .table) ≤ 255)
+pub identifiers : {s : State} → Reached s → (1 ≤ nextId (s .table)) × (nextId (s .table) ≤ identifierMost)
 identifiers {s} r = let g = reached-good r .identifier in next-id (s .table) (g .0) (g .1)
 
 -- Each call keeps the next identifier or uses it; if it uses it, it writes nothing or one signal that carries it.
@@ -65,8 +65,8 @@ unfolding after
 identifier-used r a f = good-steps (reached-good r) (a .call) f (a .out) (a .job) .identifier
 
 -- Once used, the next one follows; after 255 comes 1.
-pub identifier-follows : (t : Table) → (nextId t ≡ 255 → spent t .identifier ≡ 1) × ((nextId t ≡ 255 → ⊥) → spent t .identifier ≡ nextId t + 1)
-identifier-follows t = ((λ e. choose-true _ _ _ (eq-eqb (nextId t) 255 e)), (λ e. choose-false _ _ _ (ne-eqb (nextId t) 255 e)))
+pub identifier-follows : (t : Table) → (nextId t ≡ identifierMost → spent t .identifier ≡ 1) × ((nextId t ≡ identifierMost → ⊥) → spent t .identifier ≡ nextId t + 1)
+identifier-follows t = ((λ e. choose-true _ _ _ (eq-eqb (nextId t) identifierMost e)), (λ e. choose-false _ _ _ (ne-eqb (nextId t) identifierMost e)))
 
 -- ---- C. "Credits held plus received always equals the initial credits."
 

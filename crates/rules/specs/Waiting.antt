@@ -22,7 +22,7 @@ use Rattle.channel.specs.declared.Table.{Table}
 use Rattle.definition.specs.Mem.{Move, fill, move, moves}
 use Rattle.definition.specs.Table.{placeOf, width}
 use Rattle.definition.specs.Frames.{queued, finishing, shifted, movingUp}
-use Rattle.rules.specs.Tests.{and-left, and-right}
+use Rattle.lists.specs.Both.{and-left, and-right}
 use Rattle.rules.specs.Sound.{Holding}
 
 -- ---- the jobs that wait in a slot

@@ -2,6 +2,7 @@
 // accept. Each contract is the equation with the definition of that name.
 ghost use mathlib.Core.Path.{_≡_};
 ghost use Prim.Native.Nat.{_≤_, _<_};
+ghost use lib.Dec.{ltb};
 ghost use Rattle.channel.specs.Limits.{packetLeast, packetMost, depthMost};
 ghost use Rattle.definition.specs.Pending.{settled, mtuOf, mpsOf, creditsOf, acceptedAs};
 ghost use Rattle.settings.specs.Response.{accepting, attempting, requesting};
@@ -51,6 +52,13 @@ pub fn credits_of(t: Table, c: L2capChannelConfig) -> u16
 {
     let g = c.credits;
     settled(t.d as u16, g)
+}
+
+// Is one of them more than the packet leaves room for?
+pub fn above(most: usize, n: u16) -> bool
+    ensures { λ r. ⌜ r ≡ ltb most n ⌝ }
+{
+    most < n as usize
 }
 
 // The slot once it is accepted.

@@ -5,7 +5,7 @@ use native.Mathlib.Omega.{arith}
 use Rattle.definition.specs.Ending.{end-still}
 use Rattle.gate.specs.Passed.{passed}
 use Rattle.room.specs.Placed.{room-of}
-use borrow.Author.Tests.{eq-eqb, le-ltb, lt-ltb, ne-eqb}
+use borrow.Author.Tests.{eq-eqb, ne-eqb}
 use Rattle.lists.specs.Choose.{choose}
 use Rattle.definition.specs.Mem.{sizes}
 use Rattle.definition.specs.Pending.{acceptPending}
@@ -30,21 +30,21 @@ enum-told c = search needs
 
 mps-of-requires : tie.Need-mps-of-requires
 mps-of-requires c κs =
-    let p = passed _ _ _ _ _ (sym (c .before .before .gate .ensures) ∙ c .enum-told .given .1) in
+    let p = passed _ _ _ _ _ (sym (c .before .before .before .before .gate .ensures) ∙ c .before .before .enum-told .given .1) in
     (p .sizes .m-least, p .sizes .m-most)
 
 mtu-of-requires : tie.Need-mtu-of-requires
 mtu-of-requires c κs =
-    let p = passed _ _ _ _ _ (sym (c .before .before .before .gate .ensures) ∙ c .before .enum-told .given .1) in
+    let p = passed _ _ _ _ _ (sym (c .before .before .before .before .before .gate .ensures) ∙ c .before .before .before .enum-told .given .1) in
     (p .sizes .m-least, p .sizes .m-most)
 
-sub-if1 : tie.Need-sub-if1
-sub-if1 c =
-    let p = passed _ _ _ _ _ (sym (c .before .before .before .before .before .gate .ensures) ∙ c .before .before .before .enum-told .given .1) in
+sub-above : tie.Need-sub-above
+sub-above c =
+    let p = passed _ _ _ _ _ (sym (c .before .before .before .before .before .before .before .gate .ensures) ∙ c .before .before .before .before .before .enum-told .given .1) in
     omega (arith, p .sizes .m-least)
 
-cast-if1 : tie.Need-cast-if1
-cast-if1 c = search needs
+above-requires : tie.Need-above-requires
+above-requires c κs = search needs
 
 refused-requires-2 : tie.Need-refused-requires-2
 refused-requires-2 c κs = search needs
@@ -53,22 +53,24 @@ returns : tie.Need-returns
 unfolding choose sizes acceptPending
 returns c =
     rw (
-      ← c .before .before .before .before .before .before .before .before .number .ensures,
-      ← c .before .before .before .before .before .before .before .gate .ensures,
-      c .before .before .before .before .before .enum-told .given .1,
-      ← c .before .before .before .before .mps-of .ensures,
-      ← c .before .before .before .mtu-of .ensures,
-      lt-ltb _ _ (c .before .if1 .taken),
+      ← c .before .before .before .before .before .before .before .before .before .before .before .before .before .number .ensures,
+      ← c .before .before .before .before .before .before .before .before .before .before .before .before .gate .ensures,
+      c .before .before .before .before .before .before .before .before .before .before .enum-told .given .1,
+      ← c .before .before .before .before .before .before .before .mps-of .ensures,
+      ← c .before .before .before .before .before .before .mtu-of .ensures,
+      ← c .before .before .before .before .above .ensures,
+      ← c .before .before .above2 .ensures,
+      c .before .if1 .taken,
       c .refused2 .ensures,
     ) (sym (end-still _ _ _ _ _ _ _))
 
-sub-if2 : tie.Need-sub-if2
-sub-if2 c =
-    let p = passed _ _ _ _ _ (sym (c .before .before .before .before .before .before .before .gate .ensures) ∙ c .before .before .before .before .before .enum-told .given .1) in
+sub-above-2 : tie.Need-sub-above-2
+sub-above-2 c =
+    let p = passed _ _ _ _ _ (sym (c .before .before .before .before .before .before .before .before .before .gate .ensures) ∙ c .before .before .before .before .before .before .before .enum-told .given .1) in
     omega (arith, p .sizes .m-least)
 
-cast-if2 : tie.Need-cast-if2
-cast-if2 c = search needs
+above-requires-2 : tie.Need-above-requires-2
+above-requires-2 c κs = search needs
 
 refused-requires-3 : tie.Need-refused-requires-3
 refused-requires-3 c κs = search needs
@@ -77,13 +79,15 @@ returns-2 : tie.Need-returns-2
 unfolding choose sizes acceptPending
 returns-2 c =
     rw (
-      ← c .before .before .before .before .before .before .before .before .before .before .number .ensures,
-      ← c .before .before .before .before .before .before .before .before .before .gate .ensures,
-      c .before .before .before .before .before .before .before .enum-told .given .1,
-      ← c .before .before .before .before .before .before .mps-of .ensures,
-      ← c .before .before .before .before .before .mtu-of .ensures,
-      le-ltb _ _ (c .before .before .before .if1 .left),
-      lt-ltb _ _ (c .before .if2 .taken),
+      ← c .before .before .before .before .before .before .before .before .before .before .before .before .before .before .number .ensures,
+      ← c .before .before .before .before .before .before .before .before .before .before .before .before .before .gate .ensures,
+      c .before .before .before .before .before .before .before .before .before .before .before .enum-told .given .1,
+      ← c .before .before .before .before .before .before .before .before .mps-of .ensures,
+      ← c .before .before .before .before .before .before .before .mtu-of .ensures,
+      ← c .before .before .before .before .before .above .ensures,
+      ← c .before .before .before .above2 .ensures,
+      c .before .before .if1 .left,
+      c .before .if2 .taken,
       c .refused3 .ensures,
     ) (sym (end-still _ _ _ _ _ _ _))
 
@@ -100,15 +104,17 @@ returns-3 : tie.Need-returns-3
 unfolding choose sizes acceptPending
 returns-3 c =
     rw (
-      ← c .before .before .before .before .before .before .before .before .before .before .before .before .before .number .ensures,
-      ← c .before .before .before .before .before .before .before .before .before .before .before .before .gate .ensures,
-      c .before .before .before .before .before .before .before .before .before .before .enum-told .given .1,
+      ← c .before .before .before .before .before .before .before .before .before .before .before .before .before .before .before .number .ensures,
+      ← c .before .before .before .before .before .before .before .before .before .before .before .before .before .before .gate .ensures,
+      c .before .before .before .before .before .before .before .before .before .before .before .before .enum-told .given .1,
       ← c .before .before .before .before .before .before .before .before .before .mps-of .ensures,
       ← c .before .before .before .before .before .before .before .before .mtu-of .ensures,
-      le-ltb _ _ (c .before .before .before .before .before .before .if1 .left),
-      le-ltb _ _ (c .before .before .before .before .if2 .left),
-      ← c .before .before .before .slot-at .ensures,
-      ← c .before .before .is-peer-connecting .ensures,
+      ← c .before .before .before .before .before .before .above .ensures,
+      ← c .before .before .before .before .above2 .ensures,
+      c .before .before .before .if1 .left,
+      c .before .before .if2 .left,
+      ← c .before .before .before .before .before .before .before .before .before .before .before .slot-at .ensures,
+      ← c .before .before .before .before .before .before .before .before .before .before .is-peer-connecting .ensures,
       c .before .if3 .taken,
       c .refused4 .ensures,
     ) (sym (end-still _ _ _ _ _ _ _))
@@ -120,15 +126,17 @@ returns-4 : tie.Need-returns-4
 unfolding choose sizes acceptPending
 returns-4 c =
     rw (
-      ← c .before .before .before .before .before .before .before .before .before .before .before .before .before .before .before .number .ensures,
-      ← c .before .before .before .before .before .before .before .before .before .before .before .before .before .before .gate .ensures,
-      c .before .before .before .before .before .before .before .before .before .before .before .before .enum-told .given .1,
+      ← c .before .before .before .before .before .before .before .before .before .before .before .before .before .before .before .before .before .number .ensures,
+      ← c .before .before .before .before .before .before .before .before .before .before .before .before .before .before .before .before .gate .ensures,
+      c .before .before .before .before .before .before .before .before .before .before .before .before .before .before .enum-told .given .1,
       ← c .before .before .before .before .before .before .before .before .before .before .before .mps-of .ensures,
       ← c .before .before .before .before .before .before .before .before .before .before .mtu-of .ensures,
-      le-ltb _ _ (c .before .before .before .before .before .before .before .before .if1 .left),
-      le-ltb _ _ (c .before .before .before .before .before .before .if2 .left),
-      ← c .before .before .before .before .before .slot-at .ensures,
-      ← c .before .before .before .before .is-peer-connecting .ensures,
+      ← c .before .before .before .before .before .before .before .before .above .ensures,
+      ← c .before .before .before .before .before .before .above2 .ensures,
+      c .before .before .before .before .before .if1 .left,
+      c .before .before .before .before .if2 .left,
+      ← c .before .before .before .before .before .before .before .before .before .before .before .before .before .slot-at .ensures,
+      ← c .before .before .before .before .before .before .before .before .before .before .before .before .is-peer-connecting .ensures,
       c .before .before .before .if3 .left,
       eq-eqb _ _ (c .before .if4 .taken),
       c .refused5 .ensures,
@@ -136,7 +144,7 @@ returns-4 c =
 
 credits-of-requires : tie.Need-credits-of-requires
 credits-of-requires c κs =
-    let p = passed _ _ _ _ _ (sym (c .before .before .before .before .before .before .before .before .before .before .before .before .before .gate .ensures) ∙ c .before .before .before .before .before .before .before .before .before .before .before .enum-told .given .1) in
+    let p = passed _ _ _ _ _ (sym (c .before .before .before .before .before .before .before .before .before .before .before .before .before .before .before .gate .ensures) ∙ c .before .before .before .before .before .before .before .before .before .before .before .before .before .enum-told .given .1) in
     p .sizes .d-most
 
 new-requires : tie.Need-new-requires
@@ -147,7 +155,7 @@ accepted-requires c κs = search needs
 
 response-requires : tie.Need-response-requires
 response-requires c κs =
-    let p = passed _ _ _ _ _ (sym (c .before .before .before .before .before .before .before .before .before .before .before .before .before .before .before .before .gate .ensures) ∙ c .before .before .before .before .before .before .before .before .before .before .before .before .before .before .enum-told .given .1) in
+    let p = passed _ _ _ _ _ (sym (c .before .before .before .before .before .before .before .before .before .before .before .before .before .before .before .before .before .before .gate .ensures) ∙ c .before .before .before .before .before .before .before .before .before .before .before .before .before .before .before .before .enum-told .given .1) in
     omega (arith, p .sizes .n-most, p .slot-is)
 
 identifier-of-requires : tie.Need-identifier-of-requires
@@ -155,7 +163,7 @@ identifier-of-requires c κs = search needs
 
 alter-and-tell-requires : tie.Need-alter-and-tell-requires
 alter-and-tell-requires c κs =
-    let p = passed _ _ _ _ _ (sym (c .before .before .before .before .before .before .before .before .before .before .before .before .before .before .before .before .before .before .before .gate .ensures) ∙ c .before .before .before .before .before .before .before .before .before .before .before .before .before .before .before .before .before .enum-told .given .1) in
+    let p = passed _ _ _ _ _ (sym (c .before .before .before .before .before .before .before .before .before .before .before .before .before .before .before .before .before .before .before .before .before .gate .ensures) ∙ c .before .before .before .before .before .before .before .before .before .before .before .before .before .before .before .before .before .before .before .enum-told .given .1) in
     p .signal-is
 
 returns-5 : tie.Need-returns-5
@@ -175,18 +183,20 @@ returns-6 : tie.Need-returns-6
 unfolding choose sizes acceptPending
 returns-6 c =
     rw (
-      ← c .before .before .before .before .before .before .before .before .before .before .before .before .before .before .before .before .before .before .before .before .before .before .before .number .ensures,
-      ← c .before .before .before .before .before .before .before .before .before .before .before .before .before .before .before .before .before .before .before .before .before .before .gate .ensures,
-      c .before .before .before .before .before .before .before .before .before .before .before .before .before .before .before .before .before .before .before .before .enum-told .given .1,
+      ← c .before .before .before .before .before .before .before .before .before .before .before .before .before .before .before .before .before .before .before .before .before .before .before .before .before .number .ensures,
+      ← c .before .before .before .before .before .before .before .before .before .before .before .before .before .before .before .before .before .before .before .before .before .before .before .before .gate .ensures,
+      c .before .before .before .before .before .before .before .before .before .before .before .before .before .before .before .before .before .before .before .before .before .before .enum-told .given .1,
       ← c .before .before .before .before .before .before .before .before .before .before .before .before .before .before .before .before .before .before .before .mps-of .ensures,
       ← c .before .before .before .before .before .before .before .before .before .before .before .before .before .before .before .before .before .before .mtu-of .ensures,
-      le-ltb _ _ (c .before .before .before .before .before .before .before .before .before .before .before .before .before .before .before .before .if1 .left),
-      le-ltb _ _ (c .before .before .before .before .before .before .before .before .before .before .before .before .before .before .if2 .left),
-      ← c .before .before .before .before .before .before .before .before .before .before .before .before .before .slot-at .ensures,
-      ← c .before .before .before .before .before .before .before .before .before .before .before .before .is-peer-connecting .ensures,
+      ← c .before .before .before .before .before .before .before .before .before .before .before .before .before .before .before .before .above .ensures,
+      ← c .before .before .before .before .before .before .before .before .before .before .before .before .before .before .above2 .ensures,
+      c .before .before .before .before .before .before .before .before .before .before .before .before .before .if1 .left,
+      c .before .before .before .before .before .before .before .before .before .before .before .before .if2 .left,
+      ← c .before .before .before .before .before .before .before .before .before .before .before .before .before .before .before .before .before .before .before .before .before .slot-at .ensures,
+      ← c .before .before .before .before .before .before .before .before .before .before .before .before .before .before .before .before .before .before .before .before .is-peer-connecting .ensures,
       c .before .before .before .before .before .before .before .before .before .before .before .if3 .left,
       ne-eqb _ _ (c .before .before .before .before .before .before .before .before .before .if4 .left),
-    ) (rw (c .before .before .before .before .identifier-of .ensures, c .before .before .before .before .before .response .ensures, c .before .before .before .before .before .before .accepted .ensures, c .before .before .before .before .before .before .before .new .ensures, c .before .before .before .before .before .before .before .before .credits-of .ensures) at (c .before .before .alter-and-tell .ensures (c .before .before .before .before .before .before .before .before .before .before .before .before .before .before .before .before .before .before .before .before .before .before .before .before .before .args .t) [] []))
+    ) (rw (c .before .before .before .before .identifier-of .ensures, c .before .before .before .before .before .response .ensures, c .before .before .before .before .before .before .accepted .ensures, c .before .before .before .before .before .before .before .new .ensures, c .before .before .before .before .before .before .before .before .credits-of .ensures) at (c .before .before .alter-and-tell .ensures (c .before .before .before .before .before .before .before .before .before .before .before .before .before .before .before .before .before .before .before .before .before .before .before .before .before .before .before .args .t) [] []))
 
 pub accept-pending-spec : {M : Type 1} → statement M
 accept-pending-spec =
@@ -197,18 +207,18 @@ accept-pending-spec =
     enum-known-r
     refused-requires
     enum-told
-    mps-of-requires
-    mtu-of-requires
-    sub-if1
-    cast-if1
-    refused-requires-2
-    returns
-    sub-if2
-    cast-if2
-    refused-requires-3
-    returns-2
     slot-at-requires
     is-peer-connecting-requires
+    mps-of-requires
+    mtu-of-requires
+    sub-above
+    above-requires
+    sub-above-2
+    above-requires-2
+    refused-requires-2
+    returns
+    refused-requires-3
+    returns-2
     refused-requires-4
     returns-3
     refused-requires-5

@@ -5,7 +5,7 @@ use native.Mathlib.Omega.{arith}
 use Rattle.definition.specs.Ending.{end-still}
 use Rattle.gate.specs.Passed.{passed}
 use Rattle.room.specs.Placed.{room-of}
-use borrow.Author.Tests.{le-leb, le-ltb, lt-leb, lt-ltb}
+use borrow.Author.Tests.{le-leb, lt-leb}
 use Rattle.lists.specs.Choose.{choose}
 use Rattle.definition.specs.Mem.{sizes}
 use Rattle.definition.specs.Opening.{create}
@@ -38,13 +38,13 @@ mtu-of-requires c κs =
     let p = passed _ _ _ _ _ (sym (c .before .before .before .before .gate .ensures) ∙ c .before .before .enum-told .given .1) in
     (p .sizes .m-least, p .sizes .m-most)
 
-sub-if1 : tie.Need-sub-if1
-sub-if1 c =
+sub-above : tie.Need-sub-above
+sub-above c =
     let p = passed _ _ _ _ _ (sym (c .before .before .before .before .before .before .gate .ensures) ∙ c .before .before .before .before .enum-told .given .1) in
     omega (arith, p .sizes .m-least)
 
-cast-if1 : tie.Need-cast-if1
-cast-if1 c = search needs
+above-requires : tie.Need-above-requires
+above-requires c κs = search needs
 
 refused-requires-2 : tie.Need-refused-requires-2
 refused-requires-2 c κs = search needs
@@ -53,22 +53,24 @@ returns : tie.Need-returns
 unfolding choose sizes create
 returns c =
     rw (
-      ← c .before .before .before .before .before .before .before .before .gate .ensures,
-      c .before .before .before .before .before .before .enum-told .given .1,
-      ← c .before .before .before .before .before .spent .ensures,
-      ← c .before .before .before .before .mps-of .ensures,
-      ← c .before .before .before .mtu-of .ensures,
-      lt-ltb _ _ (c .before .if1 .taken),
+      ← c .before .before .before .before .before .before .before .before .before .before .before .gate .ensures,
+      c .before .before .before .before .before .before .before .before .before .enum-told .given .1,
+      ← c .before .before .before .before .before .before .before .before .spent .ensures,
+      ← c .before .before .before .before .before .before .before .mps-of .ensures,
+      ← c .before .before .before .before .before .before .mtu-of .ensures,
+      ← c .before .before .before .before .above .ensures,
+      ← c .before .before .above2 .ensures,
+      c .before .if1 .taken,
       c .refused2 .ensures,
     ) (sym (end-still _ _ _ _ _ _ _))
 
-sub-if2 : tie.Need-sub-if2
-sub-if2 c =
+sub-above-2 : tie.Need-sub-above-2
+sub-above-2 c =
     let p = passed _ _ _ _ _ (sym (c .before .before .before .before .before .before .before .before .gate .ensures) ∙ c .before .before .before .before .before .before .enum-told .given .1) in
     omega (arith, p .sizes .m-least)
 
-cast-if2 : tie.Need-cast-if2
-cast-if2 c = search needs
+above-requires-2 : tie.Need-above-requires-2
+above-requires-2 c κs = search needs
 
 refused-requires-3 : tie.Need-refused-requires-3
 refused-requires-3 c κs = search needs
@@ -77,13 +79,15 @@ returns-2 : tie.Need-returns-2
 unfolding choose sizes create
 returns-2 c =
     rw (
-      ← c .before .before .before .before .before .before .before .before .before .before .gate .ensures,
-      c .before .before .before .before .before .before .before .before .enum-told .given .1,
-      ← c .before .before .before .before .before .before .before .spent .ensures,
-      ← c .before .before .before .before .before .before .mps-of .ensures,
-      ← c .before .before .before .before .before .mtu-of .ensures,
-      le-ltb _ _ (c .before .before .before .if1 .left),
-      lt-ltb _ _ (c .before .if2 .taken),
+      ← c .before .before .before .before .before .before .before .before .before .before .before .before .gate .ensures,
+      c .before .before .before .before .before .before .before .before .before .before .enum-told .given .1,
+      ← c .before .before .before .before .before .before .before .before .before .spent .ensures,
+      ← c .before .before .before .before .before .before .before .before .mps-of .ensures,
+      ← c .before .before .before .before .before .before .before .mtu-of .ensures,
+      ← c .before .before .before .before .before .above .ensures,
+      ← c .before .before .before .above2 .ensures,
+      c .before .before .if1 .left,
+      c .before .if2 .taken,
       c .refused3 .ensures,
     ) (sym (end-still _ _ _ _ _ _ _))
 
@@ -97,13 +101,15 @@ returns-3 : tie.Need-returns-3
 unfolding choose sizes create
 returns-3 c =
     rw (
-      ← c .before .before .before .before .before .before .before .before .before .before .before .before .before .gate .ensures,
-      c .before .before .before .before .before .before .before .before .before .before .before .enum-told .given .1,
-      ← c .before .before .before .before .before .before .before .before .before .before .spent .ensures,
-      ← c .before .before .before .before .before .before .before .before .before .mps-of .ensures,
-      ← c .before .before .before .before .before .before .before .before .mtu-of .ensures,
-      le-ltb _ _ (c .before .before .before .before .before .before .if1 .left),
-      le-ltb _ _ (c .before .before .before .before .if2 .left),
+      ← c .before .before .before .before .before .before .before .before .before .before .before .before .before .before .before .gate .ensures,
+      c .before .before .before .before .before .before .before .before .before .before .before .before .before .enum-told .given .1,
+      ← c .before .before .before .before .before .before .before .before .before .before .before .before .spent .ensures,
+      ← c .before .before .before .before .before .before .before .before .before .before .before .mps-of .ensures,
+      ← c .before .before .before .before .before .before .before .before .before .before .mtu-of .ensures,
+      ← c .before .before .before .before .before .before .before .before .above .ensures,
+      ← c .before .before .before .before .before .before .above2 .ensures,
+      c .before .before .before .before .before .if1 .left,
+      c .before .before .before .before .if2 .left,
       ← c .before .before .before .find .ensures,
       le-leb _ _ (c .before .if3 .taken),
       c .refused4 .ensures,
@@ -111,7 +117,7 @@ returns-3 c =
 
 credits-of-requires : tie.Need-credits-of-requires
 credits-of-requires c κs =
-    let p = passed _ _ _ _ _ (sym (c .before .before .before .before .before .before .before .before .before .before .before .before .gate .ensures) ∙ c .before .before .before .before .before .before .before .before .before .before .enum-told .given .1) in
+    let p = passed _ _ _ _ _ (sym (c .before .before .before .before .before .before .before .before .before .before .before .before .before .before .gate .ensures) ∙ c .before .before .before .before .before .before .before .before .before .before .before .before .enum-told .given .1) in
     p .sizes .d-most
 
 new-requires : tie.Need-new-requires
@@ -125,17 +131,17 @@ attempted-requires c κs = search needs
 
 request-requires : tie.Need-request-requires
 request-requires c κs =
-    let p = passed _ _ _ _ _ (sym (c .before .before .before .before .before .before .before .before .before .before .before .before .before .before .before .before .gate .ensures) ∙ c .before .before .before .before .before .before .before .before .before .before .before .before .before .before .enum-told .given .1) in
+    let p = passed _ _ _ _ _ (sym (c .before .before .before .before .before .before .before .before .before .before .before .before .before .before .before .before .before .before .gate .ensures) ∙ c .before .before .before .before .before .before .before .before .before .before .before .before .before .before .before .before .enum-told .given .1) in
     omega (arith, p .sizes .n-most)
 
 index-at-requires : tie.Need-index-at-requires
 index-at-requires c κs =
-    let p = passed _ _ _ _ _ (sym (c .before .before .before .before .before .before .before .before .before .before .before .before .before .before .before .before .before .gate .ensures) ∙ c .before .before .before .before .before .before .before .before .before .before .before .before .before .before .before .enum-told .given .1) in
+    let p = passed _ _ _ _ _ (sym (c .before .before .before .before .before .before .before .before .before .before .before .before .before .before .before .before .before .before .before .gate .ensures) ∙ c .before .before .before .before .before .before .before .before .before .before .before .before .before .before .before .before .before .enum-told .given .1) in
     omega (arith, p .sizes .n-most)
 
 alter-and-tell-requires : tie.Need-alter-and-tell-requires
 alter-and-tell-requires c κs =
-    let p = passed _ _ _ _ _ (sym (c .before .before .before .before .before .before .before .before .before .before .before .before .before .before .before .before .before .before .before .gate .ensures) ∙ c .before .before .before .before .before .before .before .before .before .before .before .before .before .before .before .before .before .enum-told .given .1) in
+    let p = passed _ _ _ _ _ (sym (c .before .before .before .before .before .before .before .before .before .before .before .before .before .before .before .before .before .before .before .before .before .gate .ensures) ∙ c .before .before .before .before .before .before .before .before .before .before .before .before .before .before .before .before .before .before .before .enum-told .given .1) in
     p .signal-is
 
 returns-4 : tie.Need-returns-4
@@ -154,15 +160,17 @@ returns-5 : tie.Need-returns-5
 unfolding choose sizes create
 returns-5 c =
     rw (
-      ← c .before .before .before .before .before .before .before .before .before .before .before .before .before .before .before .before .before .before .before .before .before .before .gate .ensures,
-      c .before .before .before .before .before .before .before .before .before .before .before .before .before .before .before .before .before .before .before .before .enum-told .given .1,
-      ← c .before .before .before .before .before .before .before .before .before .before .before .before .before .before .before .before .before .before .mps-of .ensures,
-      ← c .before .before .before .before .before .before .before .before .before .before .before .before .before .before .before .before .before .mtu-of .ensures,
-      le-ltb _ _ (c .before .before .before .before .before .before .before .before .before .before .before .before .before .before .before .if1 .left),
-      le-ltb _ _ (c .before .before .before .before .before .before .before .before .before .before .before .before .before .if2 .left),
+      ← c .before .before .before .before .before .before .before .before .before .before .before .before .before .before .before .before .before .before .before .before .before .before .before .before .gate .ensures,
+      c .before .before .before .before .before .before .before .before .before .before .before .before .before .before .before .before .before .before .before .before .before .before .enum-told .given .1,
+      ← c .before .before .before .before .before .before .before .before .before .before .before .before .before .before .before .before .before .before .before .before .mps-of .ensures,
+      ← c .before .before .before .before .before .before .before .before .before .before .before .before .before .before .before .before .before .before .before .mtu-of .ensures,
+      ← c .before .before .before .before .before .before .before .before .before .before .before .before .before .before .before .before .before .above .ensures,
+      ← c .before .before .before .before .before .before .before .before .before .before .before .before .before .before .before .above2 .ensures,
+      c .before .before .before .before .before .before .before .before .before .before .before .before .before .before .if1 .left,
+      c .before .before .before .before .before .before .before .before .before .before .before .before .before .if2 .left,
       ← c .before .before .before .before .before .before .before .before .before .before .before .before .find .ensures,
       lt-leb _ _ (c .before .before .before .before .before .before .before .before .before .before .if3 .left),
-    ) (rw (c .before .before .before .before .index-at .ensures, c .before .before .before .before .before .request .ensures, c .before .before .before .before .before .before .attempted .ensures, c .before .before .before .before .before .before .before .next-id .ensures, c .before .before .before .before .before .before .before .before .new .ensures, c .before .before .before .before .before .before .before .before .before .credits-of .ensures, c .before .before .before .before .before .before .before .before .before .before .before .before .before .before .before .before .before .before .before .spent .ensures) at (c .before .before .alter-and-tell .ensures (c .before .before .before .before .before .before .before .before .before .before .before .before .before .before .before .before .before .before .before .before .before .before .before .before .args .t) [] []))
+    ) (rw (c .before .before .before .before .index-at .ensures, c .before .before .before .before .before .request .ensures, c .before .before .before .before .before .before .attempted .ensures, c .before .before .before .before .before .before .before .next-id .ensures, c .before .before .before .before .before .before .before .before .new .ensures, c .before .before .before .before .before .before .before .before .before .credits-of .ensures, c .before .before .before .before .before .before .before .before .before .before .before .before .before .before .before .before .before .before .before .before .before .spent .ensures) at (c .before .before .alter-and-tell .ensures (c .before .before .before .before .before .before .before .before .before .before .before .before .before .before .before .before .before .before .before .before .before .before .before .before .before .before .args .t) [] []))
 
 pub create-spec : {M : Type 1} → statement M
 create-spec =
@@ -175,12 +183,12 @@ create-spec =
     spent-requires
     mps-of-requires
     mtu-of-requires
-    sub-if1
-    cast-if1
+    sub-above
+    above-requires
+    sub-above-2
+    above-requires-2
     refused-requires-2
     returns
-    sub-if2
-    cast-if2
     refused-requires-3
     returns-2
     find-requires

@@ -1,0 +1,2 @@
+-- A frame in, from its payload.
+pub mod Framed

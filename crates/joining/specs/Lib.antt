@@ -1,0 +1,2 @@
+-- A frame joined in its slot's part of the room.
+pub mod Joins

@@ -1,0 +1,2 @@
+-- A whole PDU, fed one call a signal.
+pub mod Rest

@@ -10,11 +10,9 @@ use Rattle.credit.specs.declared.CreditFlowPolicy.the-variants as CreditFlowPol
 use Rattle.decimal.specs.declared.NumberRead.{NumberRead}
 use Rattle.decimal.specs.declared.NumberRead.the-variants as NumberRead
 use Rattle.decimal.specs.Decimal.{numberRead}
-use Rattle.fields.specs.declared.Setting.{Setting}
-use Rattle.fields.specs.declared.Setting.the-variants as Setting
-use Rattle.fields.specs.declared.Role.{Role}
-use Rattle.fields.specs.declared.Role.the-variants as Role
-use Rattle.fields.specs.declared.L2capChannelConfig.{L2capChannelConfig}
+use Rattle.channel.specs.declared.Setting.{Setting}
+use Rattle.channel.specs.declared.Setting.the-variants as Setting
+use Rattle.channel.specs.declared.L2capChannelConfig.{L2capChannelConfig}
 
 -- a number
 unfoldable pub spells : NumberRead → Bool
@@ -46,8 +44,8 @@ flagOf w = eqb (numberOf w) 1
 abbrev pub isRole : List ℕ → Bool
 isRole w = isOne 99 w || isOne 112 w
 
-unfoldable pub roleOf : List ℕ → Role
-roleOf w = choose (isOne 99 w) Role.Central Role.Peripheral
+abbrev pub centralOf : List ℕ → Bool
+centralOf w = isOne 99 w
 
 -- a number, or "`-` is the default"
 abbrev pub isSetting : List ℕ → Bool

@@ -1,31 +1,13 @@
 // The words of a call, one kind each: whether a word is of that kind, and what it then says. A word is tested before it is asked. What each
-// word says is defined in specs/Fields.antt; it rests on `decimal`.
+// word says is defined in specs/Fields.antt. It rests on `decimal`, and what a config says is a value of `channel`.
+use channel::L2capChannelConfig;
+use channel::Setting;
 use credit::CreditFlowPolicy;
 use decimal::NumberRead;
 use decimal::read_number;
 ghost use mathlib.Core.Path.{_≡_};
 ghost use lib.ListN.{drop};
-ghost use Rattle.fields.specs.Fields.{isNumber, numberOf, isOne, isFlag, flagOf, isRole, roleOf, isSetting, settingOf, isPolicy, policyOf, isConfig, configOf};
-
-// A number that the line gives, or `-` for the default.
-pub enum Setting {
-    Default,
-    Is(u16),
-}
-
-// What an accept or a create asks for.
-pub struct L2capChannelConfig {
-    pub mtu: Setting,
-    pub mps: Setting,
-    pub policy: CreditFlowPolicy,
-    pub credits: Setting,
-}
-
-// Our side of a link.
-pub enum Role {
-    Central,
-    Peripheral,
-}
+ghost use Rattle.fields.specs.Fields.{isNumber, numberOf, isOne, isFlag, flagOf, isRole, centralOf, isSetting, settingOf, isPolicy, policyOf, isConfig, configOf};
 
 pub fn is_number(word: &[u8]) -> bool
     ensures { λ r. ⌜ r ≡ isNumber (now (word .entry)) ⌝ }
@@ -70,13 +52,11 @@ pub fn is_role(word: &[u8]) -> bool
     is_one(word, 99) | is_one(word, 112)
 }
 
-pub fn role_of(word: &[u8]) -> Role
-    ensures { λ r. ⌜ r ≡ roleOf (now (word .entry)) ⌝ }
+// Whether the role is Central.
+pub fn central_of(word: &[u8]) -> bool
+    ensures { λ r. ⌜ r ≡ centralOf (now (word .entry)) ⌝ }
 {
-    if is_one(word, 99) {
-        return Role::Central;
-    }
-    Role::Peripheral
+    is_one(word, 99)
 }
 
 pub fn is_setting(word: &[u8]) -> bool

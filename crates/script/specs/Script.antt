@@ -1,91 +1,14 @@
--- The table of calls (docs/CHANRUN.md), by the number of words of a line: a letter, then what the call is given. A letter that no call of that many
--- words has, and a word that is not of the call's kind, make the line bad. `last` is where the last word stands: octets are read from there.
-use mathlib.Core.Bool.{_&&_}
+-- Which call a line asks for: its first word is the letter, and its number of words says which calls it can be (commands' Commands).
 use mathlib.Core.List.{List}
 use Prim.Native.Nat.{ℕ}
 use lib.Dec.{eqb}
 use lib.ListN.{length, getD}
 use Rattle.lists.specs.Choose.{choose}
-use Rattle.hex.specs.Hex.{isHexWord}
 use Rattle.words.specs.Words.{wordsOf, word, place}
-use Rattle.words.specs.declared.Word.{Word}
-use Rattle.script.specs.declared.Command.{Command}
-use Rattle.fields.specs.Fields.{isNumber, numberOf, isFlag, flagOf, isRole, roleOf, isConfig, configOf}
-use Rattle.script.specs.declared.Command.the-variants as Command
+use Rattle.commands.specs.declared.Command.{Command}
+use Rattle.commands.specs.declared.Command.the-variants as Command
+use Rattle.commands.specs.Commands.{oneWord, twoWords, threeWords, fourWords, fiveWords, sixWords, sevenWords}
 
-unfoldable pub oneWord : (c : ℕ) → Command
-oneWord c =
-    choose (eqb c 81) Command.NextDisconnect  -- Q
-    (choose (eqb c 73) Command.Attention  -- I
-    (choose (eqb c 86) Command.View  -- V
-    Command.Bad))
-
-unfoldable pub withNumber : (c n : ℕ) → Command
-withNumber c n =
-    choose (eqb c 82) (Command.RegisterSpsm n)  -- R spsm
-    (choose (eqb c 74) (Command.RejectAllPending n)  -- J link
-    (choose (eqb c 90) (Command.DropPending n)  -- Z slot
-    (choose (eqb c 71) (Command.GiveUp n)  -- G slot
-    (choose (eqb c 72) (Command.IncRef n)  -- H slot
-    (choose (eqb c 76) (Command.DecRef n)  -- L slot
-    (choose (eqb c 68) (Command.Disconnect n)  -- D slot
-    (choose (eqb c 69) (Command.DisconnectByCid n)  -- E cid
-    (choose (eqb c 87) (Command.Disconnected n)  -- W link
-    (choose (eqb c 85) (Command.Queries n)  -- U slot
-    (choose (eqb c 77) (Command.Room n)  -- M slot
-    Command.Bad))))))))))
-
-unfoldable pub twoWords : (c : ℕ) (a : List ℕ) → Command
-twoWords c a = choose (isNumber a) (withNumber c (numberOf a)) Command.Bad
-
-unfoldable pub withNumbers : (c n m : ℕ) → Command
-withNumbers c n m =
-    choose (eqb c 88) (Command.RejectPending n m)  -- X slot result
-    (choose (eqb c 66) (Command.Receive n m)  -- B slot size
-    (choose (eqb c 121) (Command.SendConnParamUpdateRes n m)  -- y link result
-    Command.Bad))
-
-unfoldable pub threeWords : (c : ℕ) (a b : List ℕ) (last : Word) → Command
-threeWords c a b last =
-    choose (isNumber a)
-    (choose (eqb c 80) (choose (isFlag b) (Command.NextPending (numberOf a) (flagOf b)) Command.Bad)  -- P link up
-    (choose (eqb c 75) (choose (isHexWord b) (Command.Send (numberOf a) last) Command.Bad)  -- K slot hex
-    (choose (isNumber b) (withNumbers c (numberOf a) (numberOf b)) Command.Bad)))
-    Command.Bad
-
-unfoldable pub fourWords : (c : ℕ) (a b d : List ℕ) (last : Word) → Command
-fourWords c a b d last =
-    choose (isNumber a && isNumber b)
-    (choose (eqb c 84) (choose (isNumber d) (Command.Make (numberOf a) (numberOf b) (numberOf d)) Command.Bad)  -- T n d m
-    (choose (eqb c 79) (choose (isFlag d) (Command.Opened (numberOf a) (numberOf b) (flagOf d)) Command.Bad)  -- O slot link up
-    (choose (eqb c 70) (choose (isHexWord d) (Command.Dispatch (numberOf a) (numberOf b) last) Command.Bad)  -- F link cid hex
-    Command.Bad)))
-    Command.Bad
-
--- S link listening role hex
-unfoldable pub fiveWords : (c : ℕ) (a b d e : List ℕ) (last : Word) → Command
-fiveWords c a b d e last =
-    choose (eqb c 83 && isNumber a && isFlag b && isRole d && isHexWord e)
-    (Command.Signal (numberOf a) (flagOf b) (roleOf d) last)
-    Command.Bad
-
-unfoldable pub sixWords : (c : ℕ) (a b d e f : List ℕ) → Command
-sixWords c a b d e f =
-    choose (isNumber a)
-    (choose (eqb c 65) (choose (isConfig b d e f) (Command.AcceptPending (numberOf a) (configOf b d e f)) Command.Bad)  -- A slot mtu mps policy credits
-    (choose (eqb c 89)
-    (choose (isNumber b && isNumber d && isNumber e && isNumber f)
-    (Command.SendConnParamUpdateReq (numberOf a) (numberOf b) (numberOf d) (numberOf e) (numberOf f))  -- Y link min max latency timeout
-    Command.Bad)
-    Command.Bad))
-    Command.Bad
-
--- C link spsm mtu mps policy credits
-unfoldable pub sevenWords : (c : ℕ) (a b d e f g : List ℕ) → Command
-sevenWords c a b d e f g =
-    choose (eqb c 67 && isNumber a && isNumber b && isConfig d e f g) (Command.Create (numberOf a) (numberOf b) (configOf d e f g)) Command.Bad
-
--- a line's first word is the letter, and its number of words says which calls it can be
 unfoldable pub commandOf : List ℕ → Command
 commandOf line =
     let n = length (wordsOf line) in

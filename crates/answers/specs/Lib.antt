@@ -1,0 +1,3 @@
+-- What the row of a call shows of its answer.
+pub mod Answers
+pub mod AnswerLaws

@@ -1,0 +1,159 @@
+// chanrun (document 01, module 5): reads calls from standard input, a line each, and prints the rows of each (docs/CHANRUN.md). Lines and words are
+// read, and rows written, by proved functions on slices; what is here moves octets between those, the calls and the two descriptors.
+mod calls;
+mod output;
+
+use channel::Table;
+use commands::Command;
+use lines::Found;
+use lines::Held;
+use octets::least;
+
+// The octets of a line's buffer: 131,100 characters and a newline.
+const LINE: usize = 131101;
+
+// The largest room.
+const ROOM: usize = 65536;
+
+// The most octets of a word.
+const OCTETS: usize = 65535;
+
+// The frames of the longest job at the smallest MPS.
+const FRAMES: usize = 76935;
+
+// The longest row: the frames in hex, the answer and a column.
+const ROW: usize = 160000;
+
+// One line: its call is made and its rows are printed. The table after it.
+fn serve(
+    t: Table,
+    line: &[u8],
+    room: &mut [u8],
+    octets: &mut [u8],
+    frames: &mut [u8],
+    row: &mut [u8],
+) -> Table {
+    let c = script::read_command(line);
+    if let Command::Make { n, d, m } = c {
+        return calls::make(n, d, m, room, row);
+    }
+    let size = least(calls::room_size(t), room.len());
+    calls::call(t, c, line, &mut room[..size], octets, frames, row)
+}
+
+// Reads behind what is held: how many octets came, 0 at the end of the input.
+fn read_more(input: &mut [u8], at: usize) -> usize {
+    let from = least(at, input.len());
+    let got = libc::read(libc::STDIN_FILENO, &mut input[from..]);
+    io::count(got, input)
+}
+
+// What a turn leaves, and whether there is another.
+struct Left {
+    table: Table,
+    held: Held,
+    again: bool,
+}
+
+// One turn: the next line is served, or more is read. Where the input has ended, a last line without its newline is.
+fn one_turn(
+    t: Table,
+    h: Held,
+    input: &mut [u8],
+    room: &mut [u8],
+    octets: &mut [u8],
+    frames: &mut [u8],
+    row: &mut [u8],
+) -> Left {
+    let next = lines::next_line(input, h);
+    let held = next.held;
+    let found = next.found;
+    match found {
+        Found::Line(w) => {
+            let table = serve(t, words::text(input, w), room, octets, frames, row);
+            Left {
+                table,
+                held,
+                again: true,
+            }
+        }
+        Found::Passed => Left {
+            table: t,
+            held,
+            again: true,
+        },
+        Found::Long => {
+            output::bad(row);
+            Left {
+                table: t,
+                held,
+                again: true,
+            }
+        }
+        Found::More => {
+            let ready = lines::ready(input, held);
+            let n = read_more(input, ready.end);
+            if n == 0 {
+                let table = last(t, ready, input, room, octets, frames, row);
+                return Left {
+                    table,
+                    held: ready,
+                    again: false,
+                };
+            }
+            let grown = lines::grown(input.len(), ready, n);
+            Left {
+                table: t,
+                held: grown,
+                again: true,
+            }
+        }
+    }
+}
+
+// What is held where the input ends.
+fn last(
+    t: Table,
+    h: Held,
+    input: &[u8],
+    room: &mut [u8],
+    octets: &mut [u8],
+    frames: &mut [u8],
+    row: &mut [u8],
+) -> Table {
+    let found = lines::last_line(h);
+    match found {
+        Found::Line(w) => serve(t, words::text(input, w), room, octets, frames, row),
+        Found::Passed => t,
+        Found::Long => t,
+        Found::More => t,
+    }
+}
+
+// The whole input. A loop has to end, and nothing says that the input does: the turns are counted down from a number that no run uses up.
+fn run(input: &mut [u8], room: &mut [u8], octets: &mut [u8], frames: &mut [u8], row: &mut [u8]) {
+    let mut t = calls::no_table();
+    let mut held = lines::none();
+    let mut turns = u64::MAX;
+    while 0 < turns {
+        let next = one_turn(t, held, input, room, octets, frames, row);
+        if !next.again {
+            return;
+        }
+        let table = next.table;
+        let h = next.held;
+        t = table;
+        held = h;
+        turns -= 1;
+    }
+}
+
+fn main() {
+    let mut input = [0u8; LINE];
+    let mut room = [0u8; ROOM];
+    let mut octets = [0u8; OCTETS];
+    let mut frames = [0u8; FRAMES];
+    let mut row = [0u8; ROW];
+    io::write_all(libc::STDOUT_FILENO, b"answer octets\n");
+    run(&mut input, &mut room, &mut octets, &mut frames, &mut row);
+}

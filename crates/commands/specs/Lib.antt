@@ -1,0 +1,2 @@
+-- The table of calls of a script.
+pub mod Commands

@@ -1,0 +1,2 @@
+-- What lines a text has, read in pieces.
+pub mod Lines

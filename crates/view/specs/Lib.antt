@@ -1,0 +1,3 @@
+-- What the view of a table shows.
+pub mod View
+pub mod ViewLaws

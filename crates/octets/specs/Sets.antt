@@ -6,7 +6,7 @@ use Prim.Native.Nat.{ℕ, zero, suc, _+_, _-_, _≤_, _<_, min}
 use native.Mathlib.Nat.{add-suc, suc-add, add-zero, zero-add, not-suc-le-zero}
 use native.Mathlib.Omega.{arith}
 use lib.ListN.{length, take, drop, getD, set, length-set, length-append, length-drop, length-take, take-append-drop}
-use lib.Seq.{sets, sets-eq, length-sets, getD-set-same, getD-set-other, set-out, set-set, set-comm, set-append-left, length-take-le, take-all, take-nil, getD-drop, getD-take, drop-cons, drop-drop, ext-getD}
+use lib.Seq.{sets, sets-eq, length-sets, getD-set-same, getD-set-other, set-out, set-set, set-comm, set-append-left, length-take-le, take-all, take-nil, getD-drop, getD-take, drop-cons, drop-drop, take-add, take-take, ext-getD}
 use borrow.Rule.Slice.PartMut.{midOf, putMid, post-is}
 use Rattle.octets.specs.Octets.{part}
 
@@ -143,6 +143,69 @@ module _ {A : Type 0} where
   pub tail-part : (n : ℕ) (xs : List A) → part xs n (length xs - n) ≡ drop n xs
   tail-part n xs = take-all (length xs - n) (drop n xs) (rw length-drop (omega arith))
 
+  -- ---- a run that is written in pieces which may overlap
+
+  -- what is written over a shorter run is all that stays
+  sets-hide : (xs : List A) (at : ℕ) (ys zs : List A) → length ys ≤ length zs → sets (sets xs at ys) at zs ≡ sets xs at zs
+  sets-hide xs at [] zs h = refl
+  sets-hide xs at (y ∷ ys) [] h = absurd (omega arith)
+  sets-hide xs at (y ∷ ys) (z ∷ zs) h =
+      ap (λ (l : List A). sets l (suc at) zs) (sym (sets-set (set xs at y) (suc at) ys at z (omega arith)) ∙ ap (λ (l : List A). sets l (suc at) ys) (set-set xs at y z))
+      ∙ sets-hide (set xs at z) (suc at) ys zs (omega arith)
+
+  part-split : (xs : List A) (from a b : ℕ) → part xs from (a + b) ≡ part xs from a ++ part xs (from + a) b
+  part-split xs from a b = take-add a b (drop from xs) ∙ ap (λ (r : List A). take a (drop from xs) ++ take b r) (drop-drop a from xs)
+
+  -- a part is written from its place k on, over a part of it that reaches k and not beyond: the whole is written
+  pub written-over : (l xs : List A) (at from w k e : ℕ) → k ≤ w → w ≤ k + e → from + (k + e) ≤ length xs
+      → sets (sets l at (part xs from w)) (at + k) (part xs (from + k) e) ≡ sets l at (part xs from (k + e))
+  written-over l xs at from w k e h g r =
+      let a = part xs from k in
+      let b = part xs (from + k) (w - k) in
+      let c = part xs (from + k) e in
+      let lk : length a ≡ k = part-length xs from k (omega arith) in
+      let lb : length b ≡ w - k = part-length xs (from + k) (w - k) (omega arith) in
+      let lc : length c ≡ e = part-length xs (from + k) e (omega arith) in
+      let sw : k + (w - k) ≡ w = omega arith in
+      let pw : part xs from w ≡ a ++ b = rw sw at (part-split xs from k (w - k)) in
+      let ab : sets l at (a ++ b) ≡ sets (sets l at a) (at + k) b = rw lk at (sets-append l at a b) in
+      let ac : sets l at (a ++ c) ≡ sets (sets l at a) (at + k) c = rw lk at (sets-append l at a c) in
+      ap (λ (p : List A). sets (sets l at p) (at + k) c) pw
+      ∙ ap (λ (p : List A). sets p (at + k) c) ab
+      ∙ sets-hide (sets l at a) (at + k) b c (omega arith)
+      ∙ sym ac
+      ∙ ap (sets l at) (sym (part-split xs from k e))
+
+  part-cons : (d : A) (xs : List A) (from n : ℕ) → from < length xs → part xs from (suc n) ≡ getD xs from d ∷ part xs (suc from) n
+  part-cons d xs from n h = ap (take (suc n)) (drop-cons xs from d h)
+
+  -- one store of a run
+  stored : (d : A) (l xs : List A) (at from k n : ℕ) → from + k < length xs
+      → sets l (at + k) (part xs (from + k) (suc n)) ≡ sets (set l (at + k) (getD xs (from + k) d)) (at + suc k) (part xs (from + suc k) n)
+  stored d l xs at from k n h = rw (add-suc at k, add-suc from k) (ap (sets l (at + k)) (part-cons d xs (from + k) n h))
+
+  -- eight stores are a run of eight
+  pub eight-stores : (d : A) (l xs : List A) (at from : ℕ) → from + 8 ≤ length xs
+      → set (set (set (set (set (set (set (set l at (getD xs from d)) (at + 1) (getD xs (from + 1) d)) (at + 2) (getD xs (from + 2) d)) (at + 3) (getD xs (from + 3) d))
+      (at + 4) (getD xs (from + 4) d)) (at + 5) (getD xs (from + 5) d)) (at + 6) (getD xs (from + 6) d)) (at + 7) (getD xs (from + 7) d) ≡ sets l at (part xs from 8)
+  eight-stores d l xs at from h =
+      let l0 = set l at (getD xs from d) in
+      let l1 = set l0 (at + 1) (getD xs (from + 1) d) in
+      let l2 = set l1 (at + 2) (getD xs (from + 2) d) in
+      let l3 = set l2 (at + 3) (getD xs (from + 3) d) in
+      let l4 = set l3 (at + 4) (getD xs (from + 4) d) in
+      let l5 = set l4 (at + 5) (getD xs (from + 5) d) in
+      let l6 = set l5 (at + 6) (getD xs (from + 6) d) in
+      let first : sets l at (part xs from 8) ≡ sets l0 (at + 1) (part xs (from + 1) 7) = rw (add-zero at, add-zero from) at (stored d l xs at from 0 7 (omega arith)) in
+      sym (first
+      ∙ stored d l0 xs at from 1 6 (omega arith)
+      ∙ stored d l1 xs at from 2 5 (omega arith)
+      ∙ stored d l2 xs at from 3 4 (omega arith)
+      ∙ stored d l3 xs at from 4 3 (omega arith)
+      ∙ stored d l4 xs at from 5 2 (omega arith)
+      ∙ stored d l5 xs at from 6 1 (omega arith)
+      ∙ stored d l6 xs at from 7 0 (omega arith))
+
 -- The loop that writes `vs` over `l₀` from index `at` on, one element a turn, of which i are written. Its invariant: with the rest written
 -- too, it is the whole run. Its start, its turn, and its end, where nothing is left to write or no place.
 pub record Writing {A : Type 0} (l₀ : List A) (at : ℕ) (vs : List A) (i : ℕ) (l : List A) : Type 0 where
@@ -166,3 +229,34 @@ module _ {A : Type 0} {l₀ l vs : List A} {at i : ℕ} (w : Writing l₀ at vs 
       stop : (ys : List A) → min (length l - (at + i)) (length ys) ≡ 0 → sets l (at + i) ys ≡ l
       stop [] h = refl
       stop (y ∷ ys) h = sets-out l (at + i) (y ∷ ys) (omega arith)
+
+-- so many of a run were written at once
+writing-at : {A : Type 0} (l : List A) (at : ℕ) (vs : List A) (m : ℕ) → m ≤ length vs → Writing l at vs m (sets l at (take m vs))
+writing-at l at vs m h =
+    let e : length (take m vs) ≡ m = length-take-le m vs h in
+    record { long = length-sets l at (take m vs); is = sym (rw e at (sets-append l at (take m vs) (drop m vs))) ∙ ap (sets l at) (take-append-drop m vs) }
+
+least-of : (m n a b : ℕ) → m ≡ min n (min a b) → (m ≤ n) × (m ≤ min n b) × (min a (min n b) ≤ m)
+least-of m n a b e = (omega arith, omega arith, omega arith)
+
+-- what is copied as far as both lists reach is all that is copied
+module _ {A : Type 0} (l xs : List A) (at from n m : ℕ) (e : m ≡ min n (min (length l - at) (length xs - from))) where
+  reached : length (part xs from n) ≡ min n (length xs - from)
+  reached = length-take n (drop from xs) ∙ ap (min n) (length-drop from xs)
+
+  pub copied-all : sets l at (part xs from m) ≡ sets l at (part xs from n)
+  copied-all =
+      let (low, within, end) = least-of m n (length l - at) (length xs - from) e in
+      ap (sets l at) (sym (take-take m n (drop from xs) low)) ∙ writing-end (writing-at l at (part xs from n) m (rw reached within)) (rw reached end)
+
+  pub copied-none : m ≡ 0 → l ≡ sets l at (part xs from n)
+  copied-none z = rw z at copied-all
+
+  -- the last eight are copied over the whole eights
+  pub copied-eight : (w : ℕ) (l₁ l₂ : List A) → 8 ≤ m → w ≤ m → m < w + 8 → l₁ ≡ sets l at (part xs from w) → l₂ ≡ sets l₁ (at + (m - 8)) (part xs (from + (m - 8)) 8) → l₂ ≡ sets l at (part xs from n)
+  copied-eight w l₁ l₂ h g k e₁ e₂ =
+      let sum : m - 8 + 8 ≡ m = omega arith in
+      let far : from + m ≤ length xs = omega arith in
+      rw e₁ at e₂
+      ∙ rw sum at (written-over l xs at from w (m - 8) 8 (omega arith) (omega arith) (rw sum far))
+      ∙ copied-all

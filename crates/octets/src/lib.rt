@@ -1,8 +1,8 @@
 // Octets in lent slices: copied, zeroed, moved down, and numbers of two octets read and written, the lower first.
 // Every function is total: a place past the end reads as 0 and takes no store, as in the list terms of the contracts.
 ghost use mathlib.Core.Path.{_≡_};
-ghost use Prim.Native.Nat.{_-_, _≤_, min};
-ghost use lib.ListN.{getD, set, replicate};
+ghost use Prim.Native.Nat.{_+_, _-_, _≤_, _<_, min};
+ghost use lib.ListN.{length, getD, set, replicate};
 ghost use lib.Seq.{sets};
 ghost use Rattle.octets.specs.Octets.{part, u16At, le16};
 
@@ -20,15 +20,59 @@ pub fn left(len: usize, at: usize) -> usize
     if at < len { len - at } else { 0 }
 }
 
-// Copies the `n` octets of `src` from index `from` on into `dst` from index `at` on, as far as both reach.
+// As many of `m` octets as are copied one by one: all where they are under eight, else the whole eights.
+fn whole(m: usize) -> usize
+    ensures { λ r. ⌜ (r ≤ m) × (m < r + 8) × (m < 8 → r ≡ m) ⌝ }
+{
+    if m < 8 { m } else { m - m % 8 }
+}
+
+fn copy_run(dst: &mut [u8], at: usize, src: &[u8], from: usize, count: usize)
+    requires { ⌜ (at + count ≤ length (now dst)) × (from + count ≤ length (now src)) ⌝ }
+    ensures { λ _. ⌜ now (dst .exit) ≡ sets (now (dst .entry)) at (part (now (src .entry)) from count) ⌝ }
+{
+    let mut i: usize = 0;
+    while i < count {
+        dst[at + i] = src[from + i];
+        i += 1;
+    }
+}
+
+// Eight octets, all read before the first is written: one move of the machine.
+fn copy_eight(dst: &mut [u8], at: usize, src: &[u8], from: usize)
+    requires { ⌜ (at + 8 ≤ length (now dst)) × (from + 8 ≤ length (now src)) ⌝ }
+    ensures { λ _. ⌜ now (dst .exit) ≡ sets (now (dst .entry)) at (part (now (src .entry)) from 8) ⌝ }
+{
+    let a = src[from];
+    let b = src[from + 1];
+    let c = src[from + 2];
+    let d = src[from + 3];
+    let e = src[from + 4];
+    let f = src[from + 5];
+    let g = src[from + 6];
+    let h = src[from + 7];
+    dst[at] = a;
+    dst[at + 1] = b;
+    dst[at + 2] = c;
+    dst[at + 3] = d;
+    dst[at + 4] = e;
+    dst[at + 5] = f;
+    dst[at + 6] = g;
+    dst[at + 7] = h;
+}
+
+// Copies the `n` octets of `src` from index `from` on into `dst` from index `at` on, as far as both reach. Behind
+// the whole eights the last eight are moved once more and at once, since single octets at the end take longest.
 pub fn copy_to(dst: &mut [u8], at: usize, src: &[u8], from: usize, n: usize)
     ensures { λ _. ⌜ now (dst .exit) ≡ sets (now (dst .entry)) at (part (now (src .entry)) from n) ⌝ }
 {
     let m = least(n, least(left(dst.len(), at), left(src.len(), from)));
-    let mut i: usize = 0;
-    while i < m {
-        dst[at + i] = src[from + i];
-        i += 1;
+    if m == 0 {
+        return;
+    }
+    copy_run(dst, at, src, from, whole(m));
+    if 8 <= m {
+        copy_eight(dst, at + (m - 8), src, from + (m - 8));
     }
 }
 

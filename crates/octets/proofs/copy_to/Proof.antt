@@ -1,82 +1,81 @@
--- `octets::copy_to` meets its contract: the loop writes the part of `src` (Writing).
-use Prim.Native.Nat.{_-_, _≤_}
-use native.Mathlib.Omega.{arith}
-use borrow.Author.Needs.{needs}
-use lib.ListN.{length-take, length-drop}
+-- `octets::copy_to` meets its contract: a run, and where eight or more are copied the last eight once more (copied-eight), are all that is
+-- copied.
+use mathlib.Core.Path.{ap, ap₂, _∙_}
+use Prim.Native.Nat.{ℕ, min}
+use lib.Seq.{sets}
 use Rattle.octets.specs.Octets.{part}
-use Rattle.octets.specs.Sets.{Writing, writing-none, writing-more, writing-end, part-at}
+use borrow.Author.Needs.{needs}
+use Rattle.octets.specs.Sets.{copied-none, copied-all, copied-eight}
 use Rattle.octets.proofs.copy_to.Statement.{statement}
 use Rattle.octets.proofs.copy_to.Tie as tie
 
-abbrev Inv-loop : tie.InvT-loop
-Inv-loop dst₀ at src from n m i₀ dst i = (i ≤ m) × Writing dst₀ at (part src from n) i dst
-
-abbrev μ-loop : tie.MeasureT-loop
-μ-loop dst₀ at src from n m i₀ dst i = m - i
-
-left-requires : tie.Need-left-requires Inv-loop μ-loop
+left-requires : tie.Need-left-requires
 left-requires c κs = search needs
 
-left-requires-2 : tie.Need-left-requires-2 Inv-loop μ-loop
+left-requires-2 : tie.Need-left-requires-2
 left-requires-2 c κs = search needs
 
-least-requires : tie.Need-least-requires Inv-loop μ-loop
+least-requires : tie.Need-least-requires
 least-requires c κs = search needs
 
-least-requires-2 : tie.Need-least-requires-2 Inv-loop μ-loop
+least-requires-2 : tie.Need-least-requires-2
 least-requires-2 c κs = search needs
 
-loop-holds : tie.Need-loop-holds Inv-loop μ-loop
-loop-holds c = (omega arith, writing-none)
-
-add-dst : tie.Need-add-dst Inv-loop μ-loop
-add-dst c = omega arith
-
-shared-slice-read-dst : tie.Need-shared-slice-read-dst Inv-loop μ-loop
-shared-slice-read-dst c = omega arith
-
-add-dst-2 : tie.Need-add-dst-2 Inv-loop μ-loop
-add-dst-2 c = omega arith
-
-slice-write-dst : tie.Need-slice-write-dst Inv-loop μ-loop
-slice-write-dst c = omega arith
-
-add-i : tie.Need-add-i Inv-loop μ-loop
-add-i c = omega arith
-
-loop-less : tie.Need-loop-less Inv-loop μ-loop
-loop-less c = omega arith
-
-loop-again : tie.Need-loop-again Inv-loop μ-loop
-loop-again c =
-    let l = c .before .before .loop in
-    let a = c .before .before .before .before .before .before .before .before .before .args in
-    (omega arith, writing-more (l .inv .1) 0 _ (part-at 0 (a .src .now) (a .from) (a .n) (l .i) (omega arith)) (rw (length-take, length-drop) (omega arith)))
-
-same-length : tie.Need-same-length Inv-loop μ-loop
-same-length c = c .before .loop .inv .1 .long
-
-returns : tie.Need-returns Inv-loop μ-loop
+returns : tie.Need-returns
 returns c =
-    writing-end (c .before .loop .inv .1) (rw (length-take, length-drop) (omega arith))
+    let a = c .before .before .before .before .before .before .before .args in
+    copied-none (a .dst .now) (a .src .now) (a .at) (a .from) (a .n) _ (c .before .least2 .ensures ∙ ap (min (a .n)) (c .before .before .least .ensures ∙ ap₂ min (c .before .before .before .before .left .ensures) (c .before .before .before .left2 .ensures))) (c .if1 .taken)
+
+whole-requires : tie.Need-whole-requires
+whole-requires c κs = search needs
+
+copy-run-requires : tie.Need-copy-run-requires
+copy-run-requires c κs = search needs
+
+add-copy-eight : tie.Need-add-copy-eight
+add-copy-eight c = search needs
+
+add-copy-eight-2 : tie.Need-add-copy-eight-2
+add-copy-eight-2 c = search needs
+
+copy-eight-requires : tie.Need-copy-eight-requires
+copy-eight-requires c κs = search needs
+
+same-length : tie.Need-same-length
+same-length c = search needs
+
+returns-2 : tie.Need-returns-2
+returns-2 c =
+    let a = c .before .before .before .before .before .before .before .before .before .before .before .before .before .before .before .before .before .args in
+    let w = c .before .before .before .before .before .before .before .before .whole in
+    copied-eight (a .dst .now) (a .src .now) (a .at) (a .from) (a .n) _ (c .before .before .before .before .before .before .before .before .before .before .before .least2 .ensures ∙ ap (min (a .n)) (c .before .before .before .before .before .before .before .before .before .before .before .before .least .ensures ∙ ap₂ min (c .before .before .before .before .before .before .before .before .before .before .before .before .before .before .left .ensures) (c .before .before .before .before .before .before .before .before .before .before .before .before .before .left2 .ensures)))
+    (w .result) _ _ (c .before .before .before .before .if2 .taken) (w .ensures .0) (w .ensures .1) (c .before .before .before .before .before .before .before .copy-run .ensures) (c .before .before .copy-eight .ensures)
+
+same-length-2 : tie.Need-same-length-2
+same-length-2 c = search needs
+
+returns-3 : tie.Need-returns-3
+returns-3 c =
+    let a = c .before .before .before .before .before .before .before .before .before .before .before .before .before .args in
+    c .before .before .before .copy-run .ensures
+    ∙ ap (λ (k : ℕ). sets (a .dst .now) (a .at) (part (a .src .now) (a .from) k)) (c .before .before .before .before .whole .ensures .2 (c .if2 .left))
+    ∙ copied-all (a .dst .now) (a .src .now) (a .at) (a .from) (a .n) _ (c .before .before .before .before .before .before .before .least2 .ensures ∙ ap (min (a .n)) (c .before .before .before .before .before .before .before .before .least .ensures ∙ ap₂ min (c .before .before .before .before .before .before .before .before .before .before .left .ensures) (c .before .before .before .before .before .before .before .before .before .left2 .ensures)))
 
 pub copy-to-spec : {M : Type 1} → statement M
 copy-to-spec =
     tie.close
     (tie.spec
-    Inv-loop
-    μ-loop
     left-requires
     left-requires-2
     least-requires
     least-requires-2
-    loop-holds
-    add-dst
-    shared-slice-read-dst
-    add-dst-2
-    slice-write-dst
-    add-i
-    loop-less
-    loop-again
+    returns
+    whole-requires
+    copy-run-requires
+    add-copy-eight
+    add-copy-eight-2
+    copy-eight-requires
     same-length
-    returns)
+    returns-2
+    same-length-2
+    returns-3)

@@ -1,4 +1,4 @@
-// The table read from its octets: a slot from its row, the tests that the octets are a spelling, the whole table.
+// A slot read from its row of the table's octets, and the test that the row is its spelling; `layout_decode` reads the whole table.
 // It stands on `layout`, whose specs/Layout.antt says what the octets mean.
 use channel::ChannelState;
 use channel::Peer;

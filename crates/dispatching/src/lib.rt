@@ -40,7 +40,7 @@ fn admitted(t: Table, room: &mut [u8], link: u16, cid: Cid, payload: &[u8]) -> S
     if no_credit {
         return slots::refused(t, Refusal::OutOfMemory);
     }
-    let y = slot::with_account(x, account.confirm_received(1));
+    let y = slot::with_account(x, account::received_through(account, 1));
     joining::join(t, room, s, y, payload)
 }
 

@@ -1,15 +1,16 @@
 // A finished job taken from a slot (`receive` in the original): it is copied to the lent buffer, the later jobs move up one place, and a
-// credit signal is written where a grant is due. The contract is the equation with the definition of that call; specs/Handed.antt brings
-// the octets that are copied and moved to it.
+// credit signal is written where a grant is due. The contract is the equation with the definition of that call; it rests on `handing`.
 ghost use mathlib.Core.Path.{_≡_};
 ghost use mathlib.Core.List.{[]};
 ghost use Prim.Native.Nat.{_≤_, _<_};
 ghost use lib.ListN.{length};
 ghost use Rattle.channel.specs.Limits.{signalMost};
 ghost use Rattle.definition.specs.Ending.{end, endOf};
-ghost use Rattle.definition.specs.Frames.{grantIn, receive};
+ghost use Rattle.credit.specs.declared.Grant.the-variants.{Credits};
+ghost use Rattle.definition.specs.Frames.{grantIn, taken, receive};
 ghost use Rattle.room.specs.Placed.{RoomOf};
 ghost use Rattle.receiving.specs.Taken.{crediting, takenOn};
+use channel::CID_BASE;
 use channel::ChannelIndex;
 use channel::Given;
 use channel::Served;
@@ -61,16 +62,30 @@ fn take(t: Table, room: &mut [u8], signal: &mut [u8], s: usize, job: &mut [u8]) 
     }
     match grant_in(x) {
         Grant::Nothing => handing::hand(t, room, s, x, job, 0),
-        Grant::Credits(n) => {
-            let u = slots::spent(t);
-            let id = slots::next_id(t);
-            let a = x.account;
-            let y = slot::with_account(x, a.confirm_granted(n));
-            let ind = credits_of(s, n);
-            let octets = reply::reply(signal, id, Signal::LeCreditFlowInd(ind));
-            handing::hand(u, room, s, y, job, octets)
-        }
+        Grant::Credits(n) => hand_and_grant(t, room, signal, s, x, job, n),
     }
+}
+
+// Slot s, as x, hands its oldest job out, and its peer is granted n credits: the signal uses an identifier, and the credits are booked.
+fn hand_and_grant(
+    t: Table,
+    room: &mut [u8],
+    signal: &mut [u8],
+    s: usize,
+    x: Slot,
+    job: &mut [u8],
+    n: u16,
+) -> Served
+    requires { ⌜ RoomOf t (length (now room)) × (s < t .n) × (signalMost ≤ length (now signal)) × (0 < x .queue .count) ⌝ }
+    ensures { λ r. ⌜ end r (now (room .exit)) (now (signal .exit)) (now (job .exit)) ≡ endOf t [] (now (room .entry)) (now (signal .entry)) (now (job .entry)) (taken t s x (length (now (job .entry))) (Credits n)) ⌝ }
+{
+    let u = slots::spent(t);
+    let id = slots::next_id(t);
+    let a = x.account;
+    let y = slot::with_account(x, account::granted_through(a, n));
+    let ind = credits_of(s, n);
+    let octets = reply::reply(signal, id, Signal::LeCreditFlowInd(ind));
+    handing::hand(u, room, s, y, job, octets)
 }
 
 // What is granted: only a channel that is Connected gets new credits.
@@ -91,7 +106,7 @@ fn credits_of(s: usize, n: u16) -> LeCreditFlowInd
     ensures { λ r. ⌜ r ≡ crediting s n ⌝ }
 {
     LeCreditFlowInd {
-        cid: 0x40 + s as u16,
+        cid: CID_BASE + s as u16,
         credits: n,
     }
 }

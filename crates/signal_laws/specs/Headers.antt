@@ -1,7 +1,7 @@
 -- The header check over what is written, and over what it gives back.
 use mathlib.Core.Path.{_≡_, sym, _∙_}
 use mathlib.Core.List.{List, []}
-use Prim.Native.Nat.{ℕ, _+_, _-_, _*_, _<_}
+use Prim.Native.Nat.{ℕ, _+_, _-_, _*_, _≤_, _<_}
 use native.Mathlib.Omega.{arith}
 use lib.ListN.{drop, length, length-drop, drop-of-length-le}
 use lib.Dec.{ltb}
@@ -80,11 +80,14 @@ rest-good s g =
     (λ h _. rw (drop-of-length-le s {i = sizeOf s} (omega (arith, ltb-false 0 (length s) h))))
     (sym (headers-eq s) ∙ g))
 
--- what is given back is shorter, so that a PDU is done with after as many calls as it has signals
+-- what is given back is shorter
+less : (k : Checked) (s : List ℕ) → length (restIf k s) ≤ length s - 1
+less Good s = simp length-drop (omega arith)
+less Cut s = omega arith
+less (Past i) s = omega arith
+
+pub rest-less : (s : List ℕ) → length (restOf s) ≤ length s - 1
+rest-less s = less (headersOf s) s
+
 pub rest-shorter : (s : List ℕ) → 0 < length s → length (restOf s) < length s
-rest-shorter s h = go (headersOf s)
-  where
-    go : (k : Checked) → length (restIf k s) < length s
-    go Good = rw length-drop (omega arith)
-    go Cut = h
-    go (Past i) = h
+rest-shorter s h = omega (arith, rest-less s)

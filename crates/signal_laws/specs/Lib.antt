@@ -2,4 +2,5 @@
 pub mod Fields
 pub mod RoundTrip
 pub mod Headers
+pub mod Feeding
 pub mod Buffer

@@ -16,6 +16,7 @@ pub(crate) use stand_ins::host::{self, Stack};
 pub(crate) use stand_ins::names::{bt_hci_duration, Address, Identity};
 pub(crate) use stand_ins::pool::{Packet, PacketPool};
 
+pub use channel_manager::eyes::encode_job;
 pub use driver::{session, SIZES};
 
 /// Decides the lengths of the original's queues. D is this build's number; the others are drained after each call and so never full.

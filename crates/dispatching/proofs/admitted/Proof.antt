@@ -91,8 +91,8 @@ returns-4 c =
       c .refused3 .ensures,
     ) (sym (end-still _ _ _ _ _ _ _))
 
-confirm-received-requires : tie.Need-confirm-received-requires
-confirm-received-requires c κs = search needs
+received-through-requires : tie.Need-received-through-requires
+received-through-requires c κs = search needs
 
 with-account-requires : tie.Need-with-account-requires
 with-account-requires c κs = search needs
@@ -125,7 +125,7 @@ returns-5 c =
       c .before .before .before .before .before .before .before .before .before .before .before .if2 .left,
       c .before .before .before .before .before .before .before .if3 .left,
       c .before .before .before .before .before .before .if4 .left,
-    ) ((rw (c .before .before .before .before .with-account .ensures, c .before .before .before .before .before .confirm-received .ensures) at (c .before .before .join .ensures))
+    ) ((rw (c .before .before .before .before .with-account .ensures, c .before .before .before .before .before .received-through .ensures) at (c .before .before .join .ensures))
     ∙ sym (frame-joins (g .t) (g .link) (g .cid .0) (g .payload .now) (c .before .before .before .before .before .before .before .before .before .before .before .before .before .before .number .result) (withAccount (received (x .account) 1) x) (g .room .now) is mine))
 
 pub admitted-spec : {M : Type 1} → statement M
@@ -145,7 +145,7 @@ admitted-spec =
     returns-3
     refused-requires-3
     returns-4
-    confirm-received-requires
+    received-through-requires
     with-account-requires
     join-requires
     same-length

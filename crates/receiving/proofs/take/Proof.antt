@@ -1,11 +1,10 @@
--- `receiving::take` meets its contract: the definition's tests in its order, and what was handed out and written is its end (takes, takes-granting).
+-- `receiving::take` meets its contract: the definition's tests in its order, and what was handed out is its end (takes).
 use mathlib.Core.Path.{sym}
-use native.Mathlib.Omega.{arith}
 use borrow.Author.Tests.{eq-eqb, ne-eqb}
 use Rattle.lists.specs.Choose.{choose}
 use Rattle.definition.specs.Mem.{sizes}
 use Rattle.definition.specs.Ending.{end-still}
-use Rattle.receiving.specs.Taken.{room-spent, takes, takes-granting}
+use Rattle.receiving.specs.Taken.{takes}
 use borrow.Author.Needs.{needs}
 use Rattle.receiving.proofs.take.Statement.{statement}
 use Rattle.receiving.proofs.take.Tie as tie
@@ -72,32 +71,8 @@ hand-requires c κs = search needs
 enum-known-n : tie.Need-enum-known-n
 enum-known-n c = search needs
 
-spent-requires : tie.Need-spent-requires
-spent-requires c κs = search needs
-
-next-id-requires : tie.Need-next-id-requires
-next-id-requires c κs = search needs
-
-confirm-granted-requires : tie.Need-confirm-granted-requires
-confirm-granted-requires c κs = search needs
-
-with-account-requires : tie.Need-with-account-requires
-with-account-requires c κs = search needs
-
-credits-of-requires : tie.Need-credits-of-requires
-credits-of-requires c κs =
-    let p = c .before .before .before .before .before .before .before .before .before .before .before .before .before .before .before .before .before .before .before .before .pre in
-    omega (arith, p .0 .sizes .n-most, p .1)
-
-reply-requires : tie.Need-reply-requires
-reply-requires c κs = c .before .before .before .before .before .before .before .before .before .before .before .before .before .before .before .before .before .before .before .before .before .before .pre .2
-
-hand-requires-2 : tie.Need-hand-requires-2
-hand-requires-2 c κs =
-    let p = c .before .before .before .before .before .before .before .before .before .before .before .before .before .before .before .before .before .before .before .before .before .before .before .before .before .before .before .pre in
-    let e = c .before .before .before .before .before .before .before .before .before .before .before .spent .ensures in
-    let y = c .before .before .before .before .before .before .before .with-account in
-    (room-spent e (p .0), rw e (p .1), rw (y .ensures) (omega (arith, c .before .before .before .before .before .before .before .before .before .before .before .before .before .before .before .before .if2 .left)))
+hand-and-grant-requires : tie.Need-hand-and-grant-requires
+hand-and-grant-requires c κs = search needs
 
 same-length : tie.Need-same-length
 same-length c = search needs
@@ -134,25 +109,18 @@ same-length-5 c = search needs
 returns-4 : tie.Need-returns-4
 unfolding choose
 returns-4 c =
-    let f = c .before .before .before .before .before .before .before .before .before .before .before .before .before .before .before .before .before .before .before .before .before .before .before .before in
-    let a = c .before .before .before .before .before .before .before .before .before .before .before .before .before .before .before .before .before .before .before .before .before .before .before .before .before .before .before .before .before .before .before .before .args in
+    let f = c .before .before .before .before .before .before .before .before .before .before .before .before .before .before .before .before .before in
     rw (
       ← f .before .before .before .before .slot-at .ensures,
       ← f .before .before .before .is-disconnected .ensures,
       ← f .before .before .is-connecting .ensures,
       ← f .before .is-peer-connecting .ensures,
       ← f .is-connect-failed .ensures,
-      c .before .before .before .before .before .before .before .before .before .before .before .before .before .before .before .before .before .before .before .before .before .before .before .if1 .left,
-      ne-eqb _ _ (c .before .before .before .before .before .before .before .before .before .before .before .before .before .before .before .before .before .before .before .before .before .if2 .left),
-      ← c .before .before .before .before .before .before .before .before .before .before .before .before .before .before .before .before .before .before .before .before .grant-in .ensures,
-      c .before .before .before .before .before .before .before .before .before .before .before .before .before .before .before .before .before .before .n .given .1,
-    ) (takes-granting (a .t) (a .s) _ (a .signal .now)
-    (c .before .before .before .before .before .before .before .before .before .before .before .before .before .before .before .before .spent .ensures)
-    (rw (c .before .before .before .before .before .before .before .before .before .before .before .before .before .confirm-granted .ensures) at (c .before .before .before .before .before .before .before .before .before .before .before .before .with-account .ensures))
-    (c .before .before .before .before .before .before .before .before .before .before .before .before .before .before .before .next-id .ensures)
-    (c .before .before .before .before .before .before .before .before .before .before .before .credits-of .ensures)
-    (c .before .before .before .before .hand2 .ensures)
-    (c .before .before .before .before .before .before .before .before .before .reply .ensures))
+      c .before .before .before .before .before .before .before .before .before .before .before .before .before .before .before .before .if1 .left,
+      ne-eqb _ _ (c .before .before .before .before .before .before .before .before .before .before .before .before .before .before .if2 .left),
+      ← c .before .before .before .before .before .before .before .before .before .before .before .before .before .grant-in .ensures,
+      c .before .before .before .before .before .before .before .before .before .before .before .n .given .1,
+    ) (c .before .before .before .before .before .before .hand-and-grant .ensures)
 
 pub take-spec : {M : Type 1} → statement M
 take-spec =
@@ -171,13 +139,7 @@ take-spec =
     enum-told
     hand-requires
     enum-known-n
-    spent-requires
-    next-id-requires
-    confirm-granted-requires
-    with-account-requires
-    credits-of-requires
-    reply-requires
-    hand-requires-2
+    hand-and-grant-requires
     same-length
     same-length-2
     returns-3

@@ -1,8 +1,8 @@
 //! Reads the records and calls the private functions of the channel manager, of which this is a child module. The writes are
 //! `hide` and `restore`, which keep slots out of one scan, `close`, which is the body of the original's `OnDrop` in `create`, and the two
-//! halves of a planted fault.
+//! halves of a planted fault. `encode_job` is for `../speed` alone.
 
-use super::{ChannelIndex, ChannelManager, ChannelState, CreditFlowPolicy, DisconnectRequest};
+use super::{encode, ChannelIndex, ChannelManager, ChannelState, CreditFlowPolicy, DisconnectRequest};
 use crate::host::BleHost;
 use crate::l2cap::sar::eyes::{assembly, Assembly};
 use crate::l2cap::sar::PacketReassembly;
@@ -133,4 +133,16 @@ impl<P: PacketPool> DisconnectRequest<'_, P> {
     pub(crate) fn slot(&self) -> usize {
         usize::from(self.index.0)
     }
+}
+
+/// The lines of `send` that cut a job, without the controller between them: every frame by the original's `encode`, one after the other in
+/// `out`. The octets written, or nothing where `out` is too short.
+pub fn encode_job(buf: &[u8], out: &mut [u8], peer_cid: u16, mps: u16) -> Option<usize> {
+    let (first, remaining) = buf.split_at(buf.len().min(mps as usize - 2));
+    let mut at = encode(first, &mut out[..], peer_cid, Some(buf.len() as u16)).ok()?;
+    let chunks = remaining.chunks(mps as usize);
+    for chunk in chunks {
+        at += encode(chunk, &mut out[at..], peer_cid, None).ok()?;
+    }
+    Some(at)
 }

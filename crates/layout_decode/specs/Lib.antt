@@ -1,0 +1,3 @@
+-- The tests by which whole tables are known, against the definition of reading.
+pub mod Columns
+pub mod Whole

@@ -1,2 +1,0 @@
--- A whole PDU, fed one call a signal.
-pub mod Rest

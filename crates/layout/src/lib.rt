@@ -1,5 +1,5 @@
 // The table as octets: where each column is, and states and policies as octets. What the octets mean is in specs/Layout.antt.
-// It stands on the table's types; the crates `layout_read` and `layout_write` read and write whole tables.
+// It stands on the table's types; `layout_read` and `layout_write` read and write one row, `layout_decode` and `layout_encode` whole tables.
 use channel::ChannelState;
 use channel::DEPTH;
 use channel::SLOTS;

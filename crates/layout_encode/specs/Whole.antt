@@ -1,0 +1,122 @@
+-- All rows written are the columns, whatever stood there before; with the head before them they are the spelling of the table.
+use mathlib.Core.Path.{_≡_, refl, sym, ap, _∙_}
+use mathlib.Core.Bool.{Bool, true, false}
+use mathlib.Core.List.{List, [], _∷_, _++_, map}
+use Prim.Native.Nat.{ℕ, zero, suc, _+_, _-_, _*_, _/_, _%_, _≤_, _<_}
+use native.Mathlib.Nat.{zero-add}
+use native.Mathlib.Numerals.{add-one}
+use native.Mathlib.Omega.{arith}
+use lib.Dec.{ltb}
+use lib.ListN.{length, getD, drop, replicate}
+use lib.Seq.{sets, length-sets, drop-cons, drop-length, take-all, ext-getD}
+use borrow.Author.Tests.{ltb-true, ltb-false}
+use Rattle.octets.specs.Octets.{part}
+use Rattle.octets.specs.Sets.{sets-append, sets-before, sets-after, sets-inside}
+use Rattle.channel.specs.Limits.{slotsMost}
+use Rattle.channel.specs.declared.Slot.{Slot}
+use Rattle.channel.specs.declared.Table.{Table}
+use Rattle.layout.specs.Layout.{layoutNumber, spsmOctets, headOctets, columnCount, tableOctets, cell, row, tabulate, head, columns, spell}
+use Rattle.layout_write.specs.Cells.{place, puts, putRows, puts-length, rows-length, rows-other, rows-same}
+
+-- ---- an element of a tabulated list
+
+pub tabulate-length : {A : Type 0} (f : ℕ → A) (n : ℕ) → length (tabulate f n) ≡ n
+unfolding tabulate
+tabulate-length f zero = refl
+tabulate-length f (suc n) = ap suc (tabulate-length (λ k. f (suc k)) n)
+
+pub tabulate-at : {A : Type 0} (f : ℕ → A) (n k : ℕ) (d : A) → k < n → getD (tabulate f n) k d ≡ f k
+unfolding tabulate
+tabulate-at f zero k d h = absurd (omega arith)
+tabulate-at f (suc n) zero d h = refl
+tabulate-at f (suc n) (suc k) d h = tabulate-at (λ j. f (suc j)) n k d (omega arith)
+
+pub columns-length : (xs : List Slot) → length (columns xs) ≡ slotsMost * columnCount
+unfolding columns
+columns-length xs = tabulate-length (λ k. getD (getD (map row xs) (k % slotsMost) []) (k / slotsMost) 0) (slotsMost * columnCount)
+
+pub columns-at : (xs : List Slot) (k : ℕ) → k < slotsMost * columnCount → getD (columns xs) k 0 ≡ getD (getD (map row xs) (k % slotsMost) []) (k / slotsMost) 0
+unfolding columns
+columns-at xs k h = tabulate-at (λ j. getD (getD (map row xs) (j % slotsMost) []) (j / slotsMost) 0) (slotsMost * columnCount) k 0 h
+
+-- ---- all rows
+
+pub below-or : {P : Type 0} (a b : ℕ) → (a < b → P) → (b ≤ a → P) → P
+below-or {P} a b f g = go (ltb a b) refl
+  where
+    go : (t : Bool) → ltb a b ≡ t → P
+    go true e = f (ltb-true a b e)
+    go false e = g (ltb-false a b e)
+
+module _ (o : List ℕ) (xs : List Slot) (fits : tableOctets ≤ length o) (all : length xs ≡ slotsMost) where
+  -- an octet in no column
+  apart : (k : ℕ) → ((j e : ℕ) → j < slotsMost → e < columnCount → k ≡ place j e → ⊥) → getD (putRows o 0 xs) k 0 ≡ getD o k 0
+  apart k f = rows-other o 0 xs k (λ j e g h. f j e (omega arith))
+
+  -- an octet of the columns
+  inside : (k : ℕ) → k < slotsMost * columnCount → getD (putRows o 0 xs) (headOctets + k) 0 ≡ getD (columns xs) k 0
+  inside k h =
+      let j = k % slotsMost in
+      let c = k / slotsMost in
+      let e : headOctets + k ≡ place j c = omega arith in
+      let r : cell (putRows o 0 xs) (0 + j) c ≡ getD (getD (map row xs) j []) c 0 = rows-same o 0 xs j c fits (omega arith) (omega arith) (omega arith) in
+      rw e (rw zero-add at r) ∙ sym (columns-at xs k h)
+
+  rows-at : (k : ℕ) → getD (putRows o 0 xs) k 0 ≡ getD (sets o headOctets (columns xs)) k 0
+  rows-at k =
+      let l = columns-length xs in
+      below-or k headOctets
+      (λ h. apart k (λ j e g q r. omega arith) ∙ sym (sets-before 0 o headOctets (columns xs) k h))
+      (λ h. below-or k tableOctets
+      (λ g.
+      let q = k - headOctets in
+      let e : k ≡ headOctets + q = omega arith in
+      rw e (inside q (omega arith) ∙ sym (sets-inside 0 o headOctets (columns xs) q (omega arith) (omega arith))))
+      (λ g. apart k (λ j e m q r. omega arith) ∙ sym (sets-after 0 o headOctets (columns xs) k (omega arith))))
+
+  pub rows-columns : putRows o 0 xs ≡ sets o headOctets (columns xs)
+  rows-columns = ext-getD 0 _ _ (rows-length o 0 xs ∙ sym (length-sets o headOctets (columns xs))) (λ k h. rows-at k)
+
+-- ---- the whole table
+
+pub head-length : (t : Table) → length (t .spsms) ≡ spsmOctets → length (head t) ≡ headOctets
+unfolding head
+head-length t e = omega arith
+
+-- the SPSMs are the whole of what is copied
+pub whole-part : (l : List ℕ) → length l ≡ spsmOctets → part l 0 spsmOctets ≡ l
+whole-part l e = take-all spsmOctets l (omega arith)
+
+-- the head's parts, written one after the other
+pub head-parts : (o : List ℕ) (t : Table) →
+    sets (sets (sets o 0 (layoutNumber ∷ t .n % 256 ∷ t .d % 256 ∷ t .m % 256 ∷ t .m / 256 % 256 ∷ t .identifier ∷ [])) 6 (replicate 10 0)) 16 (t .spsms) ≡ sets o 0 (head t)
+unfolding head
+head-parts o t = refl
+
+pub table-parts : (o : List ℕ) (t : Table) → tableOctets ≤ length o → length (t .slots) ≡ slotsMost → length (t .spsms) ≡ spsmOctets → putRows (sets o 0 (head t)) 0 (t .slots) ≡ sets o 0 (spell t)
+unfolding spell
+table-parts o t h e s =
+    let l = head-length t s in
+    rows-columns (sets o 0 (head t)) (t .slots) (omega (arith, length-sets o 0 (head t))) e
+    ∙ sym (rw (l, zero-add) at (sets-append o 0 (head t) (columns (t .slots))))
+
+-- ---- the loop over the slots
+
+-- The first i are written: with the rest written too, they are all.
+pub record Rowing (o₀ : List ℕ) (xs : List Slot) (i : ℕ) (o : List ℕ) : Type 0 where
+  pub long : length o ≡ length o₀
+  pub is : putRows o i (drop i xs) ≡ putRows o₀ 0 xs
+
+pub rowing-none : {o : List ℕ} {xs : List Slot} → Rowing o xs 0 o
+rowing-none = record { long = refl; is = refl }
+
+module _ {o₀ o : List ℕ} {xs : List Slot} {i : ℕ} (w : Rowing o₀ xs i o) where
+  pub rowing-more : (d : Slot) → i < length xs → Rowing o₀ xs (i + 1) (puts o i 0 (row (getD xs i d)))
+  unfolding putRows
+  rowing-more d h =
+      let r : putRows (puts o i 0 (row (getD xs i d))) (suc i) (drop (suc i) xs) ≡ putRows o₀ 0 xs = rw (drop-cons xs i d h) at (w .is) in
+      record { long = puts-length o i 0 (row (getD xs i d)) ∙ w .long; is = rw add-one r }
+
+  pub rowing-end : i ≡ length xs → o ≡ putRows o₀ 0 xs
+  unfolding putRows
+  rowing-end e = rw (e, drop-length) at (w .is)

@@ -1,9 +1,10 @@
 -- `sending::send_on` meets its contract: the plan is the definition's, and the frames that are cut are the definition's frames (sends).
-use mathlib.Core.Path.{sym, _∙_}
+use mathlib.Core.Path.{_≡_, sym, _∙_}
+use mathlib.Core.List.{[]}
 use native.Mathlib.Omega.{arith}
 use lib.ListN.{length}
 use Rattle.lists.specs.Choose.{choose}
-use Rattle.cutting.specs.Cutting.{outputAfter}
+use Rattle.cutting.specs.Cutting.{planSend, outputAfter}
 use Rattle.cutting.specs.CutLaws.{plan-allowed}
 use Rattle.definition.specs.Mem.{sizes}
 use Rattle.definition.specs.Ending.{end-still}
@@ -47,13 +48,19 @@ enum-known-n c = search needs
 cast-used : tie.Need-cast-used
 cast-used c =
     let w = c .before .before .before .before .before in
-    let k = plan-allowed _ _ _ _ _ _ _ (sym (w .send-job .ensures .0) ∙ c .before .n .given .1) in
+    let a = c .before .before .before .before .before .before .before .before .before .before .before .before .args in
+    let x = w .before .before .before .before .slot-at .result in
+    let e : w .send-job .result ≡ planSend (length (a .sdu .now)) (x .peer .mtu) (x .peer .mps) (x .peer .credits) (length (a .out .now)) = w .send-job .ensures .0 in
+    let k = plan-allowed (length (a .sdu .now)) (x .peer .mtu) (x .peer .mps) (x .peer .credits) (length (a .out .now)) _ _ (sym e ∙ c .before .n .given .1) in
     omega (arith, k .frames, k .paid, w .before .before .before .before .slot-at .ok)
 
 sub-with-peer-credits : tie.Need-sub-with-peer-credits
 sub-with-peer-credits c =
     let w = c .before .before .before .before .before in
-    let k = plan-allowed _ _ _ _ _ _ _ (sym (w .send-job .ensures .0) ∙ c .before .n .given .1) in
+    let a = c .before .before .before .before .before .before .before .before .before .before .before .before .args in
+    let x = w .before .before .before .before .slot-at .result in
+    let e : w .send-job .result ≡ planSend (length (a .sdu .now)) (x .peer .mtu) (x .peer .mps) (x .peer .credits) (length (a .out .now)) = w .send-job .ensures .0 in
+    let k = plan-allowed (length (a .sdu .now)) (x .peer .mtu) (x .peer .mps) (x .peer .credits) (length (a .out .now)) _ _ (sym e ∙ c .before .n .given .1) in
     omega (arith, k .frames, k .paid)
 
 with-peer-credits-requires : tie.Need-with-peer-credits-requires
@@ -69,6 +76,7 @@ returns-2 : tie.Need-returns-2
 unfolding choose sizes planned outputAfter
 returns-2 c =
     let w = c .before .before .before .before .before .before in
+    let a = c .before .before .before .before .before .before .before .before .before .before .before .before .before .args in
     rw (
       ← w .before .before .before .before .slot-at .ensures,
       ← w .before .before .before .is-connected .ensures,
@@ -77,7 +85,7 @@ returns-2 c =
       w .send-job .ensures .1,
       c .before .before .r .given .1,
       c .refused2 .ensures,
-    ) (sym (end-still _ _ _ _ _ _ _))
+    ) (sym (end-still (a .t) (a .t) _ (a .sdu .now) [] (a .out .now) []))
 
 same-length-2 : tie.Need-same-length-2
 same-length-2 c = search needs
@@ -87,6 +95,8 @@ unfolding choose outputAfter
 returns-3 c =
     let w = c .before .before .before .before .before .before .before in
     let a = c .before .before .before .before .before .before .before .before .before .before .before .before .before .before .args in
+    let x = w .before .before .before .before .slot-at .result in
+    let e : w .send-job .result ≡ planSend (length (a .sdu .now)) (x .peer .mtu) (x .peer .mps) (x .peer .credits) (length (a .out .now)) = w .send-job .ensures .0 in
     let n = c .before .before .before .n .given .1 in
     rw (
       ← w .before .before .before .before .slot-at .ensures,
@@ -94,8 +104,8 @@ returns-3 c =
       w .before .before .if1 .left,
       ← w .send-job .ensures .0,
       n,
-    ) (sends (a .t) (a .s) (w .before .before .before .before .slot-at .result) (a .sdu .now) (a .out .now)
-    (plan-allowed _ _ _ _ _ _ _ (sym (w .send-job .ensures .0) ∙ n))
+    ) (sends (a .t) (a .s) x (a .sdu .now) (a .out .now)
+    (plan-allowed (length (a .sdu .now)) (x .peer .mtu) (x .peer .mps) (x .peer .credits) (length (a .out .now)) _ _ (sym e ∙ n))
     (rw (c .before .with-peer-credits .ensures) at (c .changed .ensures))
     (rw n at (w .send-job .ensures .1)))
 

@@ -1,0 +1,2 @@
+-- What a take behind the gate comes to.
+pub mod Taken

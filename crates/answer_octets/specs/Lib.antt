@@ -1,0 +1,2 @@
+-- A call's answer as octets.
+pub mod Answers

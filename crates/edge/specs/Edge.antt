@@ -1,0 +1,80 @@
+-- What a call from another language leaves: its number, the table's octets, the answer's octets, and the lent buffers. It is the end of the
+-- call (Ending.antt of `definition`), lifted through the table's layout and the answer's.
+use mathlib.Core.Path.{_≡_, refl, sym, ap, _∙_}
+use mathlib.Core.Bool.{Bool, not}
+use mathlib.Core.List.{List, []}
+use Prim.Native.Nat.{ℕ}
+use lib.Dec.{eqb, ltb}
+use lib.ListN.{length}
+use lib.Seq.{sets}
+use Rattle.lists.specs.Choose.{choose}
+use Rattle.codes.specs.declared.Refusal.the-variants.{BadTable}
+use Rattle.credit.specs.declared.CreditFlowPolicy.{CreditFlowPolicy}
+use Rattle.credit.specs.declared.CreditFlowPolicy.the-variants.{Every, MinThreshold}
+use Rattle.channel.specs.declared.Answer.the-variants.{Refused}
+use Rattle.channel.specs.declared.L2capChannelConfig.{L2capChannelConfig}
+use Rattle.channel.specs.declared.Served.{Served}
+use Rattle.channel.specs.declared.Setting.{Setting}
+use Rattle.channel.specs.declared.Setting.the-variants as Setting
+use Rattle.channel.specs.declared.Table.{Table}
+use Rattle.definition.specs.Table.{if_then_else_}
+use Rattle.definition.specs.Ending.{End, end, gave}
+use Rattle.definition.specs.Asking.{noSlots}
+use Rattle.layout.specs.Layout.{read, written, tableOctets}
+use Rattle.layout.specs.declared.Decoded.{Decoded}
+use Rattle.answer_octets.specs.Answers.{tells, answerOctets}
+
+pub record Edge : Type 0 where
+  pub number : ℕ  -- 0, or the refusal's
+  pub table : List ℕ
+  pub answer : List ℕ
+  pub room : List ℕ
+  pub out : List ℕ  -- the signal buffer or frame output
+  pub job : List ℕ  -- a take's job buffer
+
+abbrev pub edge : ℕ → (table answer room out job : List ℕ) → Edge
+edge number table answer room out job = record { number = number; table = table; answer = answer; room = room; out = out; job = job }
+
+-- The table is written back where its octets are a table's (ok); the answer is written over the start of the lent answer.
+unfoldable pub lifted : (ok : Bool) (table answer : List ℕ) → End → Edge
+lifted ok table answer e =
+    record {
+      number = tells (e .served .answer) .refusal;
+      table = choose ok (written table (e .served .table)) table;
+      answer = sets answer 0 (answerOctets (e .served));
+      room = e .room;
+      out = e .out;
+      job = e .job;
+    }
+
+-- A call on the table that the octets spell. Octets that spell none are read as a table of no slots, which every call refuses by 1.
+unfoldable pub onTable : (table answer : List ℕ) → (Table → End) → Edge
+onTable table answer call = lifted (read table .ok) table answer (call (read table .table))
+
+-- the same of a call that is lent nothing else
+abbrev pub alone : Served → End
+alone s = end s [] [] []
+
+-- ---- by which an entry's proof reads it
+
+pub on-table : (o a : List ℕ) (f : Table → End) {d : Decoded} {e : Edge} {x : End} → d ≡ read o → e ≡ lifted (d .ok) o a x → x ≡ f (d .table) → e ≡ onTable o a f
+unfolding onTable
+on-table o a f {d} known stored called =
+    stored ∙ ap (lifted (d .ok) o a) called ∙ ap (λ (r : Decoded). lifted (r .ok) o a (f (r .table))) known
+
+-- ---- what numbers say
+
+-- a flag: 0 is false
+abbrev pub flag : ℕ → Bool
+flag n = not (eqb n 0)
+
+-- a setting above 65,535 is the default
+unfoldable pub settingOf : ℕ → Setting
+settingOf n = if ltb 65535 n then Setting.Default else Setting.Is n
+
+-- kind 0 is Every, another MinThreshold
+unfoldable pub policyBy : (kind value : ℕ) → CreditFlowPolicy
+policyBy kind value = if eqb kind 0 then Every value else MinThreshold value
+
+abbrev pub configOf : (mtu mps kind value credits : ℕ) → L2capChannelConfig
+configOf mtu mps kind value credits = record { mtu = settingOf mtu; mps = settingOf mps; policy = policyBy kind value; credits = settingOf credits }

@@ -1,0 +1,2 @@
+-- A call's end, lifted to octets.
+pub mod Edge

@@ -1,0 +1,75 @@
+// What every entry does at the edge to another language: the table written back, the answer written, and numbers read as what they stand for.
+// Defined in specs/Edge.antt. It rests on `layout_encode` and `answer_octets`.
+use channel::L2capChannelConfig;
+use channel::Served;
+use channel::Setting;
+use channel::Table;
+use credit::CreditFlowPolicy;
+ghost use mathlib.Core.Path.{_≡_};
+ghost use mathlib.Core.List.{List};
+ghost use Prim.Native.Nat.{ℕ};
+ghost use Rattle.lists.specs.Choose.{choose};
+ghost use Rattle.definition.specs.Ending.{end};
+ghost use Rattle.layout.specs.Layout.{written};
+ghost use Rattle.edge.specs.Edge.{edge, lifted, flag, settingOf, policyBy, configOf};
+
+// Writes the table back where its octets were a table's.
+fn keep(table: &mut [u8], ok: bool, t: Table)
+    ensures { λ _. ⌜ now (table .exit) ≡ choose ok (written (now (table .entry)) t) (now (table .entry)) ⌝ }
+{
+    if ok {
+        layout_encode::encode(table, t);
+    }
+}
+
+// Ends a call: the table and the answer are written; the number is 0 or the refusal's.
+pub fn store(table: &mut [u8], answer: &mut [u8], ok: bool, s: Served) -> u32
+    ensures { λ r. ⌜ ((room out job : List ℕ) → edge r (now (table .exit)) (now (answer .exit)) room out job ≡ lifted ok (now (table .entry)) (now (answer .entry)) (end s room out job)) ⌝ }
+{
+    let t = s.table;
+    keep(table, ok, t);
+    answer_octets::put_answer(answer, s)
+}
+
+// 0 is false.
+pub fn flag(n: u8) -> bool
+    ensures { λ r. ⌜ r ≡ flag n ⌝ }
+{
+    n != 0
+}
+
+// A setting above 65,535 is the default.
+fn setting(n: u32) -> Setting
+    ensures { λ r. ⌜ r ≡ settingOf n ⌝ }
+{
+    if 65535 < n {
+        return Setting::Default;
+    }
+    Setting::Is(n as u16)
+}
+
+// Kind 0 is Every, another MinThreshold.
+fn policy(kind: u8, value: u16) -> CreditFlowPolicy
+    ensures { λ r. ⌜ r ≡ policyBy kind value ⌝ }
+{
+    if kind == 0 {
+        return CreditFlowPolicy::Every(value);
+    }
+    CreditFlowPolicy::MinThreshold(value)
+}
+
+// What an accept or a create asks for.
+pub fn config(mtu: u32, mps: u32, kind: u8, value: u16, credits: u32) -> L2capChannelConfig
+    ensures { λ r. ⌜ r ≡ configOf mtu mps kind value credits ⌝ }
+{
+    let policy = policy(kind, value);
+    let mtu = setting(mtu);
+    let mps = setting(mps);
+    let credits = setting(credits);
+    L2capChannelConfig {
+        mtu,
+        mps,
+        policy,
+        credits,
+    }
+}

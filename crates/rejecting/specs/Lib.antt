@@ -1,0 +1,2 @@
+-- A reject whose result comes as a number.
+pub mod Numbered

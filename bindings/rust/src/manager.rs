@@ -80,7 +80,7 @@ impl<'r> ChannelManager<'r> {
     ) -> Signalled<'p, 'b> {
         let central = role == LeConnRole::Central;
         let (refusal, answer) = entries::signal(&mut self.table.0, self.room, reply, handle.0, listening, central, pdu);
-        let rest = pdu.len().checked_sub(entries::rest(pdu)).and_then(|start| pdu.get(start..)).unwrap_or(&[]);
+        let rest = pdu.len().checked_sub(entries::signal_rest(pdu)).and_then(|start| pdu.get(start..)).unwrap_or(&[]);
         Signalled { outcome: answer.told(refusal).map(|()| answer.event()), reply: answer.written(reply), rest }
     }
 
@@ -271,7 +271,7 @@ impl<'r> ChannelManager<'r> {
     /// Refusals: 1, 6; 11 where the channel isn't open; 12 above the peer's MTU; 23; 20; 14 where the credits don't suffice; 3 where `out` is too
     /// short.
     pub fn send<'b>(&mut self, index: ChannelIndex, sdu: &[u8], out: &'b mut [u8]) -> Result<Frames<'b>, Refusal> {
-        let answer = entries::send(&mut self.table.0, index.0, sdu, out)?;
+        let answer = entries::send(&mut self.table.0, out, index.0, sdu)?;
         Ok(answer.frames(out))
     }
 
@@ -284,7 +284,7 @@ impl<'r> ChannelManager<'r> {
         sdu: &'j mut [u8],
         buffer: &'b mut [u8],
     ) -> Result<Option<Received<'j, 'b>>, Refusal> {
-        let answer = entries::receive(&mut self.table.0, self.room, buffer, index.0, sdu)?;
+        let answer = entries::receive(&mut self.table.0, self.room, buffer, sdu, index.0)?;
         Ok(answer.job(sdu, buffer))
     }
 

@@ -227,6 +227,38 @@ fn ends() {
     }
 }
 
+/// What is asked for is what the slot gets and the peer is told; a threshold grants once the peer holds fewer credits.
+#[test]
+fn what_is_asked_for() {
+    let asked =
+        L2capChannelConfig { mtu: Some(40), mps: Some(30), flow_policy: CreditFlowPolicy::MinThreshold(2), initial_credits: Some(3) };
+    let mut room = [0; ROOM];
+    let mut channels = made(&mut room);
+    let mut signal = [0; SIGNAL_OCTETS];
+    let mut reply = [0; SIGNAL_OCTETS];
+    let pdu = octets(&request(0x50, 100, 23, 5));
+    let nobody = channels.signal(PHONE, false, LeConnRole::Central, &pdu, &mut reply);
+    assert_eq!((nobody.outcome, hex(nobody.reply)), (Ok(None), "0e00050015070a0000000000000000000400".into()));
+    let index = open(&mut channels, PHONE, &request(0x50, 100, 23, 5), &asked);
+    let out = channels.create(OTHER, 0x25, &asked, &mut signal).unwrap();
+    assert_eq!((out.index, hex(out.octets)), (ChannelIndex(1), "0e00050014010a002500410028001e000300".into()));
+    for index in [index, ChannelIndex(1)] {
+        let got = slot(&channels, index);
+        assert_eq!((got.mtu, got.mps, got.flow_policy, got.credits), (40, 30, CreditFlowPolicy::MinThreshold(2), 3));
+    }
+    let got = slot(&channels, index);
+    assert_eq!((got.peer_cid, got.peer_mtu, got.peer_mps, got.peer_credits, got.hold), (0x50, 100, 23, 5, 1));
+    assert_eq!(
+        [channels.mtu(index), channels.mps(index), channels.peer_mtu(index), channels.peer_mps(index)],
+        [Ok(40), Ok(30), Ok(100), Ok(23)]
+    );
+    let mut job = [0; PLACE];
+    for credits in ["", "080005001602040040000200"] {
+        channels.dispatch(PHONE, index.cid(), &[1, 0, 9]).unwrap();
+        assert_eq!(hex(channels.receive(index, &mut job, &mut signal).unwrap().unwrap().credits), credits);
+    }
+}
+
 /// A manager's parts are kept and taken up again.
 #[test]
 fn parts() {

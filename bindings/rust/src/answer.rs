@@ -1,0 +1,270 @@
+//! What the calls answer: the sixteen octets that an entry writes, and the types that a caller reads.
+
+use crate::codes::{ChannelIndex, ConnHandle, LeCreditConnResultCode, Refusal};
+
+/// The octets of an answer.
+pub(crate) const ANSWER_OCTETS: usize = 16;
+
+const AT: u8 = 2;
+const OPENED: u8 = 4;
+const DUE: u8 = 5;
+const JOB: u8 = 7;
+const EVENT: u8 = 10;
+
+/// An answer's numbers: octet 0 is its kind, octet 1 the refusal, 2 to 5 how many octets were written, then four numbers; the lower octet is
+/// first in each.
+pub(crate) struct Answer(pub(crate) [u8; ANSWER_OCTETS]);
+
+impl Answer {
+    fn number(&self, place: usize) -> u16 {
+        let octet = |k: usize| self.0.get(k).copied().unwrap_or(0);
+        u16::from_le_bytes([octet(6 + 2 * place), octet(7 + 2 * place)])
+    }
+
+    /// Nothing, or the refusal that the entry returned.
+    pub(crate) fn told(&self, refusal: u32) -> Result<(), Refusal> {
+        match refusal {
+            0 => Ok(()),
+            number => Err(Refusal::told(number, self.number(0))),
+        }
+    }
+
+    /// The first number.
+    pub(crate) fn first(&self) -> u16 {
+        self.number(0)
+    }
+
+    pub(crate) fn is_opened(&self) -> bool {
+        self.0[0] == OPENED
+    }
+
+    pub(crate) fn handle(&self) -> ConnHandle {
+        ConnHandle(self.number(0))
+    }
+
+    /// The octets that were written at the start of `buffer`.
+    pub(crate) fn written<'b>(&self, buffer: &'b [u8]) -> &'b [u8] {
+        let count = u32::from_le_bytes([self.0[2], self.0[3], self.0[4], self.0[5]]);
+        buffer.get(..count as usize).unwrap_or(&[])
+    }
+
+    /// The slot, where the answer has one.
+    pub(crate) fn slot(&self) -> Option<ChannelIndex> {
+        match self.0[0] {
+            AT => Some(ChannelIndex(self.number(0) as u8)),
+            _ => None,
+        }
+    }
+
+    /// The link and slot of a disconnect that was written.
+    pub(crate) fn due<'b>(&self, buffer: &'b [u8]) -> Option<ChannelSignal<'b>> {
+        match self.0[0] {
+            DUE => Some(ChannelSignal { index: ChannelIndex(self.number(1) as u8), handle: self.handle(), octets: self.written(buffer) }),
+            _ => None,
+        }
+    }
+
+    /// The signal that goes out on a given link for the slot that the answer names.
+    pub(crate) fn at<'b>(&self, handle: ConnHandle, buffer: &'b [u8]) -> Option<ChannelSignal<'b>> {
+        self.slot().map(|index| ChannelSignal { index, handle, octets: self.written(buffer) })
+    }
+
+    pub(crate) fn outgoing<'b>(&self, buffer: &'b [u8]) -> Outgoing<'b> {
+        Outgoing { handle: self.handle(), octets: self.written(buffer) }
+    }
+
+    pub(crate) fn frames<'b>(&self, out: &'b [u8]) -> Frames<'b> {
+        Frames { handle: self.handle(), count: self.number(1), octets: self.written(out) }
+    }
+
+    pub(crate) fn job<'j, 'b>(&self, job: &'j [u8], signal: &'b [u8]) -> Option<Received<'j, 'b>> {
+        match self.0[0] {
+            JOB => Some(Received {
+                handle: self.handle(),
+                sdu: job.get(..usize::from(self.number(1))).unwrap_or(&[]),
+                len: self.number(2),
+                credits: self.written(signal),
+            }),
+            _ => None,
+        }
+    }
+
+    pub(crate) fn attention(&self) -> Attention {
+        let count = self.number(1) as u8;
+        let lowest = if count == 0 { None } else { Some(ChannelIndex(self.number(2) as u8)) };
+        Attention { set: self.number(0), count, lowest }
+    }
+
+    pub(crate) fn event(&self) -> Option<ConnParamUpdateReq> {
+        match self.0[0] {
+            EVENT => Some(ConnParamUpdateReq {
+                interval_min: self.number(0),
+                interval_max: self.number(1),
+                latency: self.number(2),
+                timeout: self.number(3),
+            }),
+            _ => None,
+        }
+    }
+}
+
+/// A signal to be sent on a link: it starts with its L2CAP header.
+#[derive(Clone, Copy, Debug, PartialEq, Eq)]
+pub struct Outgoing<'b> {
+    /// The link on which it goes out.
+    pub handle: ConnHandle,
+    /// What is sent.
+    pub octets: &'b [u8],
+}
+
+/// A signal to be sent for a slot that the call chose.
+#[derive(Clone, Copy, Debug, PartialEq, Eq)]
+pub struct ChannelSignal<'b> {
+    /// The slot.
+    pub index: ChannelIndex,
+    /// The link on which the signal goes out.
+    pub handle: ConnHandle,
+    /// What is sent, with its L2CAP header.
+    pub octets: &'b [u8],
+}
+
+/// What one signal of a PDU came to.
+#[derive(Clone, Copy, Debug, PartialEq, Eq)]
+pub struct Signalled<'p, 'b> {
+    /// The peer's wish for other connection parameters, where it has a valid one; nothing more where the signal was handled; or why it was
+    /// refused. A refusal can have a reply too.
+    pub outcome: Result<Option<ConnParamUpdateReq>, Refusal>,
+    /// What goes back on the link, with its L2CAP header; empty where nothing does.
+    pub reply: &'b [u8],
+    /// The PDU from the next signal's header on; empty at its end, and where its headers are bad.
+    pub rest: &'p [u8],
+}
+
+/// Connection parameters that a peer asks for, or that we ask for.
+#[derive(Clone, Copy, Debug, PartialEq, Eq)]
+pub struct ConnParamUpdateReq {
+    /// The shortest interval, in 1.25 ms.
+    pub interval_min: u16,
+    /// The longest interval, in 1.25 ms.
+    pub interval_max: u16,
+    /// Connection events that the peripheral may skip.
+    pub latency: u16,
+    /// The supervision timeout, in 10 ms.
+    pub timeout: u16,
+}
+
+/// A job's frames, one behind the other.
+#[derive(Clone, Copy, Debug, PartialEq, Eq)]
+pub struct Frames<'b> {
+    /// The link on which they go out.
+    pub handle: ConnHandle,
+    /// How many they are: the credits that the job took.
+    pub count: u16,
+    /// All of them, each with its L2CAP header.
+    pub octets: &'b [u8],
+}
+
+impl<'b> Frames<'b> {
+    /// Each frame by itself, in the order in which they are sent.
+    pub fn iter(&self) -> FrameIter<'b> {
+        FrameIter { octets: self.octets }
+    }
+}
+
+impl<'b> IntoIterator for Frames<'b> {
+    type Item = &'b [u8];
+    type IntoIter = FrameIter<'b>;
+
+    fn into_iter(self) -> FrameIter<'b> {
+        self.iter()
+    }
+}
+
+/// The frames of a job, each with its L2CAP header. See [`Frames::iter`].
+#[derive(Clone, Debug)]
+pub struct FrameIter<'b> {
+    octets: &'b [u8],
+}
+
+impl<'b> Iterator for FrameIter<'b> {
+    type Item = &'b [u8];
+
+    fn next(&mut self) -> Option<&'b [u8]> {
+        let length = u16::from_le_bytes([*self.octets.first()?, *self.octets.get(1)?]);
+        let end = 4 + usize::from(length);
+        let frame = self.octets.get(..end)?;
+        self.octets = self.octets.get(end..)?;
+        Some(frame)
+    }
+}
+
+/// A job that was taken.
+#[derive(Clone, Copy, Debug, PartialEq, Eq)]
+pub struct Received<'j, 'b> {
+    /// The link that it came on, and on which the credits go out.
+    pub handle: ConnHandle,
+    /// The job, as far as the lent buffer reaches.
+    pub sdu: &'j [u8],
+    /// The job's whole length. Where it is more than `sdu` has, the rest is gone.
+    pub len: u16,
+    /// The signal that grants the peer new credits, with its L2CAP header; empty where none are due.
+    pub credits: &'b [u8],
+}
+
+/// The slots that call for something: a job waits, a disconnect is due, or an attempt of ours has failed.
+#[derive(Clone, Copy, Debug, PartialEq, Eq)]
+pub struct Attention {
+    /// A bit for each slot; slot 0 has the lowest.
+    pub set: u16,
+    /// How many slots call.
+    pub count: u8,
+    /// The lowest of them.
+    pub lowest: Option<ChannelIndex>,
+}
+
+/// How the peer gets new credits.
+#[derive(Clone, Copy, Debug, PartialEq, Eq)]
+pub enum CreditFlowPolicy {
+    /// Once that many frames came since the last grant.
+    Every(u16),
+    /// Once the peer holds fewer credits than that.
+    MinThreshold(u16),
+}
+
+impl Default for CreditFlowPolicy {
+    fn default() -> Self {
+        Self::Every(1)
+    }
+}
+
+/// Configuration for an L2CAP channel.
+#[derive(Clone, Copy, Debug, Default, PartialEq, Eq)]
+pub struct L2capChannelConfig {
+    /// The longest job that we take. Defaults to the packet size less 6.
+    pub mtu: Option<u16>,
+    /// The longest frame payload that we take. Defaults to the packet size less 4.
+    pub mps: Option<u16>,
+    /// How the peer gets new credits.
+    pub flow_policy: CreditFlowPolicy,
+    /// The credits that the peer starts with. Defaults to the number of jobs that can wait in a slot.
+    pub initial_credits: Option<u16>,
+}
+
+/// A slot's state.
+#[derive(Clone, Copy, Debug, PartialEq, Eq)]
+pub enum ChannelState {
+    /// Free, once nobody holds it.
+    Disconnected,
+    /// Our connect request with this identifier is out.
+    Connecting(u8),
+    /// The peer's connect request with this identifier waits for an answer.
+    PeerConnecting(u8),
+    /// Open.
+    Connected,
+    /// The peer refused our request.
+    ConnectFailed(LeCreditConnResultCode),
+    /// The peer's disconnect request with this identifier waits for its response.
+    PeerDisconnecting(u8),
+    /// We disconnect; true once the request was written.
+    Disconnecting(bool),
+}

@@ -1,0 +1,232 @@
+//! The numbers that have names: refusals, result codes, slots, CIDs and links.
+
+use core::fmt;
+
+/// The CID of slot 0. A slot's CID is this and its number.
+pub const CID_BASE: u16 = 0x40;
+
+/// The most slots that a table has.
+pub const SLOTS: u8 = 16;
+
+/// A slot's number in the table. It names a channel in every call that is ours; [`Cid`] names it on the air.
+#[derive(Clone, Copy, Debug, PartialEq, Eq, PartialOrd, Ord, Hash)]
+pub struct ChannelIndex(pub u8);
+
+impl ChannelIndex {
+    /// The slot's CID on the air.
+    pub const fn cid(self) -> Cid {
+        Cid(CID_BASE + self.0 as u16)
+    }
+}
+
+/// A channel's CID on the air, ours.
+#[derive(Clone, Copy, Debug, PartialEq, Eq, PartialOrd, Ord, Hash)]
+pub struct Cid(pub u16);
+
+impl Cid {
+    /// The slot with this CID, in a table of sixteen: none below 0x40 and from 0x50 on.
+    pub const fn index(self) -> Option<ChannelIndex> {
+        if self.0 >= CID_BASE && self.0 < CID_BASE + SLOTS as u16 {
+            Some(ChannelIndex((self.0 - CID_BASE) as u8))
+        } else {
+            None
+        }
+    }
+}
+
+/// A link's handle, 0 to 0x0EFF. A call refuses a higher one by [`Refusal::BadHandle`].
+#[derive(Clone, Copy, Debug, PartialEq, Eq, PartialOrd, Ord, Hash)]
+pub struct ConnHandle(pub u16);
+
+/// Our role on a link.
+#[derive(Clone, Copy, Debug, PartialEq, Eq, Hash)]
+pub enum LeConnRole {
+    /// We are the central: a peer may ask us for other connection parameters.
+    Central,
+    /// We are the peripheral.
+    Peripheral,
+}
+
+/// The result of a connect response (Core, Vol 3 Part A, 4.23).
+#[derive(Clone, Copy, Debug, PartialEq, Eq, Hash)]
+pub enum LeCreditConnResultCode {
+    /// 0: the channel is open.
+    Success,
+    /// 2: nobody serves this SPSM.
+    SpsmNotSupported,
+    /// 4: no slot is free, or nobody listens.
+    NoResources,
+    /// 5: the link isn't authenticated.
+    InsufficientAuthentication,
+    /// 6: the peer isn't authorised.
+    InsufficientAuthorization,
+    /// 7: the encryption key is too short.
+    EncryptionKeyTooShort,
+    /// 8: the link isn't encrypted.
+    InsufficientEncryption,
+    /// 9: the source CID is outside its range.
+    InvalidSourceId,
+    /// 10: the source CID is in use.
+    ScidAlreadyAllocated,
+    /// 11: the parameters can't be accepted.
+    UnacceptableParameters,
+}
+
+impl LeCreditConnResultCode {
+    /// The number on the air.
+    pub const fn number(self) -> u16 {
+        match self {
+            Self::Success => 0,
+            Self::SpsmNotSupported => 2,
+            Self::NoResources => 4,
+            Self::InsufficientAuthentication => 5,
+            Self::InsufficientAuthorization => 6,
+            Self::EncryptionKeyTooShort => 7,
+            Self::InsufficientEncryption => 8,
+            Self::InvalidSourceId => 9,
+            Self::ScidAlreadyAllocated => 10,
+            Self::UnacceptableParameters => 11,
+        }
+    }
+
+    /// The result code with this number: 0, 2 and 4 to 11 have one.
+    pub const fn from_number(number: u16) -> Option<Self> {
+        Some(match number {
+            0 => Self::Success,
+            2 => Self::SpsmNotSupported,
+            4 => Self::NoResources,
+            5 => Self::InsufficientAuthentication,
+            6 => Self::InsufficientAuthorization,
+            7 => Self::EncryptionKeyTooShort,
+            8 => Self::InsufficientEncryption,
+            9 => Self::InvalidSourceId,
+            10 => Self::ScidAlreadyAllocated,
+            11 => Self::UnacceptableParameters,
+            _ => return None,
+        })
+    }
+}
+
+/// What a call refuses with. Where no more is said, table, room and buffers are left as they were.
+#[derive(Clone, Copy, Debug, PartialEq, Eq, Hash)]
+pub enum Refusal {
+    /// 1: sizes outside the limits, or octets that spell no well-formed table.
+    BadTable,
+    /// 2: the room's length isn't the one that the sizes ask for ([`room_octets`](crate::room_octets)).
+    BadRoom,
+    /// 3: a signal buffer under 18 octets, or an output too short for the frames.
+    NoRoom,
+    /// 4: a handle above 0x0EFF.
+    BadHandle,
+    /// 5: only SPSMs 1 to 255 can be registered.
+    BadSpsm,
+    /// 6: the table has no such slot.
+    BadSlot,
+    /// 7: a frame's CID is no slot's.
+    InvalidChannelId,
+    /// 8: no slot fits. An unmatched connect response has freed every attempt of that link.
+    NotFound,
+    /// 9: a signal longer than its PDU (a reject is written); credits above 65,535, or a frame that its job has no place for (the channel is
+    /// disconnecting).
+    InvalidValue,
+    /// 10: a frame for which the peer had no credit.
+    OutOfMemory,
+    /// 11: the channel isn't open.
+    ChannelClosed,
+    /// 12: MPS or MTU above our packets, or a job above the peer's MTU. A refused create has used an identifier.
+    InsufficientSpace,
+    /// 13: no slot is free. The create has used an identifier.
+    NoChannelAvailable,
+    /// 14: the job needs more frames than the peer gave credits. Nothing was sent.
+    Busy,
+    /// 15: a signal that can't be read. Where its header can, a reject is written.
+    Decode,
+    /// 16: an unknown signal. A reject is written.
+    NotSupported,
+    /// 17: the peer refused the connection, with this result.
+    ConnectError(LeCreditConnResultCode),
+    /// 18: the link or the channel is down.
+    Disconnected,
+    /// 19: a job's first frame without its two length octets. The channel is disconnecting.
+    ShortFrame,
+    /// 20: the peer's MPS is under 23.
+    BadMps,
+    /// 21: a job is complete but as many as can wait do so already: it is dropped, and its credit used.
+    QueueFull,
+    /// 22: the hold count isn't what the step needs, or would pass 0 or 255.
+    Held,
+    /// 23: a job of 65,534 or 65,535 octets.
+    TooLong,
+}
+
+impl Refusal {
+    /// The refusal's number.
+    pub const fn number(self) -> u8 {
+        match self {
+            Self::BadTable => 1,
+            Self::BadRoom => 2,
+            Self::NoRoom => 3,
+            Self::BadHandle => 4,
+            Self::BadSpsm => 5,
+            Self::BadSlot => 6,
+            Self::InvalidChannelId => 7,
+            Self::NotFound => 8,
+            Self::InvalidValue => 9,
+            Self::OutOfMemory => 10,
+            Self::ChannelClosed => 11,
+            Self::InsufficientSpace => 12,
+            Self::NoChannelAvailable => 13,
+            Self::Busy => 14,
+            Self::Decode => 15,
+            Self::NotSupported => 16,
+            Self::ConnectError(_) => 17,
+            Self::Disconnected => 18,
+            Self::ShortFrame => 19,
+            Self::BadMps => 20,
+            Self::QueueFull => 21,
+            Self::Held => 22,
+            Self::TooLong => 23,
+        }
+    }
+
+    /// The refusal of a number that isn't 0; `code` is the result code of 17. The entries give 1 to 23 alone; another number reads as 1.
+    pub(crate) const fn told(number: u32, code: u16) -> Self {
+        match number {
+            2 => Self::BadRoom,
+            3 => Self::NoRoom,
+            4 => Self::BadHandle,
+            5 => Self::BadSpsm,
+            6 => Self::BadSlot,
+            7 => Self::InvalidChannelId,
+            8 => Self::NotFound,
+            9 => Self::InvalidValue,
+            10 => Self::OutOfMemory,
+            11 => Self::ChannelClosed,
+            12 => Self::InsufficientSpace,
+            13 => Self::NoChannelAvailable,
+            14 => Self::Busy,
+            15 => Self::Decode,
+            16 => Self::NotSupported,
+            17 => match LeCreditConnResultCode::from_number(code) {
+                Some(code) => Self::ConnectError(code),
+                None => Self::BadTable,
+            },
+            18 => Self::Disconnected,
+            19 => Self::ShortFrame,
+            20 => Self::BadMps,
+            21 => Self::QueueFull,
+            22 => Self::Held,
+            23 => Self::TooLong,
+            _ => Self::BadTable,
+        }
+    }
+}
+
+impl fmt::Display for Refusal {
+    fn fmt(&self, f: &mut fmt::Formatter<'_>) -> fmt::Result {
+        match self {
+            Self::ConnectError(code) => write!(f, "17 ConnectError, result {}", code.number()),
+            other => write!(f, "{} {:?}", other.number(), other),
+        }
+    }
+}

@@ -1,0 +1,54 @@
+//! A Bluetooth L2CAP channel manager whose every call is proved equal to its definition: the channel manager of trouble-host 0.8.0, ported, behind
+//! safe types. This crate is the wrapper; the calls are in an archive, `libentries.a`, which `build.rs` links.
+//!
+//! A channel lives in a slot ([`ChannelIndex`]) and has a CID on the air ([`Cid`]). [`ChannelManager`] keeps the table, in 672 octets, and borrows
+//! the room in which jobs arrive and wait. A call that can't be done gives a [`Refusal`], and says in its documentation what that leaves. No call
+//! panics, waits or allocates.
+//!
+//! ```
+//! use l2cap_channels::{room_octets, ChannelManager, Cid, ConnHandle, L2capChannelConfig, LeConnRole, Refusal, SIGNAL_OCTETS};
+//!
+//! fn main() -> Result<(), Refusal> {
+//!     // Two channels, one job waiting in each, packets of 64 octets.
+//!     let mut room = [0; room_octets(2, 1, 64)];
+//!     let mut channels = ChannelManager::new(2, 1, 64, &mut room)?;
+//!     channels.register_spsm(0x80)?;
+//!
+//!     // A phone on link 1 asks for a channel. Nothing goes back before we accept.
+//!     let phone = ConnHandle(1);
+//!     let request = [0x14, 7, 10, 0, 0x80, 0, 0x50, 0, 100, 0, 23, 0, 5, 0];
+//!     channels.feed_pdu(phone, true, LeConnRole::Peripheral, &request, |outcome, reply| {
+//!         assert_eq!((outcome, reply.len()), (Ok(None), 0));
+//!     });
+//!     let mut signal = [0; SIGNAL_OCTETS];
+//!     let channel = channels.next_pending(phone, true)?.expect("a pending channel");
+//!     let response = channels.accept_pending(channel, &L2capChannelConfig::default(), &mut signal)?;
+//!     assert_eq!(response.handle, phone);
+//!
+//!     // A job of three octets comes in one frame, and is taken; the phone gets its credit back.
+//!     channels.dispatch(phone, Cid(0x40), &[3, 0, b'j', b'o', b'b'])?;
+//!     let mut job = [0; 58];
+//!     let taken = channels.receive(channel, &mut job, &mut signal)?.expect("a job");
+//!     assert_eq!(taken.sdu, b"job");
+//!     assert_eq!(taken.credits, [8, 0, 5, 0, 0x16, 1, 4, 0, 0x40, 0, 1, 0]);
+//!     Ok(())
+//! }
+//! ```
+#![no_std]
+#![forbid(unsafe_op_in_unsafe_fn)]
+#![deny(missing_docs)]
+#![warn(clippy::indexing_slicing, clippy::unwrap_used, clippy::expect_used, clippy::panic)]
+
+mod answer;
+mod codes;
+mod entries;
+mod manager;
+mod table;
+
+pub use answer::{
+    Attention, ChannelSignal, ChannelState, ConnParamUpdateReq, CreditFlowPolicy, FrameIter, Frames, L2capChannelConfig, Outgoing,
+    Received, Signalled,
+};
+pub use codes::{ChannelIndex, Cid, ConnHandle, LeConnRole, LeCreditConnResultCode, Refusal, CID_BASE, SLOTS};
+pub use manager::{ChannelManager, SIGNAL_OCTETS};
+pub use table::{room_octets, Slot, Table, TABLE_OCTETS};

@@ -1,0 +1,334 @@
+//! The calls.
+
+use crate::answer::{Attention, ChannelSignal, ConnParamUpdateReq, Frames, L2capChannelConfig, Outgoing, Received, Signalled};
+use crate::codes::{ChannelIndex, Cid, ConnHandle, LeConnRole, LeCreditConnResultCode, Refusal};
+use crate::entries;
+use crate::table::{Table, TABLE_OCTETS};
+
+/// The longest signal that is written: a lent signal buffer has at least so many octets.
+pub const SIGNAL_OCTETS: usize = 18;
+
+/// The channels of all links: a table, and the room in which jobs arrive and wait.
+///
+/// Facts of a link (whether it is up, whether somebody listens, our role) come in with each call. What goes out is written to a buffer that the
+/// caller lends, and given back as the part of it that was written.
+#[derive(Debug)]
+pub struct ChannelManager<'r> {
+    table: Table,
+    room: &'r mut [u8],
+}
+
+impl<'r> ChannelManager<'r> {
+    /// A table of `channels` slots (1 to 16), in each of which `queue` finished jobs can wait (1 to 4), for packets of `packet` octets (29 to
+    /// 1,024). The room has exactly [`room_octets`](crate::room_octets) octets and is zeroed.
+    ///
+    /// Refusals: 1 for sizes outside the limits, 2 for a room of another length; the room is left as it was.
+    pub fn new(channels: u16, queue: u16, packet: u16, room: &'r mut [u8]) -> Result<Self, Refusal> {
+        let mut manager = Self { table: Table([0; TABLE_OCTETS]), room };
+        manager.make(channels, queue, packet)?;
+        Ok(manager)
+    }
+
+    /// Makes the table anew, over the same room. A refused making leaves a table of no slots, and the room as it was.
+    pub fn make(&mut self, channels: u16, queue: u16, packet: u16) -> Result<(), Refusal> {
+        entries::make(&mut self.table.0, self.room, channels, queue, packet).map(|_| ())
+    }
+
+    /// Goes on with a table and a room that were kept. Nothing is tested here: each call tests both.
+    pub fn from_parts(table: Table, room: &'r mut [u8]) -> Self {
+        Self { table, room }
+    }
+
+    /// The table and the room.
+    pub fn into_parts(self) -> (Table, &'r mut [u8]) {
+        (self.table, self.room)
+    }
+
+    /// The table as it stands.
+    pub fn table(&self) -> &Table {
+        &self.table
+    }
+
+    /// The room as it stands. Every octet that belongs to no live job is zero.
+    pub fn room(&self) -> &[u8] {
+        self.room
+    }
+
+    /// Lets peers connect to an SPSM, 1 to 255, on every link.
+    ///
+    /// Refusals: 1, 5.
+    pub fn register_spsm(&mut self, spsm: u16) -> Result<(), Refusal> {
+        entries::register_spsm(&mut self.table.0, spsm).map(|_| ())
+    }
+
+    // ---- signals
+
+    /// Handles the first signal of a PDU that came on the signalling channel (without its L2CAP header), after a check of every header in it.
+    /// `listening` says whether somebody would accept a channel on this link now.
+    ///
+    /// The reply, where there is one, goes out whether the signal was refused or not. Call again with the rest until that is empty, or let
+    /// [`feed_pdu`](Self::feed_pdu) do so.
+    ///
+    /// Refusals: 1, 2, 3, 4; 15 and 9 by the header check; 8, 9, 15, 16, 17 by the signal.
+    pub fn signal<'p, 'b>(
+        &mut self,
+        handle: ConnHandle,
+        listening: bool,
+        role: LeConnRole,
+        pdu: &'p [u8],
+        reply: &'b mut [u8],
+    ) -> Signalled<'p, 'b> {
+        let central = role == LeConnRole::Central;
+        let (refusal, answer) = entries::signal(&mut self.table.0, self.room, reply, handle.0, listening, central, pdu);
+        let rest = pdu.len().checked_sub(entries::signal_rest(pdu)).and_then(|start| pdu.get(start..)).unwrap_or(&[]);
+        Signalled { outcome: answer.told(refusal).map(|()| answer.event()), reply: answer.written(reply), rest }
+    }
+
+    /// Handles every signal of a PDU. `each` gets what each came to and its reply, which is empty where nothing goes back.
+    pub fn feed_pdu<F>(&mut self, handle: ConnHandle, listening: bool, role: LeConnRole, pdu: &[u8], mut each: F)
+    where
+        F: FnMut(Result<Option<ConnParamUpdateReq>, Refusal>, &[u8]),
+    {
+        let mut left = pdu;
+        loop {
+            let mut reply = [0; SIGNAL_OCTETS];
+            let one = self.signal(handle, listening, role, left, &mut reply);
+            each(one.outcome, one.reply);
+            // The rest is always shorter than what was given.
+            if one.rest.is_empty() || one.rest.len() >= left.len() {
+                return;
+            }
+            left = one.rest;
+        }
+    }
+
+    /// Asks the peer for other connection parameters; what is written goes out on this link.
+    ///
+    /// Refusals: 1, 3, 4.
+    pub fn send_conn_param_update_req<'b>(
+        &mut self,
+        handle: ConnHandle,
+        req: &ConnParamUpdateReq,
+        buffer: &'b mut [u8],
+    ) -> Result<Outgoing<'b>, Refusal> {
+        let answer = entries::send_conn_param_update_req(&mut self.table.0, buffer, handle.0, req)?;
+        Ok(Outgoing { handle, octets: answer.written(buffer) })
+    }
+
+    /// Answers a peer's wish for other connection parameters: 0 takes it, 1 refuses it.
+    ///
+    /// Refusals: 1, 3, 4.
+    pub fn send_conn_param_update_res<'b>(
+        &mut self,
+        handle: ConnHandle,
+        result: u16,
+        buffer: &'b mut [u8],
+    ) -> Result<Outgoing<'b>, Refusal> {
+        let answer = entries::send_conn_param_update_res(&mut self.table.0, buffer, handle.0, result)?;
+        Ok(Outgoing { handle, octets: answer.written(buffer) })
+    }
+
+    // ---- channels that a peer opens
+
+    /// The lowest slot of this link with a connect request that waits, now held once; none where none waits. `up` says whether the link is up.
+    ///
+    /// Refusals: 1, 4; 22 where that slot is held already; 18 where none waits and the link is down.
+    pub fn next_pending(&mut self, handle: ConnHandle, up: bool) -> Result<Option<ChannelIndex>, Refusal> {
+        entries::next_pending(&mut self.table.0, handle.0, up).map(|answer| answer.slot())
+    }
+
+    /// Opens a pending channel. The hold stays, for whoever uses the channel.
+    ///
+    /// Refusals: 1, 3, 6; 12 for MPS, then MTU; 8 where nothing is pending in this slot; 22 without a hold.
+    pub fn accept_pending<'b>(
+        &mut self,
+        index: ChannelIndex,
+        config: &L2capChannelConfig,
+        buffer: &'b mut [u8],
+    ) -> Result<Outgoing<'b>, Refusal> {
+        let answer = entries::accept_pending(&mut self.table.0, buffer, index.0, config)?;
+        Ok(answer.outgoing(buffer))
+    }
+
+    /// Refuses a pending channel and frees its slot, less one hold.
+    ///
+    /// Refusals: 1, 2, 3, 6, 8, 22.
+    pub fn reject_pending<'b>(
+        &mut self,
+        index: ChannelIndex,
+        result: LeCreditConnResultCode,
+        buffer: &'b mut [u8],
+    ) -> Result<Outgoing<'b>, Refusal> {
+        let answer = entries::reject_pending(&mut self.table.0, self.room, buffer, index.0, result.number())?;
+        Ok(answer.outgoing(buffer))
+    }
+
+    /// Refuses the lowest pending channel of this link that nobody holds, for want of resources; none where there is none. Call it until then.
+    ///
+    /// Refusals: 1, 2, 3, 4.
+    pub fn reject_all_pending<'b>(&mut self, handle: ConnHandle, buffer: &'b mut [u8]) -> Result<Option<ChannelSignal<'b>>, Refusal> {
+        let answer = entries::reject_all_pending(&mut self.table.0, self.room, buffer, handle.0)?;
+        Ok(answer.at(handle, buffer))
+    }
+
+    /// Lets go of a pending channel: one hold less, and the slot is freed. Nothing where it is open meanwhile.
+    ///
+    /// Refusals: 1, 2, 6, 22.
+    pub fn drop_pending(&mut self, index: ChannelIndex) -> Result<(), Refusal> {
+        entries::drop_pending(&mut self.table.0, self.room, index.0).map(|_| ())
+    }
+
+    // ---- channels that we open
+
+    /// Takes a slot and writes a connect request.
+    ///
+    /// Refusals: 1, 3, 4; 12 for MPS, then MTU; 13 where no slot is free. 12 and 13 have used an identifier.
+    pub fn create<'b>(
+        &mut self,
+        handle: ConnHandle,
+        spsm: u16,
+        config: &L2capChannelConfig,
+        buffer: &'b mut [u8],
+    ) -> Result<ChannelSignal<'b>, Refusal> {
+        let answer = entries::create(&mut self.table.0, buffer, handle.0, spsm, config)?;
+        // An answer to a create has its slot.
+        answer.at(handle, buffer).ok_or(Refusal::BadTable)
+    }
+
+    /// Whether the channel is open by now: true, and it is held once, or false where the peer hasn't answered.
+    ///
+    /// Refusals: 1, 2, 4, 6; 18 where the slot is free; 8 where it is another link's; 18 where link or channel are down, and 17 where the peer
+    /// refused: these have freed the slot; 22 where it is held already.
+    pub fn opened(&mut self, index: ChannelIndex, handle: ConnHandle, up: bool) -> Result<bool, Refusal> {
+        entries::opened(&mut self.table.0, self.room, index.0, handle.0, up).map(|answer| answer.is_opened())
+    }
+
+    /// Gives up an attempt of ours, and frees its slot.
+    ///
+    /// Refusals: 1, 2, 6, 8.
+    pub fn give_up(&mut self, index: ChannelIndex) -> Result<(), Refusal> {
+        entries::give_up(&mut self.table.0, self.room, index.0).map(|_| ())
+    }
+
+    // ---- holds and ends
+
+    /// One hold more.
+    ///
+    /// Refusals: 1, 6, 22.
+    pub fn inc_ref(&mut self, index: ChannelIndex) -> Result<(), Refusal> {
+        entries::inc_ref(&mut self.table.0, index.0).map(|_| ())
+    }
+
+    /// One hold less. The last one of an open channel lets it disconnect.
+    ///
+    /// Refusals: 1, 2, 6, 22.
+    pub fn dec_ref(&mut self, index: ChannelIndex) -> Result<(), Refusal> {
+        entries::dec_ref(&mut self.table.0, self.room, index.0).map(|_| ())
+    }
+
+    /// Lets an open channel disconnect; nothing in another state. The request is written by [`next_disconnect`](Self::next_disconnect).
+    ///
+    /// Refusals: 1, 2, 6.
+    pub fn disconnect(&mut self, index: ChannelIndex) -> Result<(), Refusal> {
+        entries::disconnect(&mut self.table.0, self.room, index.0).map(|_| ())
+    }
+
+    /// The same by CID; nothing for a CID of no slot.
+    ///
+    /// Refusals: 1, 2.
+    pub fn disconnect_by_cid(&mut self, cid: Cid) -> Result<(), Refusal> {
+        entries::disconnect_by_cid(&mut self.table.0, self.room, cid.0).map(|_| ())
+    }
+
+    /// The link is down: frees all its slots, and zeroes what they held in the room. Holds stay until they are released.
+    ///
+    /// Refusals: 1, 2, 4.
+    pub fn disconnected(&mut self, handle: ConnHandle) -> Result<(), Refusal> {
+        entries::disconnected(&mut self.table.0, self.room, handle.0).map(|_| ())
+    }
+
+    /// Writes the next disconnect that is due, the lowest slot's: the response to a peer's request, which frees the slot, or our request; none
+    /// where none is due. Jobs that wait in a slot are gone with a response: take them first.
+    ///
+    /// Refusals: 1, 2, 3.
+    pub fn next_disconnect<'b>(&mut self, buffer: &'b mut [u8]) -> Result<Option<ChannelSignal<'b>>, Refusal> {
+        let answer = entries::next_disconnect(&mut self.table.0, self.room, buffer)?;
+        Ok(answer.due(buffer))
+    }
+
+    // ---- jobs
+
+    /// Takes in a frame that came on a link: its CID, and its payload behind the L2CAP header. Nothing where the channel isn't open.
+    ///
+    /// Refusals: 1, 2, 4; 7 for a CID of no slot; 8 for another link's; 10 without a credit; then, with the credit used, 19 and 9, which leave the
+    /// channel disconnecting, and 21, which drops the job.
+    pub fn dispatch(&mut self, handle: ConnHandle, cid: Cid, payload: &[u8]) -> Result<(), Refusal> {
+        entries::dispatch(&mut self.table.0, self.room, handle.0, cid.0, payload).map(|_| ())
+    }
+
+    /// Cuts a job into frames, and uses a credit for each.
+    ///
+    /// Refusals: 1, 6; 11 where the channel isn't open; 12 above the peer's MTU; 23; 20; 14 where the credits don't suffice; 3 where `out` is too
+    /// short.
+    pub fn send<'b>(&mut self, index: ChannelIndex, sdu: &[u8], out: &'b mut [u8]) -> Result<Frames<'b>, Refusal> {
+        let answer = entries::send(&mut self.table.0, out, index.0, sdu)?;
+        Ok(answer.frames(out))
+    }
+
+    /// Takes the oldest job that waits, as far as `sdu` reaches, and grants the peer new credits where they are due; none where no job waits.
+    ///
+    /// Refusals: 1, 2, 3, 6; 11 where no channel is or was open.
+    pub fn receive<'j, 'b>(
+        &mut self,
+        index: ChannelIndex,
+        sdu: &'j mut [u8],
+        buffer: &'b mut [u8],
+    ) -> Result<Option<Received<'j, 'b>>, Refusal> {
+        let answer = entries::receive(&mut self.table.0, self.room, buffer, sdu, index.0)?;
+        Ok(answer.job(sdu, buffer))
+    }
+
+    // ---- questions
+
+    /// The slots that call for something.
+    ///
+    /// Refusal: 1.
+    pub fn attention(&self) -> Result<Attention, Refusal> {
+        entries::attention(&self.table.0).map(|answer| answer.attention())
+    }
+
+    /// The channel's SPSM; 0 where the slot is free.
+    ///
+    /// Refusals: 1, 6.
+    pub fn spsm(&self, index: ChannelIndex) -> Result<u16, Refusal> {
+        entries::spsm(&self.table.0, index.0).map(|answer| answer.first())
+    }
+
+    /// The longest job that we take on this channel; 0 before it is ours.
+    ///
+    /// Refusals: 1, 6.
+    pub fn mtu(&self, index: ChannelIndex) -> Result<u16, Refusal> {
+        entries::mtu(&self.table.0, index.0).map(|answer| answer.first())
+    }
+
+    /// The longest frame payload that we take on this channel.
+    ///
+    /// Refusals: 1, 6.
+    pub fn mps(&self, index: ChannelIndex) -> Result<u16, Refusal> {
+        entries::mps(&self.table.0, index.0).map(|answer| answer.first())
+    }
+
+    /// The longest job that the peer takes.
+    ///
+    /// Refusals: 1, 6.
+    pub fn peer_mtu(&self, index: ChannelIndex) -> Result<u16, Refusal> {
+        entries::peer_mtu(&self.table.0, index.0).map(|answer| answer.first())
+    }
+
+    /// The longest frame payload that the peer takes.
+    ///
+    /// Refusals: 1, 6.
+    pub fn peer_mps(&self, index: ChannelIndex) -> Result<u16, Refusal> {
+        entries::peer_mps(&self.table.0, index.0).map(|answer| answer.first())
+    }
+}

@@ -1,0 +1,139 @@
+//! The table as octets, and a look at what they say.
+
+use crate::answer::{ChannelState, CreditFlowPolicy};
+use crate::codes::{ChannelIndex, ConnHandle, LeCreditConnResultCode, SLOTS};
+
+/// The octets of a table, for every number of slots.
+pub const TABLE_OCTETS: usize = 672;
+
+const HEAD: usize = 48;
+
+/// The octets of room that a table needs: a place for the job that arrives and one for each that waits, in every slot. `channels` is 1 to 16,
+/// `queue` 1 to 4 and `packet` 29 to 1,024; other sizes are refused by [`ChannelManager::new`](crate::ChannelManager::new).
+///
+/// ```
+/// assert_eq!(l2cap_channels::room_octets(2, 1, 64), 232);
+/// ```
+pub const fn room_octets(channels: u16, queue: u16, packet: u16) -> usize {
+    channels as usize * (queue as usize + 1) * (packet as usize).saturating_sub(6)
+}
+
+/// The channel table: numbers alone, no job's octets. It can be kept and compared. Octets that spell no well-formed table are refused by every
+/// call, by [`Refusal::BadTable`](crate::Refusal::BadTable).
+///
+/// The calls read it in the archive, by proved code; what is read here, for looking at it, is not.
+#[derive(Clone, Debug, PartialEq, Eq)]
+pub struct Table(pub(crate) [u8; TABLE_OCTETS]);
+
+impl Table {
+    /// The table that these octets spell, if they spell one: each call says whether they do.
+    pub const fn from_octets(octets: [u8; TABLE_OCTETS]) -> Self {
+        Self(octets)
+    }
+
+    /// The octets.
+    pub const fn octets(&self) -> &[u8; TABLE_OCTETS] {
+        &self.0
+    }
+
+    fn octet(&self, place: usize) -> u8 {
+        self.0.get(place).copied().unwrap_or(0)
+    }
+
+    /// The number of slots; 0 in the table that a refused making leaves.
+    pub fn channels(&self) -> u8 {
+        self.octet(1)
+    }
+
+    /// How many finished jobs can wait in a slot.
+    pub fn queue(&self) -> u8 {
+        self.octet(2)
+    }
+
+    /// The packet size.
+    pub fn packet(&self) -> u16 {
+        u16::from_le_bytes([self.octet(3), self.octet(4)])
+    }
+
+    /// The identifier of our next request.
+    pub fn identifier(&self) -> u8 {
+        self.octet(5)
+    }
+
+    /// What one slot holds; none where the table has no such slot.
+    pub fn slot(&self, index: ChannelIndex) -> Option<Slot> {
+        if index.0 >= self.channels() || index.0 >= SLOTS {
+            return None;
+        }
+        let octet = |column: usize| self.octet(HEAD + usize::from(SLOTS) * column + usize::from(index.0));
+        let number = |column: usize| u16::from_le_bytes([octet(column), octet(column + 1)]);
+        let state = match (octet(0), octet(1)) {
+            (1, identifier) => ChannelState::Connecting(identifier),
+            (2, identifier) => ChannelState::PeerConnecting(identifier),
+            (3, _) => ChannelState::Connected,
+            (4, result) => ChannelState::ConnectFailed(LeCreditConnResultCode::from_number(result.into())?),
+            (5, identifier) => ChannelState::PeerDisconnecting(identifier),
+            (6, announced) => ChannelState::Disconnecting(announced == 1),
+            _ => ChannelState::Disconnected,
+        };
+        let policy = if octet(10) == 1 { CreditFlowPolicy::MinThreshold(number(11)) } else { CreditFlowPolicy::Every(number(11)) };
+        Some(Slot {
+            state,
+            handle: ConnHandle(number(2)),
+            spsm: number(4),
+            mps: number(6),
+            mtu: number(8),
+            flow_policy: policy,
+            credits: number(13),
+            received: number(15),
+            hold: octet(17),
+            peer_cid: number(18),
+            peer_mps: number(20),
+            peer_mtu: number(22),
+            peer_credits: number(24),
+            have: number(26),
+            want: number(28),
+            waiting: octet(30),
+            lens: [number(31), number(33), number(35), number(37)],
+        })
+    }
+}
+
+/// What one slot holds. A free slot has zeros but for its hold.
+#[derive(Clone, Copy, Debug, PartialEq, Eq)]
+pub struct Slot {
+    /// The state.
+    pub state: ChannelState,
+    /// The link, while the slot isn't free.
+    pub handle: ConnHandle,
+    /// The channel's SPSM.
+    pub spsm: u16,
+    /// Our MPS.
+    pub mps: u16,
+    /// Our MTU.
+    pub mtu: u16,
+    /// How the peer gets new credits.
+    pub flow_policy: CreditFlowPolicy,
+    /// The credits that the peer still has.
+    pub credits: u16,
+    /// The frames that came since the last grant.
+    pub received: u16,
+    /// How many hold the slot.
+    pub hold: u8,
+    /// The peer's CID.
+    pub peer_cid: u16,
+    /// The peer's MPS.
+    pub peer_mps: u16,
+    /// The peer's MTU.
+    pub peer_mtu: u16,
+    /// The credits that we still have.
+    pub peer_credits: u16,
+    /// The octets so far of the job that arrives.
+    pub have: u16,
+    /// The octets in all of the job that arrives; 0 where none does.
+    pub want: u16,
+    /// The number of finished jobs that wait.
+    pub waiting: u8,
+    /// Their lengths, oldest first, then zeros.
+    pub lens: [u16; 4],
+}

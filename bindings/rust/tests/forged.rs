@@ -1,0 +1,127 @@
+//! Octets that no call wrote, given as a table.
+
+mod common;
+
+use common::*;
+use l2cap_channels::*;
+
+/// Where column `c` of a slot's row stands.
+fn cell(slot: usize, column: usize) -> usize {
+    48 + 16 * column + slot
+}
+
+/// A table with an open channel, a waiting job and half of another.
+fn busy() -> ([u8; TABLE_OCTETS], Vec<u8>) {
+    let mut room = [0; ROOM];
+    let mut channels = made(&mut room);
+    let index = opened(&mut channels);
+    channels.dispatch(PHONE, index.cid(), &[2, 0, 1, 2]).unwrap();
+    channels.dispatch(PHONE, index.cid(), &[4, 0, 3]).unwrap();
+    (*channels.table().octets(), channels.room().to_vec())
+}
+
+/// Whether every kind of call refuses these octets by 1, and leaves them and the room as they were.
+fn refused(octets: &[u8; TABLE_OCTETS], room: &[u8]) -> bool {
+    let mut its_room = room.to_vec();
+    let mut channels = ChannelManager::from_parts(Table::from_octets(*octets), &mut its_room);
+    let mut signal = [0x77; SIGNAL_OCTETS];
+    let mut job = [0x77; PLACE];
+    if channels.attention() != Err(Refusal::BadTable) {
+        return false;
+    }
+    assert_eq!(channels.mtu(SLOT), Err(Refusal::BadTable));
+    assert_eq!(channels.register_spsm(7), Err(Refusal::BadTable));
+    assert_eq!(channels.dispatch(PHONE, SLOT.cid(), &[1]), Err(Refusal::BadTable));
+    assert_eq!(channels.receive(SLOT, &mut job, &mut signal), Err(Refusal::BadTable));
+    assert_eq!(channels.disconnected(PHONE), Err(Refusal::BadTable));
+    assert_eq!(channels.inc_ref(SLOT), Err(Refusal::BadTable));
+    let pdu = octets_of_request();
+    let one = channels.signal(PHONE, true, LeConnRole::Central, &pdu, &mut signal);
+    assert_eq!((one.outcome, one.reply), (Err(Refusal::BadTable), &[][..]));
+    assert!(channels.table().octets() == octets && channels.room() == room);
+    assert_eq!((signal, job), ([0x77; SIGNAL_OCTETS], [0x77; PLACE]));
+    true
+}
+
+fn octets_of_request() -> Vec<u8> {
+    octets(&request(0x51, 100, 23, 5))
+}
+
+#[test]
+fn a_made_table_is_none_of_them() {
+    let (octets, room) = busy();
+    assert!(!refused(&octets, &room));
+}
+
+#[test]
+fn zeros_and_ones_are_no_table() {
+    assert!(refused(&[0; TABLE_OCTETS], &[]));
+    assert!(refused(&[0xFF; TABLE_OCTETS], &[0; ROOM]));
+}
+
+/// The head: another layout's number, sizes outside the limits, and the ten octets that are zero.
+#[test]
+fn forged_heads() {
+    let (octets, room) = busy();
+    let mut forged = vec![(0, 0), (0, 2), (1, 0), (1, 17), (2, 0), (2, 5), (3, 28), (4, 5)];
+    forged.extend((6..16).map(|place| (place, 1)));
+    for (place, value) in forged {
+        let mut octets = octets;
+        octets[place] = value;
+        assert!(refused(&octets, &room), "octet {place} as {value}");
+    }
+}
+
+/// Rows: a second spelling of a state or a policy, and numbers beyond a place or 65,535.
+#[test]
+fn forged_rows() {
+    let (octets, room) = busy();
+    let forged: [(&str, &[(usize, u8)]); 12] = [
+        ("a state of no kind", &[(0, 7)]),
+        ("a value where Connected has none", &[(1, 1)]),
+        ("a result code of no kind", &[(0, 4), (1, 3)]),
+        ("an announcement of no kind", &[(0, 6), (1, 2)]),
+        ("a policy of no kind", &[(10, 2)]),
+        ("a local MTU beyond the place", &[(8, 59)]),
+        ("the same by its high octet", &[(9, 1)]),
+        ("credits and received above 65,535", &[(13, 0xFF), (14, 0xFF), (15, 1)]),
+        ("an assembly beyond its place", &[(26, 59)]),
+        ("a wanted length beyond the place", &[(29, 1)]),
+        ("more jobs than can wait", &[(30, 3)]),
+        ("a job beyond its place", &[(31, 59)]),
+    ];
+    for (what, cells) in forged {
+        let mut octets = octets;
+        for (column, value) in cells {
+            octets[cell(0, *column)] = *value;
+        }
+        assert!(refused(&octets, &room), "{what}");
+    }
+    // At the edge they are a table.
+    for (column, value) in [(8, 58), (28, 58), (30, 2), (31, 58)] {
+        let mut octets = octets;
+        octets[cell(0, column)] = value;
+        assert!(!refused(&octets, &room), "column {column} as {value}");
+    }
+}
+
+/// Every octet, changed: the table is refused whole, or it is another table, whose calls all end.
+#[test]
+fn every_octet_changed() {
+    let (octets, room) = busy();
+    let mut tables = 0;
+    for place in 0..TABLE_OCTETS {
+        for change in [0x01, 0x80, 0xFF] {
+            let mut octets = octets;
+            octets[place] ^= change;
+            if !refused(&octets, &room) {
+                tables += 1;
+                let mut room = room.clone();
+                let mut channels = ChannelManager::from_parts(Table::from_octets(octets), &mut room);
+                let _ = channels.disconnected(PHONE);
+                assert!(channels.attention() != Err(Refusal::BadTable));
+            }
+        }
+    }
+    assert!(tables > 0);
+}

@@ -1,0 +1,552 @@
+//! Every refusal, by its number, and what it leaves.
+
+mod common;
+
+use common::*;
+use l2cap_channels::*;
+
+const HIGH: ConnHandle = ConnHandle(0x0F00);
+const BUFFER: [u8; SIGNAL_OCTETS] = [0x77; SIGNAL_OCTETS];
+
+fn config(mtu: Option<u16>, mps: Option<u16>, credits: Option<u16>) -> L2capChannelConfig {
+    L2capChannelConfig { mtu, mps, initial_credits: credits, ..Default::default() }
+}
+
+fn wish() -> ConnParamUpdateReq {
+    ConnParamUpdateReq { interval_min: 6, interval_max: 6, latency: 0, timeout: 10 }
+}
+
+/// The calls that read a table.
+const CALLS: [&str; 27] = [
+    "register_spsm",
+    "signal",
+    "send_conn_param_update_req",
+    "send_conn_param_update_res",
+    "next_pending",
+    "accept_pending",
+    "reject_pending",
+    "reject_all_pending",
+    "drop_pending",
+    "create",
+    "opened",
+    "give_up",
+    "inc_ref",
+    "dec_ref",
+    "disconnect",
+    "disconnect_by_cid",
+    "disconnected",
+    "next_disconnect",
+    "dispatch",
+    "send",
+    "receive",
+    "attention",
+    "spsm",
+    "mtu",
+    "mps",
+    "peer_mtu",
+    "peer_mps",
+];
+
+/// One of them, with what it refuses by.
+fn call(name: &str, channels: &mut ChannelManager<'_>, link: ConnHandle, index: ChannelIndex, signal: &mut [u8]) -> Option<Refusal> {
+    let usual = L2capChannelConfig::default();
+    let (mut job, mut out) = ([0; PLACE], [0; 64]);
+    match name {
+        "register_spsm" => channels.register_spsm(SPSM).err(),
+        "signal" => channels.signal(link, true, LeConnRole::Central, &[], signal).outcome.err(),
+        "send_conn_param_update_req" => channels.send_conn_param_update_req(link, &wish(), signal).err(),
+        "send_conn_param_update_res" => channels.send_conn_param_update_res(link, 0, signal).err(),
+        "next_pending" => channels.next_pending(link, true).err(),
+        "accept_pending" => channels.accept_pending(index, &usual, signal).err(),
+        "reject_pending" => channels.reject_pending(index, LeCreditConnResultCode::NoResources, signal).err(),
+        "reject_all_pending" => channels.reject_all_pending(link, signal).err(),
+        "drop_pending" => channels.drop_pending(index).err(),
+        "create" => channels.create(link, SPSM, &usual, signal).err(),
+        "opened" => channels.opened(index, link, true).err(),
+        "give_up" => channels.give_up(index).err(),
+        "inc_ref" => channels.inc_ref(index).err(),
+        "dec_ref" => channels.dec_ref(index).err(),
+        "disconnect" => channels.disconnect(index).err(),
+        "disconnect_by_cid" => channels.disconnect_by_cid(Cid(0x40)).err(),
+        "disconnected" => channels.disconnected(link).err(),
+        "next_disconnect" => channels.next_disconnect(signal).err(),
+        "dispatch" => channels.dispatch(link, Cid(0x40), &[0, 0]).err(),
+        "send" => channels.send(index, &[], &mut out).err(),
+        "receive" => channels.receive(index, &mut job, signal).err(),
+        "attention" => channels.attention().err(),
+        "spsm" => channels.spsm(index).err(),
+        "mtu" => channels.mtu(index).err(),
+        "mps" => channels.mps(index).err(),
+        "peer_mtu" => channels.peer_mtu(index).err(),
+        "peer_mps" => channels.peer_mps(index).err(),
+        other => panic!("no call has the name {other}"),
+    }
+}
+
+/// The calls that refuse by this, each made on the given table and room, and none of which changed table, room or signal buffer.
+fn refusing(refusal: Refusal, table: &Table, room: &[u8], link: ConnHandle, index: ChannelIndex, signal: &[u8]) -> Vec<&'static str> {
+    let mut names = Vec::new();
+    for name in CALLS {
+        let (mut its_room, mut its_signal) = (room.to_vec(), signal.to_vec());
+        let mut channels = ChannelManager::from_parts(table.clone(), &mut its_room);
+        if call(name, &mut channels, link, index, &mut its_signal) == Some(refusal) {
+            names.push(name);
+            assert!(channels.table() == table, "{name}: the table changed");
+            assert!(channels.room() == room, "{name}: the room changed");
+            assert_eq!(its_signal, signal, "{name}: the signal buffer changed");
+        }
+    }
+    names
+}
+
+/// A table with an open channel in slot 0, a waiting job and half of another.
+fn busy() -> (Table, Vec<u8>) {
+    let mut room = [0; ROOM];
+    let mut channels = made(&mut room);
+    let index = opened(&mut channels);
+    channels.dispatch(PHONE, index.cid(), &[2, 0, 1, 2]).unwrap();
+    channels.dispatch(PHONE, index.cid(), &[4, 0, 3]).unwrap();
+    state(&channels)
+}
+
+const LENT_ROOM: [&str; 14] = [
+    "signal",
+    "reject_pending",
+    "reject_all_pending",
+    "drop_pending",
+    "opened",
+    "give_up",
+    "dec_ref",
+    "disconnect",
+    "disconnect_by_cid",
+    "disconnected",
+    "next_disconnect",
+    "dispatch",
+    "receive",
+    "make",
+];
+
+#[test]
+fn refusal_01_bad_table() {
+    // A refused making leaves the room as it was, and a table of no slots that refuses every call.
+    for (n, d, m) in [(0, 1, 64), (17, 1, 64), (1, 0, 64), (1, 5, 64), (1, 1, 28), (1, 1, 1025), (65535, 65535, 65535)] {
+        let mut room = [0xAA; 58];
+        assert_eq!(ChannelManager::new(n, d, m, &mut room).err(), Some(Refusal::BadTable));
+        assert_eq!(room, [0xAA; 58]);
+    }
+    let (table, mut room) = busy();
+    let was = room.clone();
+    let mut channels = ChannelManager::from_parts(table, &mut room);
+    assert_eq!(channels.make(0, 1, 64), Err(Refusal::BadTable));
+    assert_eq!((channels.table().channels(), channels.table().queue(), channels.table().packet()), (0, 0, 0));
+    assert_eq!(channels.room(), was);
+    let none = channels.table().clone();
+    assert_eq!(refusing(Refusal::BadTable, &none, &was, PHONE, SLOT, &BUFFER), CALLS);
+    // It comes before every other refusal.
+    assert_eq!(refusing(Refusal::BadTable, &none, &[], HIGH, ChannelIndex(255), &[]), CALLS);
+}
+
+#[test]
+fn refusal_02_bad_room() {
+    let mut room = [0xAA; 57];
+    assert_eq!(ChannelManager::new(1, 1, 35, &mut room).err(), Some(Refusal::BadRoom));
+    assert_eq!(room, [0xAA; 57]);
+    let (table, room) = busy();
+    for wrong in [&room[..ROOM - 1], &[&room[..], &[0]].concat(), &[]] {
+        let names = refusing(Refusal::BadRoom, &table, wrong, PHONE, SLOT, &BUFFER);
+        assert_eq!(names, CALLS.iter().filter(|name| LENT_ROOM.contains(name)).copied().collect::<Vec<_>>());
+    }
+}
+
+#[test]
+fn refusal_03_no_room() {
+    let (table, room) = busy();
+    let names = refusing(Refusal::NoRoom, &table, &room, PHONE, SLOT, &BUFFER[..17]);
+    assert_eq!(
+        names,
+        [
+            "signal",
+            "send_conn_param_update_req",
+            "send_conn_param_update_res",
+            "accept_pending",
+            "reject_pending",
+            "reject_all_pending",
+            "create",
+            "next_disconnect",
+            "receive"
+        ]
+    );
+    assert_eq!(refusing(Refusal::NoRoom, &table, &room, HIGH, ChannelIndex(9), &[]), names);
+    assert!(refusing(Refusal::NoRoom, &table, &room, PHONE, SLOT, &BUFFER).is_empty());
+    // A job of 22 octets takes two frames, and 32 octets of output.
+    let mut room = room;
+    let mut channels = ChannelManager::from_parts(table, &mut room);
+    let mut out = [0x77; 32];
+    unchanged(&mut channels, Refusal::NoRoom, |channels| channels.send(SLOT, &[1; 22], &mut out[..31]));
+    assert_eq!(out, [0x77; 32]);
+    assert_eq!(channels.send(SLOT, &[1; 22], &mut out).unwrap().count, 2);
+}
+
+#[test]
+fn refusal_04_bad_handle() {
+    let (table, room) = busy();
+    let names = refusing(Refusal::BadHandle, &table, &room, HIGH, SLOT, &BUFFER);
+    let given = [
+        "signal",
+        "send_conn_param_update_req",
+        "send_conn_param_update_res",
+        "next_pending",
+        "reject_all_pending",
+        "create",
+        "opened",
+        "disconnected",
+        "dispatch",
+    ];
+    assert_eq!(names, given);
+    assert_eq!(refusing(Refusal::BadHandle, &table, &room, ConnHandle(65535), ChannelIndex(9), &BUFFER), given);
+    assert!(refusing(Refusal::BadHandle, &table, &room, ConnHandle(0x0EFF), SLOT, &BUFFER).is_empty());
+}
+
+#[test]
+fn refusal_05_bad_spsm() {
+    let mut room = [0; ROOM];
+    let mut channels = made(&mut room);
+    for spsm in [0, 256, 65535] {
+        unchanged(&mut channels, Refusal::BadSpsm, |channels| channels.register_spsm(spsm));
+    }
+    for spsm in [1, 255] {
+        channels.register_spsm(spsm).unwrap();
+    }
+}
+
+#[test]
+fn refusal_06_bad_slot() {
+    let (table, room) = busy();
+    for index in [2, 16, 255] {
+        let names = refusing(Refusal::BadSlot, &table, &room, PHONE, ChannelIndex(index), &BUFFER);
+        assert_eq!(
+            names,
+            [
+                "accept_pending",
+                "reject_pending",
+                "drop_pending",
+                "opened",
+                "give_up",
+                "inc_ref",
+                "dec_ref",
+                "disconnect",
+                "send",
+                "receive",
+                "spsm",
+                "mtu",
+                "mps",
+                "peer_mtu",
+                "peer_mps"
+            ]
+        );
+    }
+}
+
+#[test]
+fn refusal_07_invalid_channel_id() {
+    let mut room = [0; ROOM];
+    let mut channels = made(&mut room);
+    opened(&mut channels);
+    for cid in [0, 0x3F, 0x42, 0x50, 0x140, 65535] {
+        unchanged(&mut channels, Refusal::InvalidChannelId, |channels| channels.dispatch(PHONE, Cid(cid), &[1, 0, 9]));
+    }
+    let before = state(&channels);
+    assert_eq!(channels.dispatch(PHONE, Cid(0x41), &[1, 0, 9]), Ok(()));
+    assert!(before == state(&channels));
+}
+
+#[test]
+fn refusal_08_not_found() {
+    let (table, mut room) = busy();
+    let mut channels = ChannelManager::from_parts(table, &mut room);
+    unchanged(&mut channels, Refusal::NotFound, |channels| channels.dispatch(OTHER, SLOT.cid(), &[1, 0, 9]));
+    unchanged(&mut channels, Refusal::NotFound, |channels| channels.opened(SLOT, OTHER, true));
+    unchanged(&mut channels, Refusal::NotFound, |channels| channels.give_up(SLOT));
+    unchanged(&mut channels, Refusal::NotFound, |channels| {
+        channels.accept_pending(SLOT, &L2capChannelConfig::default(), &mut BUFFER.clone()).map(|_| ())
+    });
+    // Credits for a peer CID that no channel of this link has.
+    let before = state(&channels);
+    assert_eq!(feed(&mut channels, PHONE, "1609040051000100"), [(Err(Refusal::NotFound), String::new())]);
+    assert_eq!(feed(&mut channels, OTHER, "1609040050000100"), [(Err(Refusal::NotFound), String::new())]);
+    assert!(before == state(&channels));
+    // An unmatched connect response frees the link's attempts, and nothing else.
+    let mut signal = [0; SIGNAL_OCTETS];
+    let attempt = channels.create(PHONE, SPSM, &L2capChannelConfig::default(), &mut signal).unwrap().index;
+    assert_eq!(slot(&channels, attempt).state, ChannelState::Connecting(1));
+    assert_eq!(feed(&mut channels, PHONE, "15630a0050006400170005000000"), [(Err(Refusal::NotFound), String::new())]);
+    assert!(is_free(&slot(&channels, attempt)));
+    assert_eq!(channels.table().slot(SLOT), before.0.slot(SLOT));
+    assert_eq!(channels.room(), before.1);
+}
+
+#[test]
+fn refusal_09_invalid_value() {
+    // A signal longer than its PDU: the reject has its identifier, no signal before it is handled, and nothing is left to handle.
+    let mut room = [0; ROOM];
+    let mut channels = made(&mut room);
+    let before = state(&channels);
+    let pdu = request(0x50, 100, 23, 5) + "160a0900";
+    assert_eq!(feed(&mut channels, PHONE, &pdu), [(Err(Refusal::InvalidValue), "06000500010a02000000".into())]);
+    assert!(before == state(&channels));
+    // Credits above 65,535: disconnecting, credits kept, the half job gone.
+    let index = open(&mut channels, PHONE, &request(0x50, 100, 23, 65530), &L2capChannelConfig::default());
+    channels.dispatch(PHONE, index.cid(), &[4, 0, 3]).unwrap();
+    assert_eq!(feed(&mut channels, PHONE, "1609040050000500"), [(Ok(None), String::new())]);
+    assert_eq!(slot(&channels, index).peer_credits, 65535);
+    assert_eq!(feed(&mut channels, PHONE, "1609040050000100"), [(Err(Refusal::InvalidValue), String::new())]);
+    let left = slot(&channels, index);
+    assert_eq!((left.state, left.peer_credits, left.have, left.want), (ChannelState::Disconnecting(false), 65535, 0, 0));
+    assert!(channels.room().iter().all(|octet| *octet == 0));
+    // A frame: longer than our MTU, than the job's length, or than what is left of the job. The credit is used.
+    for frames in [&[&[59, 0][..]][..], &[&[1, 0, 1, 2]], &[&[4, 0, 1, 2], &[3, 4, 5]]] {
+        let mut room = [0; ROOM];
+        let mut channels = made(&mut room);
+        let index = opened(&mut channels);
+        let (last, first) = frames.split_last().unwrap();
+        for frame in first {
+            channels.dispatch(PHONE, index.cid(), frame).unwrap();
+        }
+        assert_eq!(channels.dispatch(PHONE, index.cid(), last), Err(Refusal::InvalidValue));
+        let left = slot(&channels, index);
+        assert_eq!((left.state, left.have, left.want), (ChannelState::Disconnecting(false), 0, 0));
+        assert_eq!((usize::from(left.credits), usize::from(left.received)), (2 - frames.len(), frames.len()));
+        assert!(channels.room().iter().all(|octet| *octet == 0));
+    }
+}
+
+#[test]
+fn refusal_10_out_of_memory() {
+    let (table, mut room) = busy();
+    let mut channels = ChannelManager::from_parts(table, &mut room);
+    assert_eq!(slot(&channels, SLOT).credits, 0);
+    unchanged(&mut channels, Refusal::OutOfMemory, |channels| channels.dispatch(PHONE, SLOT.cid(), &[4, 5, 6]));
+    assert_eq!(slot(&channels, SLOT).state, ChannelState::Connected);
+}
+
+#[test]
+fn refusal_11_channel_closed() {
+    let mut room = [0; ROOM];
+    let mut channels = made(&mut room);
+    let (mut job, mut out) = ([0x77; PLACE], [0x77; 64]);
+    for round in 0..2 {
+        unchanged(&mut channels, Refusal::ChannelClosed, |channels| channels.send(SLOT, &[1], &mut out).map(|_| ()));
+        unchanged(&mut channels, Refusal::ChannelClosed, |channels| channels.receive(SLOT, &mut job, &mut BUFFER.clone()).map(|_| ()));
+        if round == 0 {
+            feed(&mut channels, PHONE, &request(0x50, 100, 23, 5));
+        }
+    }
+    assert_eq!((job, out), ([0x77; PLACE], [0x77; 64]));
+}
+
+#[test]
+fn refusal_12_insufficient_space() {
+    let mut room = [0; ROOM];
+    let mut channels = made(&mut room);
+    feed(&mut channels, PHONE, &request(0x50, 100, 23, 5));
+    channels.next_pending(PHONE, true).unwrap();
+    let mut signal = BUFFER;
+    for (mtu, mps) in [(Some(59), None), (None, Some(61)), (Some(65535), Some(65535))] {
+        let asked = config(mtu, mps, None);
+        unchanged(&mut channels, Refusal::InsufficientSpace, |channels| channels.accept_pending(SLOT, &asked, &mut signal).map(|_| ()));
+        // A create has used an identifier, and nothing more.
+        let (before, room) = state(&channels);
+        assert_eq!(channels.create(PHONE, SPSM, &asked, &mut signal).err(), Some(Refusal::InsufficientSpace));
+        let (mut wanted, given) = (*before.octets(), before.identifier());
+        wanted[5] = given + 1;
+        assert!(channels.table().octets() == &wanted && channels.room() == &room[..]);
+    }
+    assert_eq!(signal, BUFFER);
+    channels.accept_pending(SLOT, &config(Some(58), Some(60), None), &mut signal).unwrap();
+    let mut out = [0x77; 256];
+    unchanged(&mut channels, Refusal::InsufficientSpace, |channels| channels.send(SLOT, &[1; 101], &mut out).map(|_| ()));
+    assert_eq!(out, [0x77; 256]);
+    channels.send(SLOT, &[1; 100], &mut out).unwrap();
+}
+
+#[test]
+fn refusal_13_no_channel_available() {
+    let mut room = [0; ROOM];
+    let mut channels = made(&mut room);
+    channels.inc_ref(SLOT).unwrap();
+    feed(&mut channels, PHONE, &request(0x50, 100, 23, 5));
+    let (before, room) = state(&channels);
+    let mut signal = BUFFER;
+    assert_eq!(channels.create(PHONE, SPSM, &L2capChannelConfig::default(), &mut signal).err(), Some(Refusal::NoChannelAvailable));
+    let mut wanted = *before.octets();
+    wanted[5] = 2;
+    assert!(channels.table().octets() == &wanted && channels.room() == &room[..]);
+    assert_eq!(signal, BUFFER);
+    channels.dec_ref(SLOT).unwrap();
+    assert_eq!(channels.create(PHONE, SPSM, &L2capChannelConfig::default(), &mut signal).unwrap().index, SLOT);
+}
+
+#[test]
+fn refusal_14_busy() {
+    let mut room = [0; ROOM];
+    let mut channels = made(&mut room);
+    let index = open(&mut channels, PHONE, &request(0x50, 100, 23, 1), &L2capChannelConfig::default());
+    let mut out = [0x77; 64];
+    unchanged(&mut channels, Refusal::Busy, |channels| channels.send(index, &[1; 22], &mut out).map(|_| ()));
+    assert_eq!(out, [0x77; 64]);
+    assert_eq!(channels.send(index, &[1; 21], &mut out).unwrap().count, 1);
+    assert_eq!(slot(&channels, index).peer_credits, 0);
+}
+
+#[test]
+fn refusal_15_decode() {
+    let mut room = [0; ROOM];
+    let mut channels = made(&mut room);
+    let before = state(&channels);
+    for pdu in ["14", "1407", "14070a", "06210400400050001603"] {
+        assert_eq!(feed(&mut channels, PHONE, pdu), [(Err(Refusal::Decode), String::new())]);
+    }
+    // A body of another length; of a response, an unlisted result too.
+    for code in ["01", "06", "07", "12", "13", "14", "15", "16"] {
+        let pdu = code.to_owned() + "05010000";
+        assert_eq!(feed(&mut channels, PHONE, &pdu), [(Err(Refusal::Decode), "06000500010502000000".into())]);
+    }
+    assert_eq!(feed(&mut channels, PHONE, "15010a0050006400170005000300"), [(Err(Refusal::Decode), "06000500010102000000".into())]);
+    assert!(before == state(&channels));
+}
+
+#[test]
+fn refusal_16_not_supported() {
+    let (table, mut room) = busy();
+    let mut channels = ChannelManager::from_parts(table, &mut room);
+    let before = state(&channels);
+    for code in [0x00, 0x02, 0x05, 0x08, 0x11, 0x17, 0xFF] {
+        let pdu = format!("{code:02x}0a0000");
+        assert_eq!(feed(&mut channels, PHONE, &pdu), [(Err(Refusal::NotSupported), "06000500010a02000000".into())]);
+    }
+    assert!(before == state(&channels));
+}
+
+#[test]
+fn refusal_17_connect_error() {
+    for number in [2, 4, 5, 6, 7, 8, 9, 10, 11] {
+        let code = LeCreditConnResultCode::from_number(number).unwrap();
+        let mut room = [0; ROOM];
+        let mut channels = made(&mut room);
+        let mut signal = [0; SIGNAL_OCTETS];
+        channels.create(PHONE, SPSM, &L2capChannelConfig::default(), &mut signal).unwrap();
+        let pdu = format!("15010a000000000000000000{number:02x}00");
+        assert_eq!(feed(&mut channels, PHONE, &pdu), [(Err(Refusal::ConnectError(code)), String::new())]);
+        assert_eq!(slot(&channels, SLOT).state, ChannelState::ConnectFailed(code));
+        assert_eq!(channels.attention(), Ok(Attention { set: 1, count: 1, lowest: Some(SLOT) }));
+        assert_eq!(channels.opened(SLOT, PHONE, true), Err(Refusal::ConnectError(code)));
+        assert!(is_free(&slot(&channels, SLOT)));
+    }
+}
+
+#[test]
+fn refusal_18_disconnected() {
+    let mut room = [0; ROOM];
+    let mut channels = made(&mut room);
+    unchanged(&mut channels, Refusal::Disconnected, |channels| channels.next_pending(PHONE, false));
+    unchanged(&mut channels, Refusal::Disconnected, |channels| channels.opened(SLOT, PHONE, true));
+    let mut signal = [0; SIGNAL_OCTETS];
+    // The link is down, or the channel ends before it was asked for: freed.
+    for up in [false, true] {
+        channels.create(PHONE, SPSM, &L2capChannelConfig::default(), &mut signal).unwrap();
+        if up {
+            assert_eq!(feed(&mut channels, PHONE, "0621040040005000"), [(Ok(None), String::new())]);
+        }
+        assert_eq!(channels.opened(SLOT, PHONE, up), Err(Refusal::Disconnected));
+        assert!(is_free(&slot(&channels, SLOT)));
+    }
+}
+
+#[test]
+fn refusal_19_short_frame() {
+    for frame in [&[][..], &[7]] {
+        let mut room = [0; ROOM];
+        let mut channels = made(&mut room);
+        let index = opened(&mut channels);
+        channels.dispatch(PHONE, index.cid(), &[2, 0, 8, 9]).unwrap();
+        assert_eq!(channels.dispatch(PHONE, index.cid(), frame), Err(Refusal::ShortFrame));
+        let left = slot(&channels, index);
+        assert_eq!((left.state, left.credits, left.received), (ChannelState::Disconnecting(false), 0, 2));
+        // The finished job can still be taken; nothing is granted any more.
+        let (mut job, mut signal) = ([0; PLACE], [0; SIGNAL_OCTETS]);
+        let taken = channels.receive(index, &mut job, &mut signal).unwrap().unwrap();
+        assert_eq!((taken.sdu, taken.credits), (&[8, 9][..], &[][..]));
+    }
+}
+
+#[test]
+fn refusal_20_bad_mps() {
+    let mut room = [0; ROOM];
+    let mut channels = made(&mut room);
+    let index = open(&mut channels, PHONE, &request(0x50, 100, 22, 5), &L2capChannelConfig::default());
+    let mut out = [0x77; 64];
+    unchanged(&mut channels, Refusal::BadMps, |channels| channels.send(index, &[1], &mut out).map(|_| ()));
+    assert_eq!(out, [0x77; 64]);
+}
+
+#[test]
+fn refusal_21_queue_full() {
+    let mut room = [0; ROOM];
+    let mut channels = made(&mut room);
+    let index = open(&mut channels, PHONE, &request(0x50, 100, 23, 5), &config(None, None, Some(9)));
+    channels.dispatch(PHONE, index.cid(), &[2, 0, 1, 2]).unwrap();
+    channels.dispatch(PHONE, index.cid(), &[1, 0, 3]).unwrap();
+    let (table, room) = state(&channels);
+    // Whole in one frame, and in two: the job is dropped and zeroed, the two that wait stay, the credits are used.
+    assert_eq!(channels.dispatch(PHONE, index.cid(), &[2, 0, 4, 5]), Err(Refusal::QueueFull));
+    channels.dispatch(PHONE, index.cid(), &[2, 0, 4]).unwrap();
+    assert_eq!(channels.dispatch(PHONE, index.cid(), &[5]), Err(Refusal::QueueFull));
+    let wanted = Slot { credits: 4, received: 5, ..table.slot(index).unwrap() };
+    assert_eq!(slot(&channels, index), wanted);
+    assert_eq!(channels.room(), room);
+    let (mut job, mut signal) = ([0; PLACE], [0; SIGNAL_OCTETS]);
+    assert_eq!(channels.receive(index, &mut job, &mut signal).unwrap().unwrap().sdu, [1, 2]);
+    assert_eq!(channels.receive(index, &mut job, &mut signal).unwrap().unwrap().sdu, [3]);
+}
+
+#[test]
+fn refusal_22_held() {
+    let mut room = [0; ROOM];
+    let mut channels = made(&mut room);
+    unchanged(&mut channels, Refusal::Held, |channels| channels.dec_ref(SLOT));
+    unchanged(&mut channels, Refusal::Held, |channels| channels.drop_pending(SLOT));
+    feed(&mut channels, PHONE, &request(0x50, 100, 23, 5));
+    let mut signal = BUFFER;
+    unchanged(&mut channels, Refusal::Held, |channels| {
+        channels.accept_pending(SLOT, &L2capChannelConfig::default(), &mut signal).map(|_| ())
+    });
+    unchanged(&mut channels, Refusal::Held, |channels| {
+        channels.reject_pending(SLOT, LeCreditConnResultCode::NoResources, &mut signal).map(|_| ())
+    });
+    assert_eq!(signal, BUFFER);
+    assert_eq!(channels.next_pending(PHONE, true), Ok(Some(SLOT)));
+    unchanged(&mut channels, Refusal::Held, |channels| channels.next_pending(PHONE, true));
+    channels.accept_pending(SLOT, &L2capChannelConfig::default(), &mut signal).unwrap();
+    unchanged(&mut channels, Refusal::Held, |channels| channels.opened(SLOT, PHONE, true));
+    for _ in 1..255 {
+        channels.inc_ref(SLOT).unwrap();
+    }
+    assert_eq!(slot(&channels, SLOT).hold, 255);
+    unchanged(&mut channels, Refusal::Held, |channels| channels.inc_ref(SLOT));
+}
+
+#[test]
+fn refusal_23_too_long() {
+    let mut room = [0; ROOM];
+    let mut channels = made(&mut room);
+    let index = open(&mut channels, PHONE, &request(0x50, 65535, 23, 65535), &L2capChannelConfig::default());
+    let mut out = vec![0x77; 76_935];
+    for length in [65534, 65535] {
+        unchanged(&mut channels, Refusal::TooLong, |channels| channels.send(index, &vec![1; length], &mut out).map(|_| ()));
+    }
+    assert!(out.iter().all(|octet| *octet == 0x77));
+    unchanged(&mut channels, Refusal::InsufficientSpace, |channels| channels.send(index, &vec![1; 65536], &mut out).map(|_| ()));
+    // The longest job that goes: 2,850 frames.
+    let frames = channels.send(index, &vec![1; 65533], &mut out).unwrap();
+    assert_eq!((frames.count, frames.octets.len(), frames.iter().count()), (2850, 76_935, 2850));
+}

@@ -8,18 +8,15 @@ use lib.Dec.{eqb, ltb}
 use lib.ListN.{length}
 use lib.Seq.{sets}
 use Rattle.lists.specs.Choose.{choose}
-use Rattle.codes.specs.declared.Refusal.the-variants.{BadTable}
 use Rattle.credit.specs.declared.CreditFlowPolicy.{CreditFlowPolicy}
 use Rattle.credit.specs.declared.CreditFlowPolicy.the-variants.{Every, MinThreshold}
-use Rattle.channel.specs.declared.Answer.the-variants.{Refused}
 use Rattle.channel.specs.declared.L2capChannelConfig.{L2capChannelConfig}
 use Rattle.channel.specs.declared.Served.{Served}
 use Rattle.channel.specs.declared.Setting.{Setting}
 use Rattle.channel.specs.declared.Setting.the-variants as Setting
 use Rattle.channel.specs.declared.Table.{Table}
 use Rattle.definition.specs.Table.{if_then_else_}
-use Rattle.definition.specs.Ending.{End, end, gave}
-use Rattle.definition.specs.Asking.{noSlots}
+use Rattle.definition.specs.Ending.{End, end}
 use Rattle.layout.specs.Layout.{read, written, tableOctets}
 use Rattle.layout.specs.declared.Decoded.{Decoded}
 use Rattle.answer_octets.specs.Answers.{tells, answerOctets}
@@ -51,7 +48,11 @@ lifted ok table answer e =
 unfoldable pub onTable : (table answer : List ℕ) → (Table → End) → Edge
 onTable table answer call = lifted (read table .ok) table answer (call (read table .table))
 
--- the same of a call that is lent nothing else
+-- A making: whatever the octets said, they are the table's afterwards, if they are as many (ok).
+unfoldable pub madeOn : (table answer : List ℕ) → (Bool → End) → Edge
+madeOn table answer call = lifted (eqb (length table) tableOctets) table answer (call (eqb (length table) tableOctets))
+
+-- a call that is lent nothing else
 abbrev pub alone : Served → End
 alone s = end s [] [] []
 
@@ -61,6 +62,10 @@ pub on-table : (o a : List ℕ) (f : Table → End) {d : Decoded} {e : Edge} {x 
 unfolding onTable
 on-table o a f {d} known stored called =
     stored ∙ ap (lifted (d .ok) o a) called ∙ ap (λ (r : Decoded). lifted (r .ok) o a (f (r .table))) known
+
+pub made-on : (o a : List ℕ) (f : Bool → End) {e : Edge} {x : End} → e ≡ lifted (eqb (length o) tableOctets) o a x → x ≡ f (eqb (length o) tableOctets) → e ≡ madeOn o a f
+unfolding madeOn
+made-on o a f stored called = stored ∙ ap (lifted (eqb (length o) tableOctets) o a) called
 
 -- ---- what numbers say
 

@@ -11,7 +11,7 @@ ghost use Prim.Native.Nat.{ℕ};
 ghost use Rattle.lists.specs.Choose.{choose};
 ghost use Rattle.definition.specs.Ending.{end};
 ghost use Rattle.layout.specs.Layout.{written};
-ghost use Rattle.edge.specs.Edge.{edge, lifted, flag, settingOf, policyBy, configOf};
+ghost use Rattle.edge.specs.Edge.{edge, lifted, settingOf, policyBy, configOf};
 
 // Writes the table back where its octets were a table's.
 fn keep(table: &mut [u8], ok: bool, t: Table)
@@ -31,11 +31,11 @@ pub fn store(table: &mut [u8], answer: &mut [u8], ok: bool, s: Served) -> u32
     answer_octets::put_answer(answer, s)
 }
 
-// 0 is false.
-pub fn flag(n: u8) -> bool
-    ensures { λ r. ⌜ r ≡ flag n ⌝ }
+// The slots to be made: none where the table's octets are too few or too many, which is refusal 1.
+pub fn slots_if(fits: bool, n: u16) -> u16
+    ensures { λ r. ⌜ r ≡ choose fits n 0 ⌝ }
 {
-    n != 0
+    if fits { n } else { 0 }
 }
 
 // A setting above 65,535 is the default.

@@ -2,11 +2,14 @@
 // answer back, and returns 0 or the refusal's number. Its contract is the call's own, lifted through the two layouts (Edge.antt of `edge`).
 use channel::ChannelIndex;
 use channel::Cid;
+use layout::TABLE_OCTETS;
 ghost use mathlib.Core.Path.{_≡_};
 ghost use mathlib.Core.List.{[]};
 ghost use lib.ListN.{length};
 ghost use Rattle.headers.specs.Headers.{restOf};
-ghost use Rattle.definition.specs.Asking.{registerSpsm, attention, spsm, mtu, mps, peerMtu, peerMps, sendConnParamUpdateReq, sendConnParamUpdateRes};
+ghost use Rattle.lists.specs.Choose.{choose};
+ghost use Rattle.making.specs.Made.{endMade};
+ghost use Rattle.definition.specs.Asking.{make, registerSpsm, attention, spsm, mtu, mps, peerMtu, peerMps, sendConnParamUpdateReq, sendConnParamUpdateRes};
 ghost use Rattle.definition.specs.Calls.{frame, jobs};
 ghost use Rattle.definition.specs.Closing.{incRef, decRef, disconnect, disconnectByCid, disconnected, nextDisconnect};
 ghost use Rattle.definition.specs.Ending.{servedOf, endOf};
@@ -16,7 +19,25 @@ ghost use Rattle.definition.specs.Pending.{nextPending, rejectAllPending, accep
 ghost use Rattle.definition.specs.Signals.{signalled};
 ghost use Rattle.dispatching.specs.Framed.{frameIn};
 ghost use Rattle.rejecting.specs.Numbered.{rejectNumbered};
-ghost use Rattle.edge.specs.Edge.{edge, onTable, alone, flag, configOf};
+ghost use Rattle.edge.specs.Edge.{edge, madeOn, onTable, alone, flag, configOf};
+
+// Makes a table of n slots, depth d and packets of m octets, and zeroes its room. Table octets of another length are refused by 1.
+#[no_mangle]
+pub extern "C" fn l2cap_make(
+    table: &mut [u8],
+    answer: &mut [u8],
+    room: &mut [u8],
+    n: u16,
+    d: u16,
+    m: u16,
+) -> u32
+    ensures { λ r. ⌜ edge r (now (table .exit)) (now (answer .exit)) (now (room .exit)) [] [] ≡ madeOn (now (table .entry)) (now (answer .entry)) (λ fits. endMade (make (choose fits n 0) d m (now (room .entry)))) ⌝ }
+{
+    let fits = table.len() == TABLE_OCTETS;
+    let slots = edge::slots_if(fits, n);
+    let s = making::make(slots, d, m, room);
+    edge::store(table, answer, fits, s)
+}
 
 // Registers an SPSM, 1 to 255.
 #[no_mangle]

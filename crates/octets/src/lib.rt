@@ -38,29 +38,6 @@ fn copy_run(dst: &mut [u8], at: usize, src: &[u8], from: usize, count: usize)
     }
 }
 
-// Eight octets, all read before the first is written: one move of the machine.
-fn copy_eight(dst: &mut [u8], at: usize, src: &[u8], from: usize)
-    requires { ⌜ (at + 8 ≤ length (now dst)) × (from + 8 ≤ length (now src)) ⌝ }
-    ensures { λ _. ⌜ now (dst .exit) ≡ sets (now (dst .entry)) at (part (now (src .entry)) from 8) ⌝ }
-{
-    let a = src[from];
-    let b = src[from + 1];
-    let c = src[from + 2];
-    let d = src[from + 3];
-    let e = src[from + 4];
-    let f = src[from + 5];
-    let g = src[from + 6];
-    let h = src[from + 7];
-    dst[at] = a;
-    dst[at + 1] = b;
-    dst[at + 2] = c;
-    dst[at + 3] = d;
-    dst[at + 4] = e;
-    dst[at + 5] = f;
-    dst[at + 6] = g;
-    dst[at + 7] = h;
-}
-
 // Copies the `n` octets of `src` from index `from` on into `dst` from index `at` on, as far as both reach. Behind
 // the whole eights the last eight are moved once more and at once, since single octets at the end take longest.
 pub fn copy_to(dst: &mut [u8], at: usize, src: &[u8], from: usize, n: usize)
@@ -72,7 +49,7 @@ pub fn copy_to(dst: &mut [u8], at: usize, src: &[u8], from: usize, n: usize)
     }
     copy_run(dst, at, src, from, whole(m));
     if 8 <= m {
-        copy_eight(dst, at + (m - 8), src, from + (m - 8));
+        eight::copy_eight(dst, at + (m - 8), src, from + (m - 8));
     }
 }
 

@@ -1,10 +1,10 @@
--- `octets::copy_eight` meets its contract: eight stores are a run of eight.
+-- `eight::copy_eight` meets its contract: eight stores are a run of eight.
 use native.Mathlib.Omega.{arith}
 use lib.ListN.{length-set}
 use borrow.Author.Needs.{needs}
-use Rattle.octets.specs.Sets.{eight-stores}
-use Rattle.octets.proofs.copy_eight.Statement.{statement}
-use Rattle.octets.proofs.copy_eight.Tie as tie
+use Rattle.eight.specs.Eight.{eight-stores}
+use Rattle.eight.proofs.copy_eight.Statement.{statement}
+use Rattle.eight.proofs.copy_eight.Tie as tie
 
 shared-slice-read-a : tie.Need-shared-slice-read-a
 shared-slice-read-a c = search needs

@@ -21,14 +21,6 @@ impl Answer {
         u16::from_le_bytes([octet(6 + 2 * place), octet(7 + 2 * place)])
     }
 
-    /// Nothing, or the refusal that the entry returned.
-    pub(crate) fn told(&self, refusal: u32) -> Result<(), Refusal> {
-        match refusal {
-            0 => Ok(()),
-            number => Err(Refusal::told(number, self.number(0))),
-        }
-    }
-
     /// The first number.
     pub(crate) fn first(&self) -> u16 {
         self.number(0)
@@ -248,6 +240,21 @@ pub struct L2capChannelConfig {
     pub flow_policy: CreditFlowPolicy,
     /// The credits that the peer starts with. Defaults to the number of jobs that can wait in a slot.
     pub initial_credits: Option<u16>,
+}
+
+/// A setting above 65,535 is the default.
+const DEFAULT: u32 = u32::MAX;
+
+impl L2capChannelConfig {
+    /// As a configuration crosses: MTU, MPS, the policy's kind and its number, credits.
+    pub(crate) fn numbers(&self) -> (u32, u32, u8, u16, u32) {
+        let setting = |number: Option<u16>| number.map_or(DEFAULT, u32::from);
+        let (kind, value) = match self.flow_policy {
+            CreditFlowPolicy::Every(k) => (0, k),
+            CreditFlowPolicy::MinThreshold(t) => (1, t),
+        };
+        (setting(self.mtu), setting(self.mps), kind, value, setting(self.initial_credits))
+    }
 }
 
 /// A slot's state.

@@ -2,7 +2,7 @@
 
 use crate::answer::{Attention, ChannelSignal, ConnParamUpdateReq, Frames, L2capChannelConfig, Outgoing, Received, Signalled};
 use crate::codes::{ChannelIndex, Cid, ConnHandle, LeConnRole, LeCreditConnResultCode, Refusal};
-use crate::entries;
+use crate::entries::{self, Returned};
 use crate::table::{Table, TABLE_OCTETS};
 
 /// The longest signal that is written: a lent signal buffer has at least so many octets.
@@ -31,7 +31,7 @@ impl<'r> ChannelManager<'r> {
 
     /// Makes the table anew, over the same room. A refused making leaves a table of no slots, and the room as it was.
     pub fn make(&mut self, channels: u16, queue: u16, packet: u16) -> Result<(), Refusal> {
-        entries::make(&mut self.table.0, self.room, channels, queue, packet).map(|_| ())
+        entries::make(&mut self.table.0, self.room, channels, queue, packet).told().map(|_| ())
     }
 
     /// Goes on with a table and a room that were kept. Nothing is tested here: each call tests both.
@@ -58,7 +58,7 @@ impl<'r> ChannelManager<'r> {
     ///
     /// Refusals: 1, 5.
     pub fn register_spsm(&mut self, spsm: u16) -> Result<(), Refusal> {
-        entries::register_spsm(&mut self.table.0, spsm).map(|_| ())
+        entries::register_spsm(&mut self.table.0, spsm).told().map(|_| ())
     }
 
     // ---- signals
@@ -79,9 +79,10 @@ impl<'r> ChannelManager<'r> {
         reply: &'b mut [u8],
     ) -> Signalled<'p, 'b> {
         let central = role == LeConnRole::Central;
-        let (refusal, answer) = entries::signal(&mut self.table.0, self.room, reply, handle.0, listening, central, pdu);
+        let returned = entries::signal(&mut self.table.0, self.room, reply, handle.0, listening.into(), central.into(), pdu);
         let rest = pdu.len().checked_sub(entries::signal_rest(pdu)).and_then(|start| pdu.get(start..)).unwrap_or(&[]);
-        Signalled { outcome: answer.told(refusal).map(|()| answer.event()), reply: answer.written(reply), rest }
+        let reply = returned.answer.written(reply);
+        Signalled { outcome: returned.told().map(|answer| answer.event()), reply, rest }
     }
 
     /// Handles every signal of a PDU. `each` gets what each came to and its reply, which is empty where nothing goes back.
@@ -111,7 +112,16 @@ impl<'r> ChannelManager<'r> {
         req: &ConnParamUpdateReq,
         buffer: &'b mut [u8],
     ) -> Result<Outgoing<'b>, Refusal> {
-        let answer = entries::send_conn_param_update_req(&mut self.table.0, buffer, handle.0, req)?;
+        let answer = entries::send_conn_param_update_req(
+            &mut self.table.0,
+            buffer,
+            handle.0,
+            req.interval_min,
+            req.interval_max,
+            req.latency,
+            req.timeout,
+        )
+        .told()?;
         Ok(Outgoing { handle, octets: answer.written(buffer) })
     }
 
@@ -124,7 +134,7 @@ impl<'r> ChannelManager<'r> {
         result: u16,
         buffer: &'b mut [u8],
     ) -> Result<Outgoing<'b>, Refusal> {
-        let answer = entries::send_conn_param_update_res(&mut self.table.0, buffer, handle.0, result)?;
+        let answer = entries::send_conn_param_update_res(&mut self.table.0, buffer, handle.0, result).told()?;
         Ok(Outgoing { handle, octets: answer.written(buffer) })
     }
 
@@ -134,7 +144,7 @@ impl<'r> ChannelManager<'r> {
     ///
     /// Refusals: 1, 4; 22 where that slot is held already; 18 where none waits and the link is down.
     pub fn next_pending(&mut self, handle: ConnHandle, up: bool) -> Result<Option<ChannelIndex>, Refusal> {
-        entries::next_pending(&mut self.table.0, handle.0, up).map(|answer| answer.slot())
+        entries::next_pending(&mut self.table.0, handle.0, up.into()).told().map(|answer| answer.slot())
     }
 
     /// Opens a pending channel. The hold stays, for whoever uses the channel.
@@ -146,7 +156,8 @@ impl<'r> ChannelManager<'r> {
         config: &L2capChannelConfig,
         buffer: &'b mut [u8],
     ) -> Result<Outgoing<'b>, Refusal> {
-        let answer = entries::accept_pending(&mut self.table.0, buffer, index.0, config)?;
+        let (mtu, mps, kind, value, credits) = config.numbers();
+        let answer = entries::accept_pending(&mut self.table.0, buffer, index.0, mtu, mps, kind, value, credits).told()?;
         Ok(answer.outgoing(buffer))
     }
 
@@ -159,7 +170,7 @@ impl<'r> ChannelManager<'r> {
         result: LeCreditConnResultCode,
         buffer: &'b mut [u8],
     ) -> Result<Outgoing<'b>, Refusal> {
-        let answer = entries::reject_pending(&mut self.table.0, self.room, buffer, index.0, result.number())?;
+        let answer = entries::reject_pending(&mut self.table.0, self.room, buffer, index.0, result.number()).told()?;
         Ok(answer.outgoing(buffer))
     }
 
@@ -167,7 +178,7 @@ impl<'r> ChannelManager<'r> {
     ///
     /// Refusals: 1, 2, 3, 4.
     pub fn reject_all_pending<'b>(&mut self, handle: ConnHandle, buffer: &'b mut [u8]) -> Result<Option<ChannelSignal<'b>>, Refusal> {
-        let answer = entries::reject_all_pending(&mut self.table.0, self.room, buffer, handle.0)?;
+        let answer = entries::reject_all_pending(&mut self.table.0, self.room, buffer, handle.0).told()?;
         Ok(answer.at(handle, buffer))
     }
 
@@ -175,7 +186,7 @@ impl<'r> ChannelManager<'r> {
     ///
     /// Refusals: 1, 2, 6, 22.
     pub fn drop_pending(&mut self, index: ChannelIndex) -> Result<(), Refusal> {
-        entries::drop_pending(&mut self.table.0, self.room, index.0).map(|_| ())
+        entries::drop_pending(&mut self.table.0, self.room, index.0).told().map(|_| ())
     }
 
     // ---- channels that we open
@@ -190,7 +201,8 @@ impl<'r> ChannelManager<'r> {
         config: &L2capChannelConfig,
         buffer: &'b mut [u8],
     ) -> Result<ChannelSignal<'b>, Refusal> {
-        let answer = entries::create(&mut self.table.0, buffer, handle.0, spsm, config)?;
+        let (mtu, mps, kind, value, credits) = config.numbers();
+        let answer = entries::create(&mut self.table.0, buffer, handle.0, spsm, mtu, mps, kind, value, credits).told()?;
         // An answer to a create has its slot.
         answer.at(handle, buffer).ok_or(Refusal::BadTable)
     }
@@ -200,14 +212,14 @@ impl<'r> ChannelManager<'r> {
     /// Refusals: 1, 2, 4, 6; 18 where the slot is free; 8 where it is another link's; 18 where link or channel are down, and 17 where the peer
     /// refused: these have freed the slot; 22 where it is held already.
     pub fn opened(&mut self, index: ChannelIndex, handle: ConnHandle, up: bool) -> Result<bool, Refusal> {
-        entries::opened(&mut self.table.0, self.room, index.0, handle.0, up).map(|answer| answer.is_opened())
+        entries::opened(&mut self.table.0, self.room, index.0, handle.0, up.into()).told().map(|answer| answer.is_opened())
     }
 
     /// Gives up an attempt of ours, and frees its slot.
     ///
     /// Refusals: 1, 2, 6, 8.
     pub fn give_up(&mut self, index: ChannelIndex) -> Result<(), Refusal> {
-        entries::give_up(&mut self.table.0, self.room, index.0).map(|_| ())
+        entries::give_up(&mut self.table.0, self.room, index.0).told().map(|_| ())
     }
 
     // ---- holds and ends
@@ -216,35 +228,35 @@ impl<'r> ChannelManager<'r> {
     ///
     /// Refusals: 1, 6, 22.
     pub fn inc_ref(&mut self, index: ChannelIndex) -> Result<(), Refusal> {
-        entries::inc_ref(&mut self.table.0, index.0).map(|_| ())
+        entries::inc_ref(&mut self.table.0, index.0).told().map(|_| ())
     }
 
     /// One hold less. The last one of an open channel lets it disconnect.
     ///
     /// Refusals: 1, 2, 6, 22.
     pub fn dec_ref(&mut self, index: ChannelIndex) -> Result<(), Refusal> {
-        entries::dec_ref(&mut self.table.0, self.room, index.0).map(|_| ())
+        entries::dec_ref(&mut self.table.0, self.room, index.0).told().map(|_| ())
     }
 
     /// Lets an open channel disconnect; nothing in another state. The request is written by [`next_disconnect`](Self::next_disconnect).
     ///
     /// Refusals: 1, 2, 6.
     pub fn disconnect(&mut self, index: ChannelIndex) -> Result<(), Refusal> {
-        entries::disconnect(&mut self.table.0, self.room, index.0).map(|_| ())
+        entries::disconnect(&mut self.table.0, self.room, index.0).told().map(|_| ())
     }
 
     /// The same by CID; nothing for a CID of no slot.
     ///
     /// Refusals: 1, 2.
     pub fn disconnect_by_cid(&mut self, cid: Cid) -> Result<(), Refusal> {
-        entries::disconnect_by_cid(&mut self.table.0, self.room, cid.0).map(|_| ())
+        entries::disconnect_by_cid(&mut self.table.0, self.room, cid.0).told().map(|_| ())
     }
 
     /// The link is down: frees all its slots, and zeroes what they held in the room. Holds stay until they are released.
     ///
     /// Refusals: 1, 2, 4.
     pub fn disconnected(&mut self, handle: ConnHandle) -> Result<(), Refusal> {
-        entries::disconnected(&mut self.table.0, self.room, handle.0).map(|_| ())
+        entries::disconnected(&mut self.table.0, self.room, handle.0).told().map(|_| ())
     }
 
     /// Writes the next disconnect that is due, the lowest slot's: the response to a peer's request, which frees the slot, or our request; none
@@ -252,7 +264,7 @@ impl<'r> ChannelManager<'r> {
     ///
     /// Refusals: 1, 2, 3.
     pub fn next_disconnect<'b>(&mut self, buffer: &'b mut [u8]) -> Result<Option<ChannelSignal<'b>>, Refusal> {
-        let answer = entries::next_disconnect(&mut self.table.0, self.room, buffer)?;
+        let answer = entries::next_disconnect(&mut self.table.0, self.room, buffer).told()?;
         Ok(answer.due(buffer))
     }
 
@@ -263,7 +275,7 @@ impl<'r> ChannelManager<'r> {
     /// Refusals: 1, 2, 4; 7 for a CID of no slot; 8 for another link's; 10 without a credit; then, with the credit used, 19 and 9, which leave the
     /// channel disconnecting, and 21, which drops the job.
     pub fn dispatch(&mut self, handle: ConnHandle, cid: Cid, payload: &[u8]) -> Result<(), Refusal> {
-        entries::dispatch(&mut self.table.0, self.room, handle.0, cid.0, payload).map(|_| ())
+        entries::dispatch(&mut self.table.0, self.room, handle.0, cid.0, payload).told().map(|_| ())
     }
 
     /// Cuts a job into frames, and uses a credit for each.
@@ -271,7 +283,7 @@ impl<'r> ChannelManager<'r> {
     /// Refusals: 1, 6; 11 where the channel isn't open; 12 above the peer's MTU; 23; 20; 14 where the credits don't suffice; 3 where `out` is too
     /// short.
     pub fn send<'b>(&mut self, index: ChannelIndex, sdu: &[u8], out: &'b mut [u8]) -> Result<Frames<'b>, Refusal> {
-        let answer = entries::send(&mut self.table.0, out, index.0, sdu)?;
+        let answer = entries::send(&mut self.table.0, out, index.0, sdu).told()?;
         Ok(answer.frames(out))
     }
 
@@ -284,51 +296,56 @@ impl<'r> ChannelManager<'r> {
         sdu: &'j mut [u8],
         buffer: &'b mut [u8],
     ) -> Result<Option<Received<'j, 'b>>, Refusal> {
-        let answer = entries::receive(&mut self.table.0, self.room, buffer, sdu, index.0)?;
+        let answer = entries::receive(&mut self.table.0, self.room, buffer, sdu, index.0).told()?;
         Ok(answer.job(sdu, buffer))
     }
 
     // ---- questions
 
+    /// A slot's number. A question leaves the table as it is, but its entry is lent it: it gets a copy.
+    fn asked(&self, question: fn(&mut [u8; TABLE_OCTETS], u8) -> Returned, index: ChannelIndex) -> Result<u16, Refusal> {
+        question(&mut self.table.clone().0, index.0).told().map(|answer| answer.first())
+    }
+
     /// The slots that call for something.
     ///
     /// Refusal: 1.
     pub fn attention(&self) -> Result<Attention, Refusal> {
-        entries::attention(&self.table.0).map(|answer| answer.attention())
+        entries::attention(&mut self.table.clone().0).told().map(|answer| answer.attention())
     }
 
     /// The channel's SPSM; 0 where the slot is free.
     ///
     /// Refusals: 1, 6.
     pub fn spsm(&self, index: ChannelIndex) -> Result<u16, Refusal> {
-        entries::spsm(&self.table.0, index.0).map(|answer| answer.first())
+        self.asked(entries::spsm, index)
     }
 
     /// The longest job that we take on this channel; 0 before it is ours.
     ///
     /// Refusals: 1, 6.
     pub fn mtu(&self, index: ChannelIndex) -> Result<u16, Refusal> {
-        entries::mtu(&self.table.0, index.0).map(|answer| answer.first())
+        self.asked(entries::mtu, index)
     }
 
     /// The longest frame payload that we take on this channel.
     ///
     /// Refusals: 1, 6.
     pub fn mps(&self, index: ChannelIndex) -> Result<u16, Refusal> {
-        entries::mps(&self.table.0, index.0).map(|answer| answer.first())
+        self.asked(entries::mps, index)
     }
 
     /// The longest job that the peer takes.
     ///
     /// Refusals: 1, 6.
     pub fn peer_mtu(&self, index: ChannelIndex) -> Result<u16, Refusal> {
-        entries::peer_mtu(&self.table.0, index.0).map(|answer| answer.first())
+        self.asked(entries::peer_mtu, index)
     }
 
     /// The longest frame payload that the peer takes.
     ///
     /// Refusals: 1, 6.
     pub fn peer_mps(&self, index: ChannelIndex) -> Result<u16, Refusal> {
-        entries::peer_mps(&self.table.0, index.0).map(|answer| answer.first())
+        self.asked(entries::peer_mps, index)
     }
 }

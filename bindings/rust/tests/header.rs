@@ -40,21 +40,25 @@ fn header() -> Entries {
     entries
 }
 
+/// The rows of `entries!`: slices that are lent, numbers, slices that are read. Behind table and answer come the first.
 fn wrapper() -> Entries {
     let text = read("src/entries.rs");
-    let block = text.split("extern \"C\" {").nth(1).and_then(|rest| rest.split("\n}").next()).expect("the extern block");
+    let rows = text.split("entries! {").nth(1).and_then(|rest| rest.split("\n}").next()).expect("the rows");
+    let slice = |kind: &str| [kind.to_owned(), "usize".into()];
     let mut entries = Entries::new();
-    for declaration in block.split(';') {
-        let (start, result) = match declaration.trim().split_once("->") {
-            Some(parts) => parts,
-            None => continue,
-        };
-        let (name, parameters) = start.trim_end().trim_end_matches(')').split_once('(').expect("parameters");
-        let given = parameters.split(',').filter_map(|parameter| parameter.split_once(':'));
-        let mut types: Vec<String> = given.map(|(_, kind)| kind.trim().into()).collect();
-        types.push(result.trim().into());
-        entries.insert(name.trim_start_matches("fn ").into(), types);
+    for row in rows.lines().filter_map(|row| row.trim().strip_prefix("fn ")) {
+        let (names, parameters) = row.trim_end_matches(");").split_once('(').expect("parameters");
+        let (_, entry) = names.split_once(" = ").expect("two names");
+        let groups: Vec<Vec<&str>> =
+            parameters.split(';').map(|group| group.split(',').map(str::trim).filter(|name| !name.is_empty()).collect()).collect();
+        let [lent, numbers, read] = &groups[..] else { panic!("three groups: {row}") };
+        let mut types: Vec<String> = ["table", "answer"].iter().chain(lent).flat_map(|_| slice("*mut u8")).collect();
+        types.extend(numbers.iter().map(|number| number.split_once(": ").expect("a number's type").1.to_owned()));
+        types.extend(read.iter().flat_map(|_| slice("*const u8")));
+        types.push("u32".into());
+        entries.insert(entry.into(), types);
     }
+    entries.insert("l2cap_signal_rest".into(), vec!["*const u8".into(), "usize".into(), "usize".into()]);
     entries
 }
 

@@ -1,0 +1,79 @@
+/* What a call costs through the archive: its time, and how often it copies a whole table. It is no test: nothing is asserted.
+ * gcc -O2 -Wl,--wrap=memcpy -o calls bindings/c/calls.c target/staticlib/libentries.a && ./calls */
+#include "l2cap_channels.h"
+#include <stdio.h>
+#include <string.h>
+#include <time.h>
+
+enum { N = 4, D = 1, M = 64, ROOM = N * (D + 1) * (M - 6), TABLE = 600, TURNS = 1000, SAMPLES = 101 };
+
+static uint8_t kept[L2CAP_TABLE_OCTETS], table[L2CAP_TABLE_OCTETS], answer[L2CAP_ANSWER_OCTETS], room[ROOM], signal[L2CAP_SIGNAL_OCTETS], out[64], job[64];
+static unsigned copies;
+
+/* A copy of so many octets is one of a table: nothing else in a call on these sizes is as long. */
+void *__real_memcpy(void *to, const void *from, size_t n);
+void *__wrap_memcpy(void *to, const void *from, size_t n) {
+    copies += n >= TABLE;
+    return __real_memcpy(to, from, n);
+}
+
+static double now(void) {
+    struct timespec t;
+    clock_gettime(CLOCK_MONOTONIC, &t);
+    return t.tv_sec * 1e9 + t.tv_nsec;
+}
+
+/* The table as it was before the call: every turn starts from it. */
+static void again(void) { __real_memcpy(table, kept, sizeof table); }
+
+/* The call on the table as it stands, timed and counted; then made once more for good. */
+#define CALL(what, call)                                                      \
+    do {                                                                      \
+        double best = 1e18;                                                   \
+        unsigned refusal, n;                                                  \
+        again(), copies = 0, refusal = call, n = copies;                      \
+        for (int s = 0; s < SAMPLES; s++) {                                   \
+            double from = now(), took;                                        \
+            for (int k = 0; k < TURNS; k++) again(), call;                    \
+            took = (now() - from) / TURNS;                                    \
+            if (took < best) best = took;                                     \
+        }                                                                     \
+        printf("| %s | %u | %u | %.0f |\n", what, refusal, n, best);          \
+        __real_memcpy(kept, table, sizeof kept);                              \
+    } while (0)
+
+#define LENT table, sizeof table, answer, sizeof answer
+#define IN(octets) octets, sizeof octets
+
+int main(void) {
+    static const uint8_t request[] = {0x14, 7, 10, 0, 0x80, 0, 0x50, 0, 100, 0, 23, 0, 5, 0};
+    static const uint8_t credits[] = {0x16, 8, 4, 0, 0x50, 0, 3, 0};
+    static const uint8_t unknown[] = {0x30, 9, 0, 0};
+    static const uint8_t frame[] = {3, 0, 1, 2, 3};
+
+    puts("| call | answer | copies of the table | ns |\n|---|---|---|---|");
+    CALL("make", l2cap_make(LENT, IN(room), N, D, M));
+    CALL("register_spsm", l2cap_register_spsm(LENT, 0x80));
+    CALL("signal, a connect request", l2cap_signal(LENT, IN(room), IN(signal), 1, 1, 0, IN(request)));
+    CALL("next_pending", l2cap_next_pending(LENT, 1, 1));
+    CALL("accept_pending", l2cap_accept_pending(LENT, IN(signal), 0, 65536, 65536, 0, 1, 65536));
+    CALL("signal, credits", l2cap_signal(LENT, IN(room), IN(signal), 1, 1, 0, IN(credits)));
+    CALL("signal, unknown", l2cap_signal(LENT, IN(room), IN(signal), 1, 1, 0, IN(unknown)));
+    CALL("dispatch, a whole job", l2cap_dispatch(LENT, IN(room), 1, 0x40, IN(frame)));
+    CALL("dispatch, no such CID", l2cap_dispatch(LENT, IN(room), 1, 0x50, IN(frame)));
+    CALL("attention", l2cap_attention(LENT));
+    CALL("mtu", l2cap_mtu(LENT, 0));
+    CALL("receive", l2cap_receive(LENT, IN(room), IN(signal), IN(job), 0));
+    CALL("send", l2cap_send(LENT, IN(out), 0, IN(frame)));
+    CALL("inc_ref", l2cap_inc_ref(LENT, 0));
+    CALL("dec_ref", l2cap_dec_ref(LENT, IN(room), 0));
+    CALL("create", l2cap_create(LENT, IN(signal), 1, 0x80, 65536, 65536, 0, 1, 65536));
+    CALL("opened, no answer yet", l2cap_opened(LENT, IN(room), 1, 1, 1));
+    CALL("give_up", l2cap_give_up(LENT, IN(room), 1));
+    CALL("disconnect", l2cap_disconnect(LENT, IN(room), 0));
+    CALL("next_disconnect", l2cap_next_disconnect(LENT, IN(room), IN(signal)));
+    CALL("disconnected", l2cap_disconnected(LENT, IN(room), 1));
+    kept[0] = 99;
+    CALL("attention, no table", l2cap_attention(LENT));
+    return 0;
+}

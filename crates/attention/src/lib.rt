@@ -18,7 +18,7 @@ fn bit_of(b: bool) -> u16
 pub fn attention_set(t: Table) -> u16
     ensures { λ r. ⌜ r ≡ bitset calls (live t) ⌝ }
 {
-    let mut i = slot::capped(t.n, SLOTS);
+    let mut i = octets::least(t.n, SLOTS);
     let mut a: u16 = 0;
     while 0 < i {
         i -= 1;
@@ -39,7 +39,7 @@ pub fn attention(t: Table) -> Answer
         return Answer::Attention {
             set,
             count,
-            lowest: slot::capped(t.n, SLOTS) as u8,
+            lowest: octets::least(t.n, SLOTS) as u8,
         };
     }
     Answer::Attention {

@@ -14,7 +14,7 @@ use Rattle.channel.specs.declared.Verdict.the-variants.{Pass, Stop}
 use Rattle.channel.specs.declared.Table.{Table}
 use Rattle.definition.specs.Table.{wellFormed, roomSize}
 use Rattle.definition.specs.Outcome.{fails, verdict}
-use Rattle.gate.specs.Sizes.{Sized, formed-sizes}
+use Rattle.sizes.specs.Sizes.{Sized, formed-sizes}
 
 -- P holds of the number, if one was given
 abbrev pub holds : (ℕ → Type 0) → Given → Type 0

@@ -1,10 +1,6 @@
 -- What a slot is searched for, as a value: each search of the crate `definition` by its name.
 use mathlib.Core.Bool.{Bool}
 use Prim.Native.Nat.{ℕ}
-use lib.Dec.{leb}
-use lib.ListN.{take}
-use Rattle.lists.specs.Every.{every}
-use Rattle.channel.specs.declared.Queue.{Queue}
 use Rattle.channel.specs.declared.Slot.{Slot}
 use Rattle.definition.specs.Table.{isFree, ofLink, pendingOf, unheldPendingOf, attemptOf, attemptBy, connectedTo, usesPeer, dueSlot, calls}
 use Rattle.slot.specs.declared.Want.{Want}
@@ -21,7 +17,3 @@ wanted (ConnectedTo l cid) x = connectedTo l cid x
 wanted (UsesPeer l cid) x = usesPeer l cid x
 wanted Due x = dueSlot x
 wanted Calls x = calls x
-
--- each job that waits fits its place
-abbrev pub lensFit : ℕ → Queue → Bool
-lensFit place q = every (λ n. leb n place) (take (q .count) (q .lens))

@@ -22,8 +22,8 @@ attention-set-requires c κs = search needs
 cast-count : tie.Need-cast-count
 cast-count c = omega (arith, ones-le 16 (c .attention-set .result) (omega arith))
 
-capped-requires : tie.Need-capped-requires
-capped-requires c κs = search needs
+least-requires : tie.Need-least-requires
+least-requires c κs = search needs
 
 cast-t7 : tie.Need-cast-t7
 cast-t7 c = search needs
@@ -35,7 +35,7 @@ returns c =
     let q = c .before .before .attention-set .ensures in
     let l = live (s .args .t) in
     let z = sym q ∙ c .before .if1 .taken in
-    attention-is q (ap ones q ∙ ones-count calls l) (c .capped .ensures ∙ sym (empty-first calls l z ∙ rw (length-take, e)))
+    attention-is q (ap ones q ∙ ones-count calls l) (c .least .ensures ∙ sym (empty-first calls l z ∙ rw (length-take, e)))
 
 cast-t8 : tie.Need-cast-t8
 cast-t8 c = omega (arith, trailing-le 16 (c .before .attention-set .result))
@@ -52,4 +52,4 @@ returns-2 c =
 pub attention-spec : {M : Type 1} → statement M
 attention-spec =
     tie.close
-    (tie.spec attention-set-requires cast-count capped-requires cast-t7 returns cast-t8 returns-2)
+    (tie.spec attention-set-requires cast-count least-requires cast-t7 returns cast-t8 returns-2)

@@ -25,8 +25,8 @@ below c h =
     let k : length (drop (c .loop .i) l) ≤ slotsMost - 1 = rw (length-drop, length-take) (omega (arith, long (c .before .before))) in
     rw (c .loop .inv .1 .is) (bitset-width calls (slotsMost - 1) (drop (c .loop .i) l) k)
 
-capped-requires : tie.Need-capped-requires Inv-loop μ-loop
-capped-requires c κs = search needs
+least-requires : tie.Need-least-requires Inv-loop μ-loop
+least-requires c κs = search needs
 
 loop-holds : tie.Need-loop-holds Inv-loop μ-loop
 loop-holds c =
@@ -78,7 +78,7 @@ attention-set-spec =
     (tie.spec
     Inv-loop
     μ-loop
-    capped-requires
+    least-requires
     loop-holds
     sub-i
     mul-x

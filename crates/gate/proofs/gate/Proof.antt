@@ -1,5 +1,5 @@
 -- `gate::gate` meets its contract: the definition's tests in its order, each by what its function ensures.
-use Rattle.gate.specs.Sizes.{formed-sizes}
+use Rattle.sizes.specs.Sizes.{formed-sizes}
 use Rattle.definition.specs.Outcome.{verdict}
 use Rattle.lists.specs.Choose.{choose}
 use borrow.Author.Tests.{not-false}

@@ -15,7 +15,7 @@ use Rattle.lists.specs.Choose.{choose}
 use Rattle.lists.specs.First.{first}
 use Rattle.lists.specs.Every.{every}
 use Rattle.lists.specs.Bits.{bit, bit-le, count}
-use Rattle.words.specs.Cut.{is, intoFirst, cutAt}
+use Rattle.cut_text.specs.Cut.{is, intoFirst, cutAt}
 
 -- the first piece goes up to the first c; the rest behind that one is cut
 pub cut-first : (c : ℕ) (xs : List ℕ) → cutAt c xs ≡ take (first (is c) xs) xs ∷ choose (ltb (first (is c) xs) (length xs)) (cutAt c (drop (suc (first (is c) xs)) xs)) []

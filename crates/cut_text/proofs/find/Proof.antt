@@ -1,4 +1,4 @@
--- `words::find` meets its contract: nothing is found below i (Passed), in the part that is searched.
+-- `cut_text::find` meets its contract: nothing is found below i (Passed), in the part that is searched.
 use Prim.Native.Nat.{_+_, _-_, _≤_}
 use native.Mathlib.Omega.{arith}
 use mathlib.Core.Path.{_≡_, ap, _∙_}
@@ -7,9 +7,9 @@ use borrow.Author.Needs.{needs}
 use lib.ListN.{drop, length-drop}
 use lib.Seq.{getD-drop}
 use Rattle.lists.specs.First.{Passed, passed-none, passed-more, passed-hit, passed-all}
-use Rattle.words.specs.Cut.{is}
-use Rattle.words.proofs.find.Statement.{statement}
-use Rattle.words.proofs.find.Tie as tie
+use Rattle.cut_text.specs.Cut.{is}
+use Rattle.cut_text.proofs.find.Statement.{statement}
+use Rattle.cut_text.proofs.find.Tie as tie
 
 abbrev Inv-loop : tie.InvT-loop
 Inv-loop s from to c n i₀ i = (i ≤ n) × Passed (is c) (to - from) (drop from s) i

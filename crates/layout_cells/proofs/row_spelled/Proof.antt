@@ -1,8 +1,8 @@
--- `layout_read::row_spelled` meets its contract: the tests are those of the definition.
+-- `layout_cells::row_spelled` meets its contract: the tests are those of the definition.
 use Rattle.layout.specs.Spelled.{rowSpelled}
 use borrow.Author.Needs.{needs}
-use Rattle.layout_read.proofs.row_spelled.Statement.{statement}
-use Rattle.layout_read.proofs.row_spelled.Tie as tie
+use Rattle.layout_cells.proofs.row_spelled.Statement.{statement}
+use Rattle.layout_cells.proofs.row_spelled.Tie as tie
 
 octet-requires : tie.Need-octet-requires
 octet-requires c κs = search needs

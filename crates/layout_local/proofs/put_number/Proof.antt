@@ -1,7 +1,7 @@
--- `layout_write::put_number` meets its contract: two stores.
+-- `layout_local::put_number` meets its contract: two stores.
 use borrow.Author.Needs.{needs}
-use Rattle.layout_write.proofs.put_number.Statement.{statement}
-use Rattle.layout_write.proofs.put_number.Tie as tie
+use Rattle.layout_local.proofs.put_number.Statement.{statement}
+use Rattle.layout_local.proofs.put_number.Tie as tie
 
 cast-put-octet : tie.Need-cast-put-octet
 cast-put-octet c = search needs

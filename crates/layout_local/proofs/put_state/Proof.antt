@@ -1,8 +1,8 @@
--- `layout_write::put_state` meets its contract: its stores are the row's, one after the other.
-use Rattle.layout_write.specs.Cells.{puts}
+-- `layout_local::put_state` meets its contract: its stores are the row's, one after the other.
+use Rattle.layout_local.specs.Puts.{puts}
 use borrow.Author.Needs.{needs}
-use Rattle.layout_write.proofs.put_state.Statement.{statement}
-use Rattle.layout_write.proofs.put_state.Tie as tie
+use Rattle.layout_local.proofs.put_state.Statement.{statement}
+use Rattle.layout_local.proofs.put_state.Tie as tie
 
 state-kind-requires : tie.Need-state-kind-requires
 state-kind-requires c κs = search needs

@@ -1,8 +1,8 @@
--- `layout_write::put_local` meets its contract: its stores are the row's, one after the other.
-use Rattle.layout_write.specs.Cells.{puts}
+-- `layout_local::put_local` meets its contract: its stores are the row's, one after the other.
+use Rattle.layout_local.specs.Puts.{puts}
 use borrow.Author.Needs.{needs}
-use Rattle.layout_write.proofs.put_local.Statement.{statement}
-use Rattle.layout_write.proofs.put_local.Tie as tie
+use Rattle.layout_local.proofs.put_local.Statement.{statement}
+use Rattle.layout_local.proofs.put_local.Tie as tie
 
 put-number-requires : tie.Need-put-number-requires
 put-number-requires c κs = search needs

@@ -1,8 +1,8 @@
--- `layout_write::put_account` meets its contract: its stores are the row's, one after the other.
-use Rattle.layout_write.specs.Cells.{puts}
+-- `layout_local::put_account` meets its contract: its stores are the row's, one after the other.
+use Rattle.layout_local.specs.Puts.{puts}
 use borrow.Author.Needs.{needs}
-use Rattle.layout_write.proofs.put_account.Statement.{statement}
-use Rattle.layout_write.proofs.put_account.Tie as tie
+use Rattle.layout_local.proofs.put_account.Statement.{statement}
+use Rattle.layout_local.proofs.put_account.Tie as tie
 
 policy-kind-requires : tie.Need-policy-kind-requires
 policy-kind-requires c κs = search needs

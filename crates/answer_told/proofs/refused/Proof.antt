@@ -1,8 +1,8 @@
--- `answer_octets::refused` meets its contract: the two numbers are what their functions ensure.
-use Rattle.answer_octets.specs.Answers.{tells}
+-- `answer_told::refused` meets its contract: the two numbers are what their functions ensure.
+use Rattle.answer_told.specs.Tells.{tells}
 use borrow.Author.Needs.{needs}
-use Rattle.answer_octets.proofs.refused.Statement.{statement}
-use Rattle.answer_octets.proofs.refused.Tie as tie
+use Rattle.answer_told.proofs.refused.Statement.{statement}
+use Rattle.answer_told.proofs.refused.Tie as tie
 
 refusal-number-requires : tie.Need-refusal-number-requires
 refusal-number-requires c κs = search needs

@@ -1,8 +1,8 @@
--- `answer_octets::code_of` meets its contract: in each arm what the match told is the definition's case.
-use Rattle.answer_octets.specs.Answers.{codeOf}
+-- `answer_told::code_of` meets its contract: in each arm what the match told is the definition's case.
+use Rattle.answer_told.specs.Tells.{codeOf}
 use borrow.Author.Needs.{needs}
-use Rattle.answer_octets.proofs.code_of.Statement.{statement}
-use Rattle.answer_octets.proofs.code_of.Tie as tie
+use Rattle.answer_told.proofs.code_of.Statement.{statement}
+use Rattle.answer_told.proofs.code_of.Tie as tie
 
 enum-told : tie.Need-enum-told
 enum-told c = search needs

@@ -1,8 +1,8 @@
--- `answer_octets::tells` meets its contract: in each arm what the match told is the definition's case.
-use Rattle.answer_octets.specs.Answers.{tells}
+-- `answer_told::tells` meets its contract: in each arm what the match told is the definition's case.
+use Rattle.answer_told.specs.Tells.{tells}
 use borrow.Author.Needs.{needs}
-use Rattle.answer_octets.proofs.tells.Statement.{statement}
-use Rattle.answer_octets.proofs.tells.Tie as tie
+use Rattle.answer_told.proofs.tells.Statement.{statement}
+use Rattle.answer_told.proofs.tells.Tie as tie
 
 enum-told : tie.Need-enum-told
 enum-told c = search needs

@@ -1,3 +1,2 @@
 -- What the row of a call shows of its answer.
 pub mod Answers
-pub mod AnswerLaws

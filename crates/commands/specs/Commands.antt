@@ -1,14 +1,13 @@
 -- The table of calls (docs/CHANRUN.md), by the number of words of a line: a letter, then what the call is given. A letter that no call of that many
 -- words has, and a word that is not of the call's kind, make the line bad. `last` is where the last word stands: octets are read from there.
-use mathlib.Core.Bool.{_&&_}
 use mathlib.Core.List.{List}
 use Prim.Native.Nat.{ℕ}
 use lib.Dec.{eqb}
 use Rattle.lists.specs.Choose.{choose}
-use Rattle.hex.specs.Hex.{isHexWord}
+use Rattle.hex_words.specs.HexWords.{isHexWord}
 use Rattle.words.specs.declared.Word.{Word}
 use Rattle.commands.specs.declared.Command.{Command}
-use Rattle.fields.specs.Fields.{isNumber, numberOf, isFlag, flagOf, isRole, centralOf, isConfig, configOf}
+use Rattle.plain_fields.specs.PlainFields.{isNumber, numberOf, isFlag, flagOf}
 use Rattle.commands.specs.declared.Command.the-variants as Command
 
 unfoldable pub oneWord : (c : ℕ) → Command
@@ -50,35 +49,3 @@ threeWords c a b last =
     (choose (eqb c 75) (choose (isHexWord b) (Command.Send (numberOf a) last) Command.Bad)  -- K slot hex
     (choose (isNumber b) (withNumbers c (numberOf a) (numberOf b)) Command.Bad)))
     Command.Bad
-
-unfoldable pub fourWords : (c : ℕ) (a b d : List ℕ) (last : Word) → Command
-fourWords c a b d last =
-    choose (isNumber a && isNumber b)
-    (choose (eqb c 84) (choose (isNumber d) (Command.Make (numberOf a) (numberOf b) (numberOf d)) Command.Bad)  -- T n d m
-    (choose (eqb c 79) (choose (isFlag d) (Command.Opened (numberOf a) (numberOf b) (flagOf d)) Command.Bad)  -- O slot link up
-    (choose (eqb c 70) (choose (isHexWord d) (Command.Dispatch (numberOf a) (numberOf b) last) Command.Bad)  -- F link cid hex
-    Command.Bad)))
-    Command.Bad
-
--- S link listening role hex
-unfoldable pub fiveWords : (c : ℕ) (a b d e : List ℕ) (last : Word) → Command
-fiveWords c a b d e last =
-    choose (eqb c 83 && isNumber a && isFlag b && isRole d && isHexWord e)
-    (Command.Signal (numberOf a) (flagOf b) (centralOf d) last)
-    Command.Bad
-
-unfoldable pub sixWords : (c : ℕ) (a b d e f : List ℕ) → Command
-sixWords c a b d e f =
-    choose (isNumber a)
-    (choose (eqb c 65) (choose (isConfig b d e f) (Command.AcceptPending (numberOf a) (configOf b d e f)) Command.Bad)  -- A slot mtu mps policy credits
-    (choose (eqb c 89)
-    (choose (isNumber b && isNumber d && isNumber e && isNumber f)
-    (Command.SendConnParamUpdateReq (numberOf a) (numberOf b) (numberOf d) (numberOf e) (numberOf f))  -- Y link min max latency timeout
-    Command.Bad)
-    Command.Bad))
-    Command.Bad
-
--- C link spsm mtu mps policy credits
-unfoldable pub sevenWords : (c : ℕ) (a b d e f g : List ℕ) → Command
-sevenWords c a b d e f g =
-    choose (eqb c 67 && isNumber a && isNumber b && isConfig d e f g) (Command.Create (numberOf a) (numberOf b) (configOf d e f g)) Command.Bad

@@ -1,8 +1,7 @@
--- Decimal numbers (docs/CHANRUN.md): "1 to 5 digits, at most 65,535". Zeros in front are digits as any other (`007` is 7); a number is written
--- without them.
+-- Decimal numbers (docs/CHANRUN.md): "1 to 5 digits, at most 65,535". Zeros in front are digits as any other (`007` is 7).
 use mathlib.Core.Bool.{Bool, _&&_}
-use mathlib.Core.List.{List, [], _∷_, _++_}
-use Prim.Native.Nat.{ℕ, zero, suc, _+_, _-_, _*_, _/_, _%_}
+use mathlib.Core.List.{List, [], _∷_}
+use Prim.Native.Nat.{ℕ, _+_, _-_, _*_}
 use lib.Dec.{leb, ltb}
 use lib.ListN.{length}
 use Rattle.lists.specs.Choose.{choose}
@@ -26,12 +25,3 @@ numberRead w =
     (choose (every isDigit w)
     (choose (ltb 65535 (spelt 0 w)) NumberRead.Bad (NumberRead.Is (spelt 0 w)))
     NumberRead.Bad))
-
--- the last digit behind the others, of at most k
-unfoldable pub digits : ℕ → ℕ → List ℕ
-digits zero n = []
-digits (suc k) n = choose (ltb n 10) ((48 + n) ∷ []) (digits k (n / 10) ++ (48 + n % 10) ∷ [])
-
--- a number of 16 bits has at most five
-abbrev pub numberText : ℕ → List ℕ
-numberText n = digits 5 n

@@ -1,5 +1,5 @@
--- What is written is read again; and the two steps of writing: a last digit behind the rest.
-use mathlib.Core.Path.{_≡_, refl, sym, ap, _∙_}
+-- What is written is read again; and the steps of reading.
+use mathlib.Core.Path.{_≡_, refl, sym, _∙_}
 use mathlib.Core.Bool.{Bool, true, false, _&&_, false≢true}
 use mathlib.Core.List.{List, [], _∷_, _++_}
 use Prim.Native.Nat.{ℕ, zero, suc, _+_, _-_, _*_, _/_, _%_, _^_, _≤_, _<_}
@@ -13,33 +13,11 @@ use borrow.Author.Tests.{lt-ltb, le-ltb, le-leb, ltb-true, leb-true}
 use Rattle.lists.specs.Choose.{choose}
 use Rattle.lists.specs.Every.{every, Kept, kept-none, kept-more, kept-fails, kept-all}
 use Rattle.decimal.specs.declared.NumberRead.the-variants as NumberRead
-use Rattle.decimal.specs.Decimal.{isDigit, spelt, numberRead, digits, numberText}
+use Rattle.decimal_write.specs.NumberText.{digits, numberText}
+use Rattle.decimal_write.specs.NumberTextLaws.{tenth}
+use Rattle.decimal.specs.Decimal.{isDigit, spelt, numberRead}
 
--- ---- the digits of a number below 10 ^ k, of which there are at most k
-
-tenth : (k n : ℕ) → n < 10 ^ suc k → n / 10 < 10 ^ k
-tenth k n h = omega (arith, pow-suc 10 k)
-
--- room for more digits changes nothing
-digits-enough : (k n : ℕ) → n < 10 ^ suc k → digits (suc k) n ≡ digits (suc (suc k)) n
-unfolding digits choose
-digits-enough zero n h = rw (lt-ltb n 10 h)
-digits-enough (suc k) n h = go (ltb n 10) (digits-enough k (n / 10) (tenth (suc k) n h))
-  where
-    go : (b : Bool) → digits (suc k) (n / 10) ≡ digits (suc (suc k)) (n / 10)
-        → choose b ((48 + n) ∷ []) (digits (suc k) (n / 10) ++ (48 + n % 10) ∷ []) ≡ choose b ((48 + n) ∷ []) (digits (suc (suc k)) (n / 10) ++ (48 + n % 10) ∷ [])
-    go true e = refl
-    go false e = ap (λ l. l ++ (48 + n % 10) ∷ []) e
-
--- the two steps of writing
-pub number-one : (n : ℕ) → n < 10 → numberText n ≡ (48 + n) ∷ []
-unfolding digits choose
-number-one n h = rw (lt-ltb n 10 h)
-
-pub number-more : (n : ℕ) → 10 ≤ n → n < 65536 → numberText n ≡ numberText (n / 10) ++ (48 + n % 10) ∷ []
-unfolding digits choose
-number-more n l h =
-    rw (le-ltb n 10 l) (ap (λ r. r ++ (48 + n % 10) ∷ []) (digits-enough 3 (n / 10) (omega arith)))
+-- ---- the digits of a number below 10 ^ k, of which there are at most k, spell it
 
 spelt-last : (a : ℕ) (xs : List ℕ) (c : ℕ) → spelt a (xs ++ c ∷ []) ≡ 10 * spelt a xs + (c - 48)
 unfolding spelt

@@ -1,3 +1,3 @@
--- Decimal numbers, read and written.
+-- Decimal numbers, read; and what is written is read again.
 pub mod Decimal
 pub mod DecimalLaws

@@ -1,9 +1,7 @@
-// Decimal numbers of a script: read from a word and written into a row. What a word spells and how a number is written are defined in
-// specs/Decimal.antt; that a number written is read again is a law of specs/DecimalLaws.antt. It rests on `rows`.
-use rows::write_character;
+// Decimal numbers of a script, read from a word; `decimal_write` writes them. What a word spells is defined in specs/Decimal.antt; that a number
+// written is read again is a law of specs/DecimalLaws.antt.
 ghost use mathlib.Core.Path.{_≡_};
-ghost use Rattle.rows.specs.Rows.{Writes};
-ghost use Rattle.decimal.specs.Decimal.{isDigit, numberRead, numberText};
+ghost use Rattle.decimal.specs.Decimal.{isDigit, numberRead};
 
 // What a word spells: a number of 16 bits, or none.
 pub enum NumberRead {
@@ -41,15 +39,4 @@ pub fn read_number(word: &[u8]) -> NumberRead
         return NumberRead::Bad;
     }
     NumberRead::Is(n as u16)
-}
-
-// Writes a number at `at` with no zero in front, and gives the place behind it.
-pub fn write_number(out: &mut [u8], at: usize, n: u16) -> usize
-    ensures { λ r. ⌜ Writes (now (out .entry)) at (numberText n) r (now (out .exit)) ⌝ }
-{
-    if n < 10 {
-        return write_character(out, at, (48 + n) as u8);
-    }
-    let next = write_number(out, at, n / 10);
-    write_character(out, next, (48 + n % 10) as u8)
 }

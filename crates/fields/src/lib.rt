@@ -1,63 +1,14 @@
-// The words of a call, one kind each: whether a word is of that kind, and what it then says. A word is tested before it is asked. What each
-// word says is defined in specs/Fields.antt. It rests on `decimal`, and what a config says is a value of `channel`.
+// The words of a configuration, one kind each, beside the plain ones (`plain_fields`): whether a word is of that kind, and what it then says. A
+// word is tested before it is asked. What each word says is defined in specs/Fields.antt; what a config says is a value of `channel`.
 use channel::L2capChannelConfig;
 use channel::Setting;
 use credit::CreditFlowPolicy;
-use decimal::NumberRead;
-use decimal::read_number;
+use plain_fields::is_number;
+use plain_fields::is_one;
+use plain_fields::number_of;
 ghost use mathlib.Core.Path.{_≡_};
 ghost use lib.ListN.{drop};
-ghost use Rattle.fields.specs.Fields.{isNumber, numberOf, isOne, isFlag, flagOf, isRole, centralOf, isSetting, settingOf, isPolicy, policyOf, isConfig, configOf};
-
-pub fn is_number(word: &[u8]) -> bool
-    ensures { λ r. ⌜ r ≡ isNumber (now (word .entry)) ⌝ }
-{
-    match read_number(word) {
-        NumberRead::Bad => false,
-        NumberRead::Is(_) => true,
-    }
-}
-
-pub fn number_of(word: &[u8]) -> u16
-    ensures { λ r. ⌜ r ≡ numberOf (now (word .entry)) ⌝ }
-{
-    match read_number(word) {
-        NumberRead::Bad => 0,
-        NumberRead::Is(n) => n,
-    }
-}
-
-// Whether a word is the one character `c`.
-pub fn is_one(word: &[u8], c: u8) -> bool
-    ensures { λ r. ⌜ r ≡ isOne c (now (word .entry)) ⌝ }
-{
-    (word.len() == 1) & (octets::octet(word, 0) == c)
-}
-
-pub fn is_flag(word: &[u8]) -> bool
-    ensures { λ r. ⌜ r ≡ isFlag (now (word .entry)) ⌝ }
-{
-    is_number(word) & (number_of(word) <= 1)
-}
-
-pub fn flag_of(word: &[u8]) -> bool
-    ensures { λ r. ⌜ r ≡ flagOf (now (word .entry)) ⌝ }
-{
-    number_of(word) == 1
-}
-
-pub fn is_role(word: &[u8]) -> bool
-    ensures { λ r. ⌜ r ≡ isRole (now (word .entry)) ⌝ }
-{
-    is_one(word, 99) | is_one(word, 112)
-}
-
-// Whether the role is Central.
-pub fn central_of(word: &[u8]) -> bool
-    ensures { λ r. ⌜ r ≡ centralOf (now (word .entry)) ⌝ }
-{
-    is_one(word, 99)
-}
+ghost use Rattle.fields.specs.Fields.{isSetting, settingOf, isPolicy, policyOf, isConfig, configOf};
 
 pub fn is_setting(word: &[u8]) -> bool
     ensures { λ r. ⌜ r ≡ isSetting (now (word .entry)) ⌝ }

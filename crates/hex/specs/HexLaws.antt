@@ -2,19 +2,19 @@
 -- two digits a step.
 use mathlib.Core.Path.{_≡_, refl, sym, _∙_}
 use mathlib.Core.Bool.{Bool, true, false, _&&_, _||_, false≢true}
-use mathlib.Core.List.{List, [], _∷_, _++_, append-assoc}
+use mathlib.Core.List.{List, [], _∷_}
 use Prim.Native.Nat.{ℕ, zero, suc, _+_, _-_, _*_, _/_, _%_, _≤_, _<_}
 use native.Mathlib.Nat.{le-of-suc-le-suc}
-use native.Mathlib.Numerals.{add-one}
 use native.Mathlib.Omega.{arith}
 use lib.Dec.{leb, ltb, eqb}
-use lib.ListN.{length, take, getD}
-use lib.Seq.{take-suc}
+use lib.ListN.{length, getD}
 use borrow.Author.Tests.{lt-ltb, le-ltb, le-leb, lt-leb, ne-eqb, leb-true, ltb-true, ltb-false, eqb-true, eqb-false}
 use Rattle.lists.specs.Choose.{choose}
 use Rattle.lists.specs.Every.{every}
 use Rattle.hex.specs.declared.HexRead.the-variants as HexRead
-use Rattle.hex.specs.Hex.{isHex, nibbleOf, digitOf, isHexWord, octetsOf, hexRead, hexOctets, hexDigits, hexText}
+use Rattle.hex_words.specs.HexWords.{isHex, isHexWord}
+use Rattle.hex_write.specs.HexText.{digitOf, hexDigits, hexText}
+use Rattle.hex.specs.Hex.{nibbleOf, octetsOf, hexRead, hexOctets}
 
 -- ---- one digit
 
@@ -124,27 +124,6 @@ pub hex-at : (w : List ℕ) → isHexWord w ≡ true → 2 ≤ length w → (k :
 hex-at w e h k l = every-at isHex 0 w k (word-pairs w e h .all) l
 
 -- ---- written, and read again
-
-digits-append : (xs ys : List ℕ) → hexDigits (xs ++ ys) ≡ hexDigits xs ++ hexDigits ys
-unfolding hexDigits
-digits-append [] ys = refl
-digits-append (x ∷ xs) ys = rw (digits-append xs ys)
-
--- one octet more is two digits more
-pub digits-more : (xs : List ℕ) (i : ℕ) → i < length xs → hexDigits (take (i + 1) xs) ≡ (hexDigits (take i xs) ++ digitOf (getD xs i 0 / 16) ∷ []) ++ digitOf (getD xs i 0 % 16) ∷ []
-unfolding hexDigits
-digits-more xs i h =
-    rw (add-one i, take-suc xs i 0 h) (digits-append (take i xs) (getD xs i 0 ∷ []) ∙ sym (append-assoc (hexDigits (take i xs)) (digitOf (getD xs i 0 / 16) ∷ []) (digitOf (getD xs i 0 % 16) ∷ [])))
-
-pub text-none : (xs : List ℕ) → length xs ≡ 0 → hexText xs ≡ 45 ∷ []
-unfolding hexText
-text-none [] h = refl
-text-none (x ∷ xs) h = absurd (omega arith)
-
-pub text-digits : (xs : List ℕ) → 0 < length xs → hexText xs ≡ hexDigits xs
-unfolding hexText
-text-digits [] h = absurd (omega arith)
-text-digits (x ∷ xs) h = refl
 
 digits-length : (xs : List ℕ) → length (hexDigits xs) ≡ 2 * length xs
 unfolding hexDigits

@@ -1,3 +1,3 @@
--- Octets as words of hex digits, read and written.
+-- Octets as words of hex digits, read; and what is written is read again.
 pub mod Hex
 pub mod HexLaws

@@ -16,7 +16,8 @@ use Rattle.channel.specs.Limits.{slotsMost}
 use Rattle.channel.specs.declared.Slot.{Slot}
 use Rattle.channel.specs.declared.Table.{Table}
 use Rattle.layout.specs.Layout.{layoutNumber, spsmOctets, headOctets, columnCount, tableOctets, cell, row, tabulate, head, columns, spell}
-use Rattle.layout_write.specs.Cells.{place, puts, putRows, puts-length, rows-length, rows-other, rows-same}
+use Rattle.layout_local.specs.Puts.{puts}
+use Rattle.layout_write.specs.Cells.{place, putRows, puts-length, rows-length, rows-other, rows-same}
 
 -- ---- an element of a tabulated list
 

@@ -1,5 +1,5 @@
-// A slot read from its row of the table's octets, and the test that the row is its spelling; `layout_decode` reads the whole table.
-// It stands on `layout`, whose specs/Layout.antt says what the octets mean.
+// A slot read from its row of the table's octets; `layout_decode` reads the whole table. It stands on `layout_cells`, and on `layout`, whose
+// specs/Layout.antt says what the octets mean.
 use channel::ChannelState;
 use channel::Peer;
 use channel::Queue;
@@ -25,30 +25,15 @@ use layout::RECEIVED;
 use layout::SPSM;
 use layout::VALUE;
 use layout::WANT;
+use layout_cells::number;
+use layout_cells::octet;
+pub use layout_cells::row_spelled;
 use sar::Assembly;
 ghost use mathlib.Core.Path.{_≡_};
-ghost use Prim.Native.Nat.{_+_, _*_, _≤_, _<_};
-ghost use lib.ListN.{length, getD};
+ghost use Prim.Native.Nat.{_≤_, _<_};
+ghost use lib.ListN.{length};
 ghost use Rattle.channel.specs.Limits.{slotsMost};
 ghost use Rattle.layout.specs.Layout.{tableOctets, cell, slotIn};
-ghost use Rattle.layout.specs.Spelled.{rowSpelled};
-
-// ---- a row read
-
-fn octet(t: &[u8], i: usize, column: usize) -> u8
-    requires { ⌜ i + column < length (now t) ⌝ }
-    ensures { λ r. ⌜ r ≡ getD (now (t .entry)) (i + column) 0 ⌝ }
-{
-    t[i + column]
-}
-
-// The number whose lower octets are in that column.
-fn number(t: &[u8], i: usize, column: usize) -> u16
-    requires { ⌜ i + (column + slotsMost) < length (now t) ⌝ }
-    ensures { λ r. ⌜ r ≡ getD (now (t .entry)) (i + column) 0 + 256 * getD (now (t .entry)) (i + (column + slotsMost)) 0 ⌝ }
-{
-    (octet(t, i, column) as u16) + 256 * (octet(t, i, column + SLOTS) as u16)
-}
 
 fn state_at(t: &[u8], i: usize) -> ChannelState
     requires { ⌜ (tableOctets ≤ length (now t)) × (i < slotsMost) ⌝ }
@@ -129,12 +114,4 @@ pub fn slot_at(t: &[u8], i: usize) -> Slot
         assembly,
         queue,
     }
-}
-
-// Is row i the spelling of the slot that it says?
-pub fn row_spelled(t: &[u8], i: usize) -> bool
-    requires { ⌜ (tableOctets ≤ length (now t)) × (i < slotsMost) ⌝ }
-    ensures { λ r. ⌜ r ≡ rowSpelled (cell (now (t .entry)) i) ⌝ }
-{
-    layout::state_spelled(octet(t, i, KIND), octet(t, i, VALUE)) & (octet(t, i, POLICY) <= 1)
 }

@@ -1,4 +1,4 @@
--- Octets written into one row of the columns, and what stands in each row then. The laws rest on those of one store (lib.Seq).
+-- What stands in each row once octets are written into one (layout_local's Puts). The laws rest on those of one store (lib.Seq).
 use mathlib.Core.Path.{_≡_, refl, sym, ap, _∙_}
 use mathlib.Core.List.{List, [], _∷_, map}
 use Prim.Native.Nat.{ℕ, zero, suc, _+_, _*_, _≤_, _<_}
@@ -10,11 +10,7 @@ use Rattle.channel.specs.Limits.{slotsMost}
 use Rattle.channel.specs.declared.Slot.{Slot}
 use Rattle.layout.specs.Layout.{headOctets, columnCount, tableOctets, cell, stateOctets, localOctets, accountOctets, peerOctets, assemblyOctets, queueOctets, row}
 use Rattle.layout.specs.Rows.{row-length}
-
--- octets for row i, one to a column, from column c on
-unfoldable pub puts : List ℕ → ℕ → ℕ → List ℕ → List ℕ
-puts o i c [] = o
-puts o i c (v ∷ vs) = puts (set o (i + (headOctets + slotsMost * c)) v) i (suc c) vs
+use Rattle.layout_local.specs.Puts.{puts}
 
 -- a slot's parts, written one after the other, are its row
 pub row-parts : (o : List ℕ) (i : ℕ) (x : Slot) →

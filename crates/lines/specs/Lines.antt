@@ -7,7 +7,7 @@ use lib.ListN.{length}
 use Rattle.lists.specs.Choose.{choose}
 use Rattle.lists.specs.First.{first}
 use Rattle.octets.specs.Octets.{part}
-use Rattle.words.specs.Cut.{is}
+use Rattle.cut_text.specs.Cut.{is}
 use Rattle.words.specs.declared.Word.{Word}
 use Rattle.lines.specs.declared.Held.{Held}
 use Rattle.lines.specs.declared.Found.{Found}

@@ -1,6 +1,6 @@
 // Lines out of a buffer that is filled by pieces of any size. `Held` says which octets of the buffer wait to be read; each function answers what
 // is held after it. A line that the buffer cannot hold is told once and its rest passed over. What comes of a text, whatever its pieces, is
-// defined in specs/Lines.antt; it rests on `words` and `octets`.
+// defined in specs/Lines.antt; it rests on `cut_text`, `words` and `octets`.
 use octets::least;
 use octets::left;
 use octets::shift_down;
@@ -55,7 +55,7 @@ pub fn next_line(buf: &[u8], h: Held) -> Next
     let start = h.start;
     let end = h.end;
     let skipping = h.skipping;
-    let at = words::find(buf, start, end, 10);
+    let at = cut_text::find(buf, start, end, 10);
     if at < least(end, buf.len()) {
         let held = Held {
             start: at + 1,

@@ -12,7 +12,7 @@ use lib.ListN.{length, length-append, take, drop}
 use borrow.Author.Tests.{lt-ltb, ltb-true, ltb-false}
 use Rattle.lists.specs.Choose.{choose}
 use Rattle.lists.specs.First.{first}
-use Rattle.words.specs.Cut.{is}
+use Rattle.cut_text.specs.Cut.{is}
 
 pub data Event : Type 0 where
   line : List ℕ → Event

@@ -1,4 +1,4 @@
--- Which call a line asks for: its first word is the letter, and its number of words says which calls it can be (commands' Commands).
+-- Which call a line asks for: its first word is the letter, and its number of words says which calls it can be (commands' Commands, long_commands' LongCommands).
 use mathlib.Core.List.{List}
 use Prim.Native.Nat.{ℕ}
 use lib.Dec.{eqb}
@@ -7,7 +7,8 @@ use Rattle.lists.specs.Choose.{choose}
 use Rattle.words.specs.Words.{wordsOf, word, place}
 use Rattle.commands.specs.declared.Command.{Command}
 use Rattle.commands.specs.declared.Command.the-variants as Command
-use Rattle.commands.specs.Commands.{oneWord, twoWords, threeWords, fourWords, fiveWords, sixWords, sevenWords}
+use Rattle.commands.specs.Commands.{oneWord, twoWords, threeWords}
+use Rattle.long_commands.specs.LongCommands.{fourWords, fiveWords, sixWords, sevenWords}
 
 unfoldable pub commandOf : List ℕ → Command
 commandOf line =

@@ -1,4 +1,5 @@
-// One line of a script, read as the call that it asks for (docs/CHANRUN.md): `commandOf` of specs/Script.antt. It rests on `words` and `commands`.
+// One line of a script, read as the call that it asks for (docs/CHANRUN.md): `commandOf` of specs/Script.antt. It rests on `words`, `commands` and
+// `long_commands`.
 use commands::Command;
 ghost use mathlib.Core.Path.{_≡_};
 ghost use Rattle.script.specs.Script.{commandOf};
@@ -30,21 +31,21 @@ pub fn read_command(line: &[u8]) -> Command
     let p3 = words::word_after(line, p2);
     let w3 = words::text(line, p3);
     if n == 4 {
-        return commands::four_words(c, w1, w2, w3, p3);
+        return long_commands::four_words(c, w1, w2, w3, p3);
     }
     let p4 = words::word_after(line, p3);
     let w4 = words::text(line, p4);
     if n == 5 {
-        return commands::five_words(c, w1, w2, w3, w4, p4);
+        return long_commands::five_words(c, w1, w2, w3, w4, p4);
     }
     let p5 = words::word_after(line, p4);
     let w5 = words::text(line, p5);
     if n == 6 {
-        return commands::six_words(c, w1, w2, w3, w4, w5);
+        return long_commands::six_words(c, w1, w2, w3, w4, w5);
     }
     let w6 = words::text(line, words::word_after(line, p5));
     if n == 7 {
-        return commands::seven_words(c, w1, w2, w3, w4, w5, w6);
+        return long_commands::seven_words(c, w1, w2, w3, w4, w5, w6);
     }
     Command::Bad
 }

@@ -9,7 +9,8 @@ use lib.ListN.{length, take, getD, length-take}
 use lib.Seq.{take-suc}
 use Rattle.channel.specs.declared.Slot.{Slot}
 use Rattle.definition.specs.Table.{gap}
-use Rattle.view.specs.View.{slotText, slotsText}
+use Rattle.view_slot.specs.SlotLine.{slotText}
+use Rattle.view.specs.View.{slotsText}
 
 slots-append : (s : ℕ) (xs ys : List Slot) → slotsText s (xs ++ ys) ≡ slotsText s xs ++ slotsText (s + length xs) ys
 unfolding slotsText

@@ -1,5 +1,3 @@
--- A text cut at a character, the words of a line, and where each stands.
-pub mod Cut
-pub mod CutLaws
+-- The words of a line, and where each stands.
 pub mod Words
 pub mod WordLaws

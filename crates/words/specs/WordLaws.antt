@@ -13,8 +13,8 @@ use lib.Seq.{drop-drop, drop-length, getD-drop}
 use Rattle.lists.specs.Choose.{choose}
 use Rattle.lists.specs.First.{first}
 use Rattle.octets.specs.Sets.{tail-part}
-use Rattle.words.specs.Cut.{is}
-use Rattle.words.specs.CutLaws.{cut-first}
+use Rattle.cut_text.specs.Cut.{is}
+use Rattle.cut_text.specs.CutLaws.{cut-first}
 use Rattle.words.specs.Words.{wordsOf, word, textOf, wordAt, wordAfter, place}
 use Rattle.words.specs.declared.Word.{Word}
 

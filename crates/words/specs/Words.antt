@@ -7,7 +7,7 @@ use lib.ListN.{length, getD}
 use Rattle.lists.specs.Choose.{choose}
 use Rattle.lists.specs.First.{first}
 use Rattle.octets.specs.Octets.{part}
-use Rattle.words.specs.Cut.{is, cutAt}
+use Rattle.cut_text.specs.Cut.{is, cutAt}
 use Rattle.words.specs.declared.Word.{Word}
 
 abbrev pub wordsOf : List ℕ → List (List ℕ)

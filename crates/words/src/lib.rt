@@ -1,34 +1,15 @@
 // The words of a line, which exactly one space separates, as places in the caller's line. What the words are is defined in
-// specs/Cut.antt and specs/Words.antt; it rests on the leaves of `octets`.
+// specs/Words.antt; it rests on `cut_text` and the leaves of `octets`.
+use cut_text::find;
 use octets::least;
-use octets::left;
 ghost use mathlib.Core.Path.{_≡_};
-ghost use Prim.Native.Nat.{_+_, _-_};
 ghost use lib.ListN.{length};
-ghost use Rattle.lists.specs.First.{first};
-ghost use Rattle.octets.specs.Octets.{part};
-ghost use Rattle.words.specs.Cut.{is};
 ghost use Rattle.words.specs.Words.{wordsOf, wordAt, wordAfter, textOf};
 
 // Where a word stands in its line: from `start` up to, and not with, `end`.
 pub struct Word {
     pub start: usize,
     pub end: usize,
-}
-
-// The index of the first `c` of `s` from `from` on and before `to`; where there is none, where the search ended.
-pub fn find(s: &[u8], from: usize, to: usize, c: u8) -> usize
-    ensures { λ r. ⌜ r ≡ from + first (is c) (part (now (s .entry)) from (to - from)) ⌝ }
-{
-    let n = least(left(to, from), left(s.len(), from));
-    let mut i: usize = 0;
-    while i < n {
-        if s[from + i] == c {
-            return from + i;
-        }
-        i += 1;
-    }
-    from + n
 }
 
 // The word that starts at `at`: it ends at the next space, or with the line.

@@ -1,6 +1,6 @@
 -- `answer_octets::put_answer` meets its contract: what is written is what `tells` gave.
 use mathlib.Core.Path.{ap}
-use Rattle.answer_octets.specs.declared.Told.{Told}
+use Rattle.answer_told.specs.declared.Told.{Told}
 use Rattle.answer_octets.specs.Answers.{answerOctets}
 use borrow.Author.Needs.{needs}
 use Rattle.answer_octets.proofs.put_answer.Statement.{statement}

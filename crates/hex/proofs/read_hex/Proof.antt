@@ -7,7 +7,8 @@ use native.Mathlib.Nat.{zero-add}
 use lib.ListN.{getD}
 use Rattle.lists.specs.Choose.{choose}
 use Rattle.octets.specs.Sets.{Writing, writing-none, writing-more, writing-end}
-use Rattle.hex.specs.Hex.{isHexWord, octetsOf, hexRead, hexOctets}
+use Rattle.hex_words.specs.HexWords.{isHexWord}
+use Rattle.hex.specs.Hex.{octetsOf, hexRead, hexOctets}
 use Rattle.hex.specs.HexLaws.{nibble-small, octets-length, octets-at, hex-at}
 use borrow.Author.Needs.{needs}
 use native.Mathlib.Omega.{arith}

@@ -6,8 +6,8 @@ use mathlib.Core.Logic.{⊎-elim}
 use borrow.Author.Tests.{eq-eqb, ne-eqb}
 use borrow.Author.Needs.{needs}
 use lib.ListN.{length}
-use Rattle.words.specs.Cut.{is}
-use Rattle.words.specs.CutLaws.{cut-count, Counted, counted-none, counted-hit, counted-pass, counted-all}
+use Rattle.cut_text.specs.Cut.{is}
+use Rattle.cut_text.specs.CutLaws.{cut-count, Counted, counted-none, counted-hit, counted-pass, counted-all}
 use Rattle.words.proofs.count.Statement.{statement}
 use Rattle.words.proofs.count.Tie as tie
 

@@ -1,0 +1,2 @@
+-- What an answer tells.
+pub mod Told

@@ -1,0 +1,3 @@
+-- Decimal numbers, written.
+pub mod NumberText
+pub mod NumberTextLaws

@@ -1,0 +1,2 @@
+-- Words of hex digits.
+pub mod HexWords

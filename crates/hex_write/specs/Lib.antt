@@ -1,0 +1,3 @@
+-- Octets written as hex.
+pub mod HexText
+pub mod HexTextLaws

@@ -1,0 +1,2 @@
+-- What is written into a row.
+pub mod Puts

@@ -1,0 +1,2 @@
+-- The table of long calls.
+pub mod LongCommands

@@ -1,0 +1,2 @@
+-- What the plain words of a call say.
+pub mod PlainFields

@@ -1,0 +1,2 @@
+-- What states and policies are called in a view.
+pub mod Names

@@ -1,0 +1,2 @@
+-- What the line of a slot shows.
+pub mod SlotLine

@@ -1,9 +1,7 @@
 // Refusals 1, 2, 3, 4 and 6, which come first in every call: one gate, over the validity test of the table (`validity`) and its sizes (`sizes`).
 // Each contract is the equation with the function of that name in the crate `definition`; specs/Passed.antt says what a call may rely on behind the gate.
 ghost use mathlib.Core.Path.{_≡_};
-ghost use mathlib.Core.Bool.{not};
-ghost use lib.Dec.{eqb, leb, ltb};
-ghost use Rattle.definition.specs.Outcome.{fails, verdict};
+ghost use Rattle.definition.specs.Outcome.{verdict};
 use channel::Given;
 use channel::HANDLE_MOST;
 use channel::SIGNAL_MOST;
@@ -15,56 +13,18 @@ pub use sizes::place_size;
 pub use sizes::room_size;
 pub use sizes::sizes_fit;
 
-// ---- what a call was given
-
-fn other_than(g: Given, k: usize) -> bool
-    ensures { λ r. ⌜ r ≡ fails (λ x. not (eqb x k)) g ⌝ }
-{
-    match g {
-        Given::Nothing => false,
-        Given::Is(x) => x != k,
-    }
-}
-
-fn below(g: Given, k: usize) -> bool
-    ensures { λ r. ⌜ r ≡ fails (λ x. ltb x k) g ⌝ }
-{
-    match g {
-        Given::Nothing => false,
-        Given::Is(x) => x < k,
-    }
-}
-
-fn above(g: Given, k: usize) -> bool
-    ensures { λ r. ⌜ r ≡ fails (λ x. ltb k x) g ⌝ }
-{
-    match g {
-        Given::Nothing => false,
-        Given::Is(x) => k < x,
-    }
-}
-
-fn reaching(g: Given, k: usize) -> bool
-    ensures { λ r. ⌜ r ≡ fails (λ x. leb k x) g ⌝ }
-{
-    match g {
-        Given::Nothing => false,
-        Given::Is(x) => k <= x,
-    }
-}
-
 // First 1, 2, 3 (signal buffer), 4, 6.
 pub fn gate(t: Table, room: Given, signal: Given, link: Given, slot: Given) -> Verdict
     ensures { λ r. ⌜ r ≡ verdict t room signal link slot ⌝ }
 {
     let formed = validity::well_formed(t);
-    let short = below(signal, SIGNAL_MOST);
-    let beyond = above(link, HANDLE_MOST);
-    let no_slot = reaching(slot, t.n);
+    let short = given::below(signal, SIGNAL_MOST);
+    let beyond = given::above(link, HANDLE_MOST);
+    let no_slot = given::reaching(slot, t.n);
     if !formed {
         return Verdict::Stop(Refusal::BadTable);
     }
-    if other_than(room, room_size(t.n, t.d, t.m)) {
+    if given::other_than(room, room_size(t.n, t.d, t.m)) {
         return Verdict::Stop(Refusal::BadRoom);
     }
     if short {

@@ -1,3 +1,3 @@
 pub mod Parts
-pub mod Swept
 pub mod Placed
+pub mod Swept

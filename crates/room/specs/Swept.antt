@@ -11,7 +11,7 @@ use Rattle.octets.specs.Octets.{part}
 use Rattle.octets.specs.Sets.{part-length}
 use Rattle.definition.specs.Mem.{Move, moves, parts}
 use Rattle.definition.specs.Outcome.{only}
-use Rattle.room.specs.Parts.{moves-length, parts-only}
+use Rattle.room_parts.specs.Parts.{moves-length, parts-only}
 
 -- the moves mss of the slots from i on
 abbrev from : {A : Type 0} → (ℕ → A) → List A → ℕ → ℕ → List (List Move) → List A → List A

@@ -12,7 +12,3 @@ pub mod Rules
 pub mod Places
 pub mod RoomRule
 pub mod Bench
-pub mod Waiting
-pub mod Rejoin
-pub mod Taking
-pub mod Sending

@@ -11,7 +11,7 @@ use Rattle.definition.specs.Table.{width}
 use Rattle.definition.specs.Mem.{wipe}
 use Rattle.slot.specs.Want.{wanted}
 use Rattle.room.specs.Swept.{Swept, swept-none, swept-more, swept-all}
-use Rattle.room.specs.Placed.{placed}
+use Rattle.room_parts.specs.Placed.{placed}
 use Rattle.room.proofs.wipe_all.Statement.{statement}
 use Rattle.room.proofs.wipe_all.Tie as tie
 

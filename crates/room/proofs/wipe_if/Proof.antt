@@ -1,7 +1,7 @@
 -- `room::wipe_if` meets its contract: what is not wanted stays (parts-still).
 use borrow.Author.Needs.{needs}
 use Rattle.lists.specs.Choose.{choose}
-use Rattle.room.specs.Parts.{parts-still}
+use Rattle.room_parts.specs.Parts.{parts-still}
 use Rattle.room.proofs.wipe_if.Statement.{statement}
 use Rattle.room.proofs.wipe_if.Tie as tie
 

@@ -1,7 +1,7 @@
--- `gate::other_than` meets its contract: the match tells whether a number was given.
+-- `given::other_than` meets its contract: the match tells whether a number was given.
 use borrow.Author.Needs.{needs}
-use Rattle.gate.proofs.other_than.Statement.{statement}
-use Rattle.gate.proofs.other_than.Tie as tie
+use Rattle.given.proofs.other_than.Statement.{statement}
+use Rattle.given.proofs.other_than.Tie as tie
 
 enum-told : tie.Need-enum-told
 enum-told c = search needs

@@ -23,11 +23,11 @@ use Rattle.definition.specs.Table.{slotAt}
 use Rattle.definition.specs.Outcome.{Outcome, refuse}
 use Rattle.definition.specs.Frames.{frames, laterFrames, send}
 use Rattle.definition.specs.Calls.{Window, sends, jobs, bare, decide}
 use Rattle.rules.specs.Run.{State, Asked, outcome, Reached}
 use Rattle.rules.specs.Forms.{gate-cases}
 use Rattle.rules.specs.Join.{planned-frames}
-use Rattle.rules.specs.Rejoin.{Rest, last, more, Arrives, Receiver, Rejoined, jobAt, rejoins}
-use Rattle.rules.specs.Taking.{taking, rejoined-taken}
+use Rattle.rules_jobs.specs.Rejoin.{Rest, last, more, Arrives, Receiver, Rejoined, jobAt, rejoins}
+use Rattle.rules_jobs.specs.Taking.{taking, rejoined-taken}
 
 -- ---- the payloads of a job carry it, and only the last completes it
 

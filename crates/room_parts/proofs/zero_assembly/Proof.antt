@@ -1,10 +1,10 @@
--- `room::zero_assembly` meets its contract: the part is lent (parts-lent), and zeros go to its first place.
+-- `room_parts::zero_assembly` meets its contract: the part is lent (parts-lent), and zeros go to its first place.
 use borrow.Author.Needs.{needs}
 use Rattle.definition.specs.Mem.{moves, move, fill}
-use Rattle.gate.specs.Sizes.{partWidth}
-use Rattle.room.specs.Parts.{parts-lent}
-use Rattle.room.proofs.zero_assembly.Statement.{statement}
-use Rattle.room.proofs.zero_assembly.Tie as tie
+use Rattle.sizes.specs.Sizes.{partWidth}
+use Rattle.room_parts.specs.Parts.{parts-lent}
+use Rattle.room_parts.proofs.zero_assembly.Statement.{statement}
+use Rattle.room_parts.proofs.zero_assembly.Tie as tie
 
 place-size-requires : tie.Need-place-size-requires
 place-size-requires c κs = search needs

@@ -1,7 +1,7 @@
--- `gate::reaching` meets its contract: the match tells whether a number was given.
+-- `given::reaching` meets its contract: the match tells whether a number was given.
 use borrow.Author.Needs.{needs}
-use Rattle.gate.proofs.reaching.Statement.{statement}
-use Rattle.gate.proofs.reaching.Tie as tie
+use Rattle.given.proofs.reaching.Statement.{statement}
+use Rattle.given.proofs.reaching.Tie as tie
 
 enum-told : tie.Need-enum-told
 enum-told c = search needs

@@ -1,9 +1,9 @@
--- `room::part_at` meets its contract: the product is small (room-most).
+-- `room_parts::part_at` meets its contract: the product is small (room-most).
 use native.Mathlib.Omega.{arith}
 use borrow.Author.Needs.{needs}
-use Rattle.gate.specs.Sizes.{width-most, room-most}
-use Rattle.room.proofs.part_at.Statement.{statement}
-use Rattle.room.proofs.part_at.Tie as tie
+use Rattle.sizes.specs.Sizes.{width-most, room-most}
+use Rattle.room_parts.proofs.part_at.Statement.{statement}
+use Rattle.room_parts.proofs.part_at.Tie as tie
 
 part-size-requires : tie.Need-part-size-requires
 part-size-requires c κs = search needs

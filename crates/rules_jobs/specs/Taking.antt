@@ -26,12 +26,12 @@ use Rattle.definition.specs.Table.{placeOf, width, roomSize, slotAt, wellFormed
 use Rattle.definition.specs.Outcome.{Outcome, only, verdict}
 use Rattle.definition.specs.Calls.{Window, plain, takes, jobs, bare, decide, serve}
 use Rattle.definition.specs.Frames.{shifted, movingUp, grantIn, taken, receive}
 use Rattle.rules.specs.Run.{State, Asked, outcome, after, Reached}
 use Rattle.rules.specs.Tests.{begun, begun-takes, connected-begun}
 use Rattle.rules.specs.Sound.{Sound}
 use Rattle.rules.specs.Good.{Good, sizes-read, slot-sound, good-formed, reached-good}
-use Rattle.rules.specs.Waiting.{jobOf, every-at, moved-up}
-use Rattle.rules.specs.Rejoin.{partOf, jobAt, part-fits, part-long, changes, job-after, Rejoined}
+use Rattle.rules_jobs.specs.Waiting.{jobOf, every-at, moved-up}
+use Rattle.rules_jobs.specs.Rejoin.{partOf, jobAt, part-fits, part-long, changes, job-after, Rejoined}
 
 -- ---- parts of parts
 

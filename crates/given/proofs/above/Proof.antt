@@ -1,7 +1,7 @@
--- `gate::above` meets its contract: the match tells whether a number was given.
+-- `given::above` meets its contract: the match tells whether a number was given.
 use borrow.Author.Needs.{needs}
-use Rattle.gate.proofs.above.Statement.{statement}
-use Rattle.gate.proofs.above.Tie as tie
+use Rattle.given.proofs.above.Statement.{statement}
+use Rattle.given.proofs.above.Tie as tie
 
 enum-told : tie.Need-enum-told
 enum-told c = search needs

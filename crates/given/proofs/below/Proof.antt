@@ -1,7 +1,7 @@
--- `gate::below` meets its contract: the match tells whether a number was given.
+-- `given::below` meets its contract: the match tells whether a number was given.
 use borrow.Author.Needs.{needs}
-use Rattle.gate.proofs.below.Statement.{statement}
-use Rattle.gate.proofs.below.Tie as tie
+use Rattle.given.proofs.below.Statement.{statement}
+use Rattle.given.proofs.below.Tie as tie
 
 enum-told : tie.Need-enum-told
 enum-told c = search needs

@@ -29,12 +29,12 @@ use Rattle.definition.specs.Outcome.{Outcome, change, only, verdict}
 use Rattle.definition.specs.Calls.{jobs, bare, decide, joining}
 use Rattle.definition.specs.Calls as Calls
 use Rattle.definition.specs.Frames.{queued, finishing, joined, dispatch}
 use Rattle.rules.specs.Run.{State, Asked, outcome, after, Fits, Reached, next}
 use Rattle.rules.specs.Tests.{and-both}
 use Rattle.rules.specs.Sound.{Sound}
 use Rattle.rules.specs.Join.{Reaches, reaches-first, reaches-next, joined-part, joined-whole}
 use Rattle.rules.specs.Good.{Good, sizes-read, within, slot-sound, good-formed, same-sizes, length-moves, reached-good}
-use Rattle.rules.specs.Waiting.{jobOf, Waits, finish-alone, finish-joined, grown-there, grown-jobs}
+use Rattle.rules_jobs.specs.Waiting.{jobOf, Waits, finish-alone, finish-joined, grown-there, grown-jobs}
 
 -- ---- a slot's part of the room, and the jobs that wait in it
 

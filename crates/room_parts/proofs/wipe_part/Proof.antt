@@ -1,4 +1,4 @@
--- `room::wipe_part` meets its contract: the part is lent (parts-lent), and zeros from its start to its end wipe it (wiped).
+-- `room_parts::wipe_part` meets its contract: the part is lent (parts-lent), and zeros from its start to its end wipe it (wiped).
 use mathlib.Core.Path.{_≡_, ap, _∙_}
 use Prim.Native.Nat.{_+_, _-_, _*_}
 use borrow.Author.Needs.{needs}
@@ -7,10 +7,10 @@ use lib.ListN.{length, replicate}
 use lib.Seq.{sets}
 use Rattle.octets.specs.Sets.{mid-part, part-length}
 use Rattle.definition.specs.Mem.{moves, move}
-use Rattle.gate.specs.Sizes.{partWidth}
-use Rattle.room.specs.Parts.{wiped, parts-lent}
-use Rattle.room.proofs.wipe_part.Statement.{statement}
-use Rattle.room.proofs.wipe_part.Tie as tie
+use Rattle.sizes.specs.Sizes.{partWidth}
+use Rattle.room_parts.specs.Parts.{wiped, parts-lent}
+use Rattle.room_parts.proofs.wipe_part.Statement.{statement}
+use Rattle.room_parts.proofs.wipe_part.Tie as tie
 
 part-size-requires : tie.Need-part-size-requires
 part-size-requires c κs = search needs

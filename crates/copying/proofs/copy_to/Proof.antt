@@ -1,13 +1,12 @@
--- `octets::copy_to` meets its contract: a run, and where eight or more are copied the last eight once more (copied-eight), are all that is
+-- `copying::copy_to` meets its contract: a run, and where eight or more are copied the last eight once more (copied-eight), are all that is
 -- copied.
 use mathlib.Core.Path.{ap, ap₂, _∙_}
 use Prim.Native.Nat.{ℕ, min}
 use lib.Seq.{sets}
-use Rattle.octets.specs.Octets.{part}
 use borrow.Author.Needs.{needs}
-use Rattle.octets.specs.Sets.{copied-none, copied-all, copied-eight}
-use Rattle.octets.proofs.copy_to.Statement.{statement}
-use Rattle.octets.proofs.copy_to.Tie as tie
+use Rattle.lists.specs.Sets.{part, copied-none, copied-all, copied-eight}
+use Rattle.copying.proofs.copy_to.Statement.{statement}
+use Rattle.copying.proofs.copy_to.Tie as tie
 
 left-requires : tie.Need-left-requires
 left-requires c κs = search needs

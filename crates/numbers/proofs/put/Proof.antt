@@ -1,9 +1,9 @@
--- `octets::put` meets its contract: past the end `set` changes nothing.
+-- `numbers::put` meets its contract: past the end `set` changes nothing.
 use borrow.Author.Needs.{needs}
 use mathlib.Core.Path.{sym}
 use lib.Seq.{set-out}
-use Rattle.octets.proofs.put.Statement.{statement}
-use Rattle.octets.proofs.put.Tie as tie
+use Rattle.numbers.proofs.put.Statement.{statement}
+use Rattle.numbers.proofs.put.Tie as tie
 
 slice-write-out : tie.Need-slice-write-out
 slice-write-out c = search needs

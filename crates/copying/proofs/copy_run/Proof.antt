@@ -1,12 +1,11 @@
--- `octets::copy_run` meets its contract: the loop writes the part of `src` (Writing).
+-- `copying::copy_run` meets its contract: the loop writes the part of `src` (Writing).
 use Prim.Native.Nat.{_-_, _≤_}
 use native.Mathlib.Omega.{arith}
 use borrow.Author.Needs.{needs}
 use lib.ListN.{length-take, length-drop}
-use Rattle.octets.specs.Octets.{part}
-use Rattle.octets.specs.Sets.{Writing, writing-none, writing-more, writing-end, part-at}
-use Rattle.octets.proofs.copy_run.Statement.{statement}
-use Rattle.octets.proofs.copy_run.Tie as tie
+use Rattle.lists.specs.Sets.{part, Writing, writing-none, writing-more, writing-end, part-at}
+use Rattle.copying.proofs.copy_run.Statement.{statement}
+use Rattle.copying.proofs.copy_run.Tie as tie
 
 abbrev Inv-loop : tie.InvT-loop
 Inv-loop dst₀ at src from n i₀ dst i = (i ≤ n) × Writing dst₀ at (part src from n) i dst

@@ -1,11 +1,11 @@
--- `octets::put_number` meets its contract: two stores are the run of two, and past the end there is none.
+-- `numbers::put_number` meets its contract: two stores are the run of two, and past the end there is none.
 use borrow.Author.Needs.{needs}
 use mathlib.Core.Path.{sym}
 use native.Mathlib.Numerals.{add-one}
-use Rattle.octets.specs.Octets.{le16}
-use Rattle.octets.specs.Sets.{sets-out}
-use Rattle.octets.proofs.put_number.Statement.{statement}
-use Rattle.octets.proofs.put_number.Tie as tie
+use Rattle.numbers.specs.Octets.{le16}
+use Rattle.lists.specs.Sets.{sets-out}
+use Rattle.numbers.proofs.put_number.Statement.{statement}
+use Rattle.numbers.proofs.put_number.Tie as tie
 
 cast-put : tie.Need-cast-put
 cast-put c = search needs

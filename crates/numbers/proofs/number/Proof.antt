@@ -1,10 +1,10 @@
--- `octets::number` meets its contract: past the end both octets are 0.
+-- `numbers::number` meets its contract: past the end both octets are 0.
 use borrow.Author.Needs.{needs}
 use Prim.Native.Nat.{_+_}
 use native.Mathlib.Omega.{arith}
 use lib.ListN.{List·getD-eq-default}
-use Rattle.octets.proofs.number.Statement.{statement}
-use Rattle.octets.proofs.number.Tie as tie
+use Rattle.numbers.proofs.number.Statement.{statement}
+use Rattle.numbers.proofs.number.Tie as tie
 
 octet-requires : tie.Need-octet-requires
 octet-requires c κs = search needs

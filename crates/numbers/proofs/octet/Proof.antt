@@ -1,9 +1,9 @@
--- `octets::octet` meets its contract: past the end `getD` gives its default.
+-- `numbers::octet` meets its contract: past the end `getD` gives its default.
 use borrow.Author.Needs.{needs}
 use mathlib.Core.Path.{sym}
 use lib.ListN.{List·getD-eq-default}
-use Rattle.octets.proofs.octet.Statement.{statement}
-use Rattle.octets.proofs.octet.Tie as tie
+use Rattle.numbers.proofs.octet.Statement.{statement}
+use Rattle.numbers.proofs.octet.Tie as tie
 
 shared-slice-read-result : tie.Need-shared-slice-read-result
 shared-slice-read-result c = search needs

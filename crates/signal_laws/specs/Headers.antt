@@ -16,8 +16,8 @@ use Rattle.headers.specs.declared.HeaderRead.the-variants as HeaderRead
 use Rattle.headers.specs.declared.Checked.{Checked}
 use Rattle.headers.specs.declared.Checked.the-variants.{Good, Cut, Past}
 use Rattle.signal.specs.declared.forms.Signal.{Signal}
-use Rattle.signal.specs.declared.bodies.SignalRead.the-variants as SignalRead
-use Rattle.signal.specs.Bodies.{signalOf}
+use Rattle.signal_read.specs.declared.SignalRead.the-variants as SignalRead
+use Rattle.signal_read.specs.SignalRead.{signalOf}
 use Rattle.writer.specs.Writer.{octetsOf, pduOf, codeOf, fieldsOf, encodeOf}
 use Rattle.signal_laws.specs.Fields.{octets-length}
 use Rattle.signal_laws.specs.RoundTrip.{round-trip}

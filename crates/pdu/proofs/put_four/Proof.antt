@@ -1,10 +1,10 @@
--- `writer::put_head` meets its contract: the runs of stores follow one another.
+-- `pdu::put_four` meets its contract: the runs of stores follow one another.
 use borrow.Author.Needs.{needs}
-use Rattle.writer.proofs.put_head.Statement.{statement}
-use Rattle.writer.proofs.put_head.Tie as tie
+use Rattle.pdu.proofs.put_four.Statement.{statement}
+use Rattle.pdu.proofs.put_four.Tie as tie
 
-add-put-number : tie.Need-add-put-number
-add-put-number c = search needs
+put-head-requires : tie.Need-put-head-requires
+put-head-requires c κs = search needs
 
 put-number-requires : tie.Need-put-number-requires
 put-number-requires c κs = search needs
@@ -12,14 +12,11 @@ put-number-requires c κs = search needs
 put-number-requires-2 : tie.Need-put-number-requires-2
 put-number-requires-2 c κs = search needs
 
-put-requires : tie.Need-put-requires
-put-requires c κs = search needs
-
-put-requires-2 : tie.Need-put-requires-2
-put-requires-2 c κs = search needs
-
 put-number-requires-3 : tie.Need-put-number-requires-3
 put-number-requires-3 c κs = search needs
+
+put-number-requires-4 : tie.Need-put-number-requires-4
+put-number-requires-4 c κs = search needs
 
 same-length : tie.Need-same-length
 same-length c = search needs
@@ -31,17 +28,16 @@ returns c =
     let s2 = s1 .before .before .before .before in
     let s3 = s2 .before .before .before .before in
     let s4 = s3 .before .before .before .before in
-    rw (s0 .put-number3 .ensures, s1 .put2 .ensures, s2 .put .ensures, s3 .put-number2 .ensures, s4 .put-number .ensures)
+    rw (s0 .put-number4 .ensures, s1 .put-number3 .ensures, s2 .put-number2 .ensures, s3 .put-number .ensures, s4 .put-head .ensures)
 
-pub put-head-spec : {M : Type 1} → statement M
-put-head-spec =
+pub put-four-spec : {M : Type 1} → statement M
+put-four-spec =
     tie.close
     (tie.spec
-    add-put-number
+    put-head-requires
     put-number-requires
     put-number-requires-2
-    put-requires
-    put-requires-2
     put-number-requires-3
+    put-number-requires-4
     same-length
     returns)

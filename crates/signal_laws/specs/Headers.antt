@@ -12,7 +12,7 @@ use Rattle.lists.specs.Fuel.{whole, fuelled}
 use Rattle.octets.specs.Octets.{u16At}
 use Rattle.octets.specs.Numbers.{le16-back}
 use Rattle.headers.specs.Headers.{headerOf, headersOf, headers-eq, sizeOf, bodyIn, restOf, restIf}
-use Rattle.headers.specs.declared.HeaderRead.the-variants as HeaderRead
+use Rattle.first_signal.specs.declared.HeaderRead.the-variants as HeaderRead
 use Rattle.headers.specs.declared.Checked.{Checked}
 use Rattle.headers.specs.declared.Checked.the-variants.{Good, Cut, Past}
 use Rattle.signal.specs.declared.forms.Signal.{Signal}

@@ -1,7 +1,7 @@
 // Replays the vectors of the file stdin over headers, signal and writer: a line is a PDU in hex, '=', and what is to come of it; a line
 // without '=' says what follows. Each line that differs is written, and at the end how many there are.
+use first_signal::HeaderRead;
 use headers::Checked;
-use headers::HeaderRead;
 use octets::least;
 use octets::put;
 use signal::forms::Signal;

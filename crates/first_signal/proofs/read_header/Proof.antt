@@ -1,10 +1,10 @@
--- `headers::read_header` meets its contract: the test of the length tells which arm of the definition it is.
+-- `first_signal::read_header` meets its contract: the test of the length tells which arm of the definition it is.
 use borrow.Author.Tests.{lt-ltb, le-ltb}
 use Rattle.lists.specs.Choose.{choose}
-use Rattle.headers.specs.Headers.{headerOf}
+use Rattle.first_signal.specs.FirstSignal.{headerOf}
 use borrow.Author.Needs.{needs}
-use Rattle.headers.proofs.read_header.Statement.{statement}
-use Rattle.headers.proofs.read_header.Tie as tie
+use Rattle.first_signal.proofs.read_header.Statement.{statement}
+use Rattle.first_signal.proofs.read_header.Tie as tie
 
 shared-slice-read-t6 : tie.Need-shared-slice-read-t6
 shared-slice-read-t6 c = search needs

@@ -1,4 +1,4 @@
--- `headers::body` meets its contract: the length is cut to what there is, as `take` cuts it.
+-- `first_signal::body` meets its contract: the length is cut to what there is, as `take` cuts it.
 use Prim.Native.Nat.{_+_, _-_, min}
 use Rattle.octets.specs.Octets.{u16At}
 use lib.ListN.{length, drop}
@@ -8,8 +8,8 @@ use lib.ListN.{drop-of-length-le, length-drop}
 use lib.Seq.{take-nil}
 use Rattle.octets.specs.Sets.{take-least}
 use borrow.Author.Needs.{needs}
-use Rattle.headers.proofs.body.Statement.{statement}
-use Rattle.headers.proofs.body.Tie as tie
+use Rattle.first_signal.proofs.body.Statement.{statement}
+use Rattle.first_signal.proofs.body.Tie as tie
 
 slice-aggregate-result : tie.Need-slice-aggregate-result
 slice-aggregate-result c = search needs

@@ -1,12 +1,12 @@
--- `cutting::send_job` meets its contract: the plan is `plan_send`'s, which allows `cut_job` what it asks, and the output is `cut_job`'s.
+-- `framing::send_job` meets its contract: the plan is `plan_send`'s, which allows `cut_job` what it asks, and the output is `cut_job`'s.
 use mathlib.Core.Path.{refl, sym, _∙_}
 use native.Mathlib.Omega.{arith}
 use lib.ListN.{length}
 use Rattle.cutting.specs.Cutting.{outputAfter}
 use Rattle.cutting.specs.CutLaws.{plan-allowed}
 use borrow.Author.Needs.{needs}
-use Rattle.cutting.proofs.send_job.Statement.{statement}
-use Rattle.cutting.proofs.send_job.Tie as tie
+use Rattle.framing.proofs.send_job.Statement.{statement}
+use Rattle.framing.proofs.send_job.Tie as tie
 
 plan-send-requires : tie.Need-plan-send-requires
 plan-send-requires c κs = search needs

@@ -1,9 +1,9 @@
--- `sar::put_job` meets its contract: what its copies leave is one of the two cases of `finish`.
+-- `sar_room::put_job` meets its contract: what its copies leave is one of the two cases of `finish`.
 use mathlib.Core.Path.{_∙_}
-use Rattle.sar.specs.JoinLaws.{finish-first, finish-joined}
+use Rattle.sar_room.specs.RoomLaws.{finish-first, finish-joined}
 use borrow.Author.Needs.{needs}
-use Rattle.sar.proofs.put_job.Statement.{statement}
-use Rattle.sar.proofs.put_job.Tie as tie
+use Rattle.sar_room.proofs.put_job.Statement.{statement}
+use Rattle.sar_room.proofs.put_job.Tie as tie
 
 left-requires : tie.Need-left-requires
 left-requires c κs = search needs

@@ -1,11 +1,11 @@
--- `cutting::put_frame` meets its contract, by the law that a frame is written by its two numbers and its payload.
+-- `framing::put_frame` meets its contract, by the law that a frame is written by its two numbers and its payload.
 use native.Mathlib.Omega.{arith}
 use Rattle.octets.specs.Octets.{part}
 use Rattle.octets.specs.Sets.{part-length}
-use Rattle.cutting.specs.FrameLaws.{frame-sets}
+use Rattle.framing.specs.FrameLaws.{frame-sets}
 use borrow.Author.Needs.{needs}
-use Rattle.cutting.proofs.put_frame.Statement.{statement}
-use Rattle.cutting.proofs.put_frame.Tie as tie
+use Rattle.framing.proofs.put_frame.Statement.{statement}
+use Rattle.framing.proofs.put_frame.Tie as tie
 
 cast-put-number : tie.Need-cast-put-number
 cast-put-number c = search needs

@@ -1,12 +1,12 @@
--- `cutting::cut_job` meets its contract. The invariant: with the frames of what is left written too, the output is what it is to be.
+-- `framing::cut_job` meets its contract. The invariant: with the frames of what is left written too, the output is what it is to be.
 use mathlib.Core.Path.{_≡_, refl, _∙_}
 use mathlib.Core.List.{List}
 use Prim.Native.Nat.{ℕ, _+_, _-_, _*_, _≤_}
 use native.Mathlib.Omega.{arith}
 use lib.ListN.{length}
-use Rattle.cutting.specs.FrameLaws.{Framing, framing-first, framing-more, framing-end}
-use Rattle.cutting.proofs.cut_job.Statement.{statement}
-use Rattle.cutting.proofs.cut_job.Tie as tie
+use Rattle.framing.specs.FrameLaws.{Framing, framing-first, framing-more, framing-end}
+use Rattle.framing.proofs.cut_job.Statement.{statement}
+use Rattle.framing.proofs.cut_job.Tie as tie
 
 abbrev Inv-loop : tie.InvT-loop
 Inv-loop out₀ cid mps sdu m len first done₀ at₀ out done at = (done ≤ length sdu) × (length out ≡ length out₀) × (at ≤ 5 * done + 6) × ((w : List ℕ) → Framing m cid sdu w done₀ at₀ out₀ → Framing m cid sdu w done at out)

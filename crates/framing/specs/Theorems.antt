@@ -5,9 +5,9 @@ use Prim.Native.Nat.{ℕ, zero, suc, _+_, _-_, _*_, _/_, _≤_, _<_}
 use native.Mathlib.Nat.{not-suc-le-zero}
 use native.Mathlib.Omega.{arith}
 use lib.ListN.{length, take, drop, getD, length-append, length-drop, length-take, take-append-drop}
 use Rattle.cutting.specs.Cutting.{ceil, frameCount, framesLength, stream, pieceAt, piecesFrom, pieces, payloads, joined, framesOf}
 use Rattle.cutting.specs.CutLaws.{ceil-zero, ceil-more}
-use Rattle.cutting.specs.FrameLaws.{pieces-nil, pieces-more, pieces-count, framed, framed-nil, framed-more, frame-length}
+use Rattle.framing.specs.FrameLaws.{pieces-nil, pieces-more, pieces-count, framed, framed-nil, framed-more, frame-length}
 
 -- the stretches, joined, are the whole
 pieces-whole : {A : Type 0} (f m : ℕ) (xs : List A) → 0 < m → length xs ≤ f → joined (pieces m xs) ≡ xs

@@ -1,14 +1,14 @@
--- `sar::join_frame` meets its contract: the step is `join_step`'s, and each arm writes what `joinPart` has for its case.
+-- `sar_room::join_frame` meets its contract: the step is `join_step`'s, and each arm writes what `joinPart` has for its case.
 use mathlib.Core.Path.{refl, sym, _∙_}
 use Prim.Native.Nat.{_<_}
 use native.Mathlib.Numerals.{add-one}
 use native.Mathlib.Omega.{arith}
 use lib.ListN.{length}
-use Rattle.sar.specs.Joining.{joinPart}
-use Rattle.sar.specs.JoinLaws.{finished-free, Within, within}
+use Rattle.sar_room.specs.SarRoom.{joinPart}
+use Rattle.sar_room.specs.RoomLaws.{finished-free, Within, within}
 use borrow.Author.Needs.{needs}
-use Rattle.sar.proofs.join_frame.Statement.{statement}
-use Rattle.sar.proofs.join_frame.Tie as tie
+use Rattle.sar_room.proofs.join_frame.Statement.{statement}
+use Rattle.sar_room.proofs.join_frame.Tie as tie
 
 number-requires : tie.Need-number-requires
 number-requires c κs = search needs

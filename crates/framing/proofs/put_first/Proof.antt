@@ -1,11 +1,11 @@
--- `cutting::put_first` meets its contract, by the law that the first frame is written by its three numbers and the job's first octets.
+-- `framing::put_first` meets its contract, by the law that the first frame is written by its three numbers and the job's first octets.
 use native.Mathlib.Omega.{arith}
 use lib.ListN.{length, take}
 use lib.Seq.{length-take-le}
-use Rattle.cutting.specs.FrameLaws.{first-sets}
+use Rattle.framing.specs.FrameLaws.{first-sets}
 use borrow.Author.Needs.{needs}
-use Rattle.cutting.proofs.put_first.Statement.{statement}
-use Rattle.cutting.proofs.put_first.Tie as tie
+use Rattle.framing.proofs.put_first.Statement.{statement}
+use Rattle.framing.proofs.put_first.Tie as tie
 
 add-put-number : tie.Need-add-put-number
 add-put-number c = search needs

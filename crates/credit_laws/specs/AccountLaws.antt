@@ -1,17 +1,16 @@
 -- Laws of the account: held plus received stays through frames and grants, a grant gives all that was received, nothing wraps.
--- They rest on the definitions of Account.antt and on arithmetic.
+-- They rest on the definitions of credit's Account.antt and on arithmetic.
 use mathlib.Core.Path.{_≡_, refl, sym}
 use mathlib.Core.Bool.{Bool, true, false}
 use Prim.Native.Nat.{ℕ, zero, suc, _-_, _≤_, _<_}
 use native.Mathlib.Omega.{arith}
 use lib.Dec.{eqb}
 use Rattle.lists.specs.Choose.{choose}
-use borrow.Author.Tests.{lt-ltb, le-ltb, le-leb, lt-leb, eq-eqb, ne-eqb}
-use Rattle.credit.specs.declared.CreditFlowPolicy.the-variants.{Every, MinThreshold}
+use borrow.Author.Tests.{ne-eqb}
 use Rattle.credit.specs.declared.CreditFlowControl.{CreditFlowControl}
 use Rattle.credit.specs.declared.Grant.{Grant}
 use Rattle.credit.specs.declared.Grant.the-variants.{Nothing, Credits}
 use Rattle.credit.specs.Account.{received, granted, due, grantOf, grantCredits, creditSum}
 
 -- frames that had their credits leave the sum
 pub received-sum : (a : CreditFlowControl) (n : ℕ) → creditSum a ≤ 65535 → n ≤ a .credits → creditSum (received a n) ≡ creditSum a
@@ -20,28 +19,6 @@ received-sum a n h k = omega arith
 -- and so does a grant of no more than was received
 pub granted-sum : (a : CreditFlowControl) (n : ℕ) → creditSum a ≤ 65535 → n ≤ a .received → creditSum (granted a n) ≡ creditSum a
 granted-sum a n h k = omega arith
-
--- what the policies say, case by case
-module _ (a : CreditFlowControl) (some : a .received ≡ 0 → ⊥) where
-  pub every-reached : (k : ℕ) → a .policy ≡ Every k → k ≤ a .received → Credits (a .received) ≡ grantOf a
-  unfolding grantOf due choose
-  every-reached k p h = rw (ne-eqb _ 0 some, p, le-leb k _ h)
-
-  pub every-under : (k : ℕ) → a .policy ≡ Every k → a .received < k → Nothing ≡ grantOf a
-  unfolding grantOf due choose
-  every-under k p h = rw (ne-eqb _ 0 some, p, lt-leb k _ h)
-
-  pub threshold-under : (t : ℕ) → a .policy ≡ MinThreshold t → a .credits < t → Credits (a .received) ≡ grantOf a
-  unfolding grantOf due choose
-  threshold-under t p h = rw (ne-eqb _ 0 some, p, lt-ltb _ t h)
-
-  pub threshold-reached : (t : ℕ) → a .policy ≡ MinThreshold t → t ≤ a .credits → Nothing ≡ grantOf a
-  unfolding grantOf due choose
-  threshold-reached t p h = rw (ne-eqb _ 0 some, p, le-ltb _ t h)
-
-pub none-received : (a : CreditFlowControl) → a .received ≡ 0 → Nothing ≡ grantOf a
-unfolding grantOf choose
-none-received a e = rw (eq-eqb _ 0 e)
 
 -- whatever is granted is all that was received, and not 0
 pub record Granted (a : CreditFlowControl) (n : ℕ) : Type 0 where

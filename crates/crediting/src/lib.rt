@@ -13,7 +13,7 @@ use channel::ChannelState;
 use channel::Served;
 use channel::Table;
 use codes::Refusal;
-use signal::bodies::LeCreditFlowIndRead;
+use le_credit_bodies::LeCreditFlowIndRead;
 use slot::Want;
 
 // What the peer holds and what it is given.

@@ -1,5 +1,3 @@
--- What cutting a job writes and answers, and its laws.
+-- What cutting a job writes and answers, and the laws of the count and the plan.
 pub mod Cutting
 pub mod CutLaws
-pub mod FrameLaws
-pub mod Theorems

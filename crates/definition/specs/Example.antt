@@ -17,8 +17,9 @@ use Rattle.sar.specs.Joining.{reached, firstStep, assembled, joinStep}
 use Rattle.codes.specs.declared.Refusal.the-variants as Refusal
 use Rattle.codes.specs.Codes.{resultOf}
 use Rattle.headers.specs.Headers.{headersOf, restOf}
-use Rattle.signal.specs.Bodies.{commandRejectRes, disconnectionReq, disconnectionRes, connParamUpdateReq, connParamUpdateRes, leCreditConnReq, leCreditConnRes, leCreditFlowInd}
-use Rattle.signal.specs.Parameters.{parametersValid}
+use Rattle.bodies.specs.Bodies.{commandRejectRes, disconnectionReq, disconnectionRes, connParamUpdateReq, connParamUpdateRes}
+use Rattle.le_credit_bodies.specs.LeCreditBodies.{leCreditConnReq, leCreditConnRes, leCreditFlowInd}
+use Rattle.parameter_rule.specs.Parameters.{parametersValid}
 use Rattle.channel.specs.declared.Answer.{Answer}
 use Rattle.channel.specs.declared.Answer.the-variants.{Done, Refused, At, Link, Due, Frames, Job, Event}
 use Rattle.channel.specs.declared.ChannelState.{ChannelState}

@@ -19,22 +19,22 @@ use Rattle.cutting.specs.declared.Plan.{Plan}
 use Rattle.cutting.specs.declared.Plan.the-variants as Plan
 use Rattle.headers.specs.declared.Checked.{Checked}
 use Rattle.headers.specs.declared.Checked.the-variants.{Good, Cut, Past}
-use Rattle.signal.specs.declared.bodies.CommandRejectResRead.{CommandRejectResRead}
-use Rattle.signal.specs.declared.bodies.CommandRejectResRead.the-variants as CommandRejectRes
-use Rattle.signal.specs.declared.bodies.DisconnectionReqRead.{DisconnectionReqRead}
-use Rattle.signal.specs.declared.bodies.DisconnectionReqRead.the-variants as DisconnectionReq
-use Rattle.signal.specs.declared.bodies.DisconnectionResRead.{DisconnectionResRead}
-use Rattle.signal.specs.declared.bodies.DisconnectionResRead.the-variants as DisconnectionRes
-use Rattle.signal.specs.declared.bodies.ConnParamUpdateReqRead.{ConnParamUpdateReqRead}
-use Rattle.signal.specs.declared.bodies.ConnParamUpdateReqRead.the-variants as ConnParamUpdateReq
-use Rattle.signal.specs.declared.bodies.ConnParamUpdateResRead.{ConnParamUpdateResRead}
-use Rattle.signal.specs.declared.bodies.ConnParamUpdateResRead.the-variants as ConnParamUpdateRes
-use Rattle.signal.specs.declared.bodies.LeCreditConnReqRead.{LeCreditConnReqRead}
-use Rattle.signal.specs.declared.bodies.LeCreditConnReqRead.the-variants as LeCreditConnReq
-use Rattle.signal.specs.declared.bodies.LeCreditConnResRead.{LeCreditConnResRead}
-use Rattle.signal.specs.declared.bodies.LeCreditConnResRead.the-variants as LeCreditConnRes
-use Rattle.signal.specs.declared.bodies.LeCreditFlowIndRead.{LeCreditFlowIndRead}
-use Rattle.signal.specs.declared.bodies.LeCreditFlowIndRead.the-variants as LeCreditFlowInd
+use Rattle.bodies.specs.declared.CommandRejectResRead.{CommandRejectResRead}
+use Rattle.bodies.specs.declared.CommandRejectResRead.the-variants as CommandRejectRes
+use Rattle.bodies.specs.declared.DisconnectionReqRead.{DisconnectionReqRead}
+use Rattle.bodies.specs.declared.DisconnectionReqRead.the-variants as DisconnectionReq
+use Rattle.bodies.specs.declared.DisconnectionResRead.{DisconnectionResRead}
+use Rattle.bodies.specs.declared.DisconnectionResRead.the-variants as DisconnectionRes
+use Rattle.bodies.specs.declared.ConnParamUpdateReqRead.{ConnParamUpdateReqRead}
+use Rattle.bodies.specs.declared.ConnParamUpdateReqRead.the-variants as ConnParamUpdateReq
+use Rattle.bodies.specs.declared.ConnParamUpdateResRead.{ConnParamUpdateResRead}
+use Rattle.bodies.specs.declared.ConnParamUpdateResRead.the-variants as ConnParamUpdateRes
+use Rattle.le_credit_bodies.specs.declared.LeCreditConnReqRead.{LeCreditConnReqRead}
+use Rattle.le_credit_bodies.specs.declared.LeCreditConnReqRead.the-variants as LeCreditConnReq
+use Rattle.le_credit_bodies.specs.declared.LeCreditConnResRead.{LeCreditConnResRead}
+use Rattle.le_credit_bodies.specs.declared.LeCreditConnResRead.the-variants as LeCreditConnRes
+use Rattle.le_credit_bodies.specs.declared.LeCreditFlowIndRead.{LeCreditFlowIndRead}
+use Rattle.le_credit_bodies.specs.declared.LeCreditFlowIndRead.the-variants as LeCreditFlowInd
 use Rattle.signal.specs.declared.forms.Signal.{Signal}
 use Rattle.channel.specs.declared.Answer.the-variants.{Done, Refused}
 use Rattle.channel.specs.declared.ChannelState.{ChannelState}

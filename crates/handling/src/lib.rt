@@ -6,7 +6,7 @@ ghost use mathlib.Core.List.{List, []};
 ghost use Prim.Native.Nat.{ℕ, _≤_};
 ghost use lib.ListN.{length};
 ghost use Rattle.lists.specs.Choose.{choose};
-ghost use Rattle.signal.specs.Bodies.{connParamUpdateReq};
+ghost use Rattle.bodies.specs.Bodies.{connParamUpdateReq};
 ghost use Rattle.channel.specs.Limits.{signalMost};
 ghost use Rattle.channel.specs.declared.Answer.the-variants.{Done};
 ghost use Rattle.channel.specs.declared.Table.{Table as TableOf};
@@ -14,18 +14,18 @@ ghost use Rattle.definition.specs.Outcome.{still};
 ghost use Rattle.definition.specs.Ending.{end, endOf};
 ghost use Rattle.definition.specs.Signals.{rejectReply, onParameters, handled};
 ghost use Rattle.room.specs.Placed.{RoomOf};
+use bodies::read_command_reject_res;
+use bodies::read_conn_param_update_req;
+use bodies::read_conn_param_update_res;
+use bodies::read_disconnection_req;
+use bodies::read_disconnection_res;
 use channel::Answer;
 use channel::Served;
 use channel::Table;
 use codes::Refusal;
-use signal::bodies::read_command_reject_res;
-use signal::bodies::read_conn_param_update_req;
-use signal::bodies::read_conn_param_update_res;
-use signal::bodies::read_disconnection_req;
-use signal::bodies::read_disconnection_res;
-use signal::bodies::read_le_credit_conn_req;
-use signal::bodies::read_le_credit_conn_res;
-use signal::bodies::read_le_credit_flow_ind;
+use le_credit_bodies::read_le_credit_conn_req;
+use le_credit_bodies::read_le_credit_conn_res;
+use le_credit_bodies::read_le_credit_flow_ind;
 
 // Code 0x12: a central alone takes parameters; any other side rejects before the body is read.
 fn on_update(t: Table, out: &mut [u8], central: bool, id: u8, body: &[u8]) -> Served

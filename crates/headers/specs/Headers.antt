@@ -1,26 +1,19 @@
--- The signals in a PDU (Core Vol 3 Part A 4): each is a header of code, identifier and body length in two octets, and a body of that length.
+-- The signals in a PDU (Core Vol 3 Part A 4), each a header and a body, and what stands after the first (FirstSignal).
 -- Document 01: every header is checked first; then the first signal is handled, and what stands after it is given back.
 use mathlib.Core.Path.{_≡_}
 use mathlib.Core.List.{List, []}
-use Prim.Native.Nat.{ℕ, _+_, _-_}
+use Prim.Native.Nat.{ℕ, _-_}
 use native.Mathlib.Omega.{arith}
 use lib.ListN.{length, getD, drop, length-drop}
 use lib.Dec.{ltb}
 use borrow.Author.Tests.{le-ltb}
 use Rattle.lists.specs.Choose.{choose}
 use Rattle.lists.specs.Fuel.{whole, whole-eq}
-use Rattle.octets.specs.Octets.{part, u16At}
-use Rattle.headers.specs.declared.HeaderRead.{HeaderRead}
-use Rattle.headers.specs.declared.HeaderRead.the-variants.{Short, Is}
+use Rattle.octets.specs.Octets.{u16At}
+unfoldable pub use Rattle.first_signal.specs.FirstSignal.{headerOf}
+pub use Rattle.first_signal.specs.FirstSignal.{sizeOf, bodyIn}
 use Rattle.headers.specs.declared.Checked.{Checked}
 use Rattle.headers.specs.declared.Checked.the-variants.{Good, Cut, Past}
-
-unfoldable pub headerOf : List ℕ → HeaderRead
-headerOf s = choose (ltb (length s) 4) Short (Is (record { code = getD s 0 0; identifier = getD s 1 0; length = u16At s 2 }))
-
--- the first signal's octets, header and body
-abbrev pub sizeOf : List ℕ → ℕ
-sizeOf s = 4 + u16At s 2
 
 -- one turn of the check: nothing left is good; a header under 4 octets, and a body that runs past the PDU, are not; `go` checks what is
 -- left after the first signal
@@ -41,10 +34,6 @@ unfolding headersOf choose
 headers-eq =
     whole-eq Good headersBy (λ s. drop (sizeOf s) s) (λ s. simp length-drop (omega arith)) (λ go go′ s e. rw e)
     (λ go s h. rw (le-ltb 0 (length s) h))
-
--- the first signal's body
-abbrev pub bodyIn : List ℕ → List ℕ
-bodyIn s = part s 4 (u16At s 2)
 
 -- what a PDU leaves after its first signal, by what the check of its headers found
 abbrev pub restIf : Checked → List ℕ → List ℕ

@@ -1,20 +1,11 @@
-// The headers of the signals in a PDU (Core Vol 3 Part A 4): code, identifier, body length in two octets, then the body.
+// The headers of the signals in a PDU (Core Vol 3 Part A 4): the check of every one, and what stands after the first signal, whose header and
+// body first_signal reads.
+pub use first_signal::body;
+pub use first_signal::read_header;
 use octets::number;
 use octets::octet;
 ghost use mathlib.Core.Path.{_≡_};
-ghost use Rattle.headers.specs.Headers.{headerOf, headersOf, bodyIn, restOf};
-
-pub struct L2capSignalHeader {
-    pub code: u8,
-    pub identifier: u8,
-    pub length: u16,
-}
-
-pub enum HeaderRead {
-    // Under 4 octets.
-    Short,
-    Is(L2capSignalHeader),
-}
+ghost use Rattle.headers.specs.Headers.{headersOf, restOf};
 
 // What the check of every header in a PDU finds, where the first that fails decides.
 pub enum Checked {
@@ -23,21 +14,6 @@ pub enum Checked {
     Cut,
     // A body that runs past the PDU, with that signal's identifier.
     Past(u8),
-}
-
-// The header of the first signal.
-pub fn read_header(pdu: &[u8]) -> HeaderRead
-    ensures { λ r. ⌜ r ≡ headerOf (now (pdu .entry)) ⌝ }
-{
-    if pdu.len() < 4 {
-        HeaderRead::Short
-    } else {
-        HeaderRead::Is(L2capSignalHeader {
-            code: pdu[0],
-            identifier: pdu[1],
-            length: number(pdu, 2),
-        })
-    }
 }
 
 // Every header of the PDU, from the first on.
@@ -56,17 +32,6 @@ pub fn check_headers(pdu: &[u8]) -> Checked
         t = &t[4 + n..];
     }
     Checked::Good
-}
-
-// The body of the first signal; what there is of it where the PDU is shorter.
-pub fn body(pdu: &[u8]) -> &[u8]
-    ensures { λ r. ⌜ now r ≡ bodyIn (now (pdu .entry)) ⌝ }
-{
-    if pdu.len() < 4 {
-        return &pdu[..0];
-    }
-    let n = octets::least(number(pdu, 2) as usize, pdu.len() - 4);
-    &pdu[4..4 + n]
 }
 
 // The part of the PDU after its first signal; empty where the header check refuses.

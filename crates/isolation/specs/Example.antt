@@ -15,7 +15,7 @@ use Rattle.credit.specs.Account.{due, grantOf}
 use Rattle.cutting.specs.Cutting.{ceil, frameCount, framesLength, planSend}
 use Rattle.sar.specs.Joining.{reached, firstStep, assembled, joinStep}
 use Rattle.headers.specs.Headers.{headersOf}
-use Rattle.signal.specs.Bodies.{leCreditConnReq}
+use Rattle.le_credit_bodies.specs.LeCreditBodies.{leCreditConnReq}
 use Rattle.definition.specs.Mem.{fill, move, moves, parts, fills, written}
 use Rattle.definition.specs.Table.{slotFits, wellFormed}
 use Rattle.definition.specs.Outcome.{only, verdict}

@@ -10,7 +10,8 @@ use Rattle.lists.specs.Choose.{choose}
 use Rattle.sar.specs.declared.Assembly.{Assembly}
 use Rattle.sar.specs.declared.Joined.{Joined}
 use Rattle.sar.specs.declared.Joined.the-variants as Joined
-use Rattle.sar.specs.Joining.{isIdle, assembled, jobOctets, queueAt, finish, joinPart}
+use Rattle.sar.specs.Joining.{isIdle, assembled, jobOctets}
+use Rattle.sar_room.specs.SarRoom.{queueAt, finish, joinPart}
 use Rattle.channel.specs.declared.Answer.{Answer}
 use Rattle.channel.specs.declared.ChannelState.{ChannelState}
 use Rattle.channel.specs.declared.Served.{Served}

@@ -45,7 +45,7 @@ fn join_part(
     let w = gate::part_size(d, m);
     let at = room::part_at(d, m, s);
     let end = at + w;
-    sar::join_frame(&mut room[at..end], place, mtu, mps, d, a, queued, payload)
+    sar_room::join_frame(&mut room[at..end], place, mtu, mps, d, a, queued, payload)
 }
 
 // One more job waits, of so many octets.

@@ -7,3 +7,4 @@ pub mod Each
 pub mod Any
 pub mod Bits
 pub mod Fuel
+pub mod Sets

@@ -8,15 +8,15 @@ ghost use Rattle.channel.specs.Limits.{signalMost};
 ghost use Rattle.channel.specs.declared.Table.{Table as TableOf};
 ghost use Rattle.definition.specs.Ending.{end, endOf};
 ghost use Rattle.definition.specs.Signals.{onParameters, onReject, onParameterResponse};
+use bodies::CommandRejectResRead;
+use bodies::ConnParamUpdateReqRead;
+use bodies::ConnParamUpdateResRead;
 use channel::Answer;
 use channel::Served;
 use channel::Table;
-use signal::bodies::CommandRejectResRead;
-use signal::bodies::ConnParamUpdateReqRead;
-use signal::bodies::ConnParamUpdateResRead;
+use parameter_rule::parameters_valid;
 use signal::forms::ConnParamUpdateRes;
 use signal::forms::Signal;
-use signal::parameters::parameters_valid;
 
 // Code 0x12 to a central: valid parameters are told to the caller, others are refused by a response.
 pub fn on_parameters(t: Table, out: &mut [u8], id: u8, read: ConnParamUpdateReqRead) -> Served

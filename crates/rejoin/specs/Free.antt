@@ -17,8 +17,9 @@ use Rattle.cutting.specs.CutLaws.{split}
 use Rattle.sar.specs.declared.Assembly.{Assembly}
 use Rattle.sar.specs.declared.Joined.{Joined}
 use Rattle.sar.specs.declared.Joined.the-variants.{Refused, Dropped, Finished, Assembling}
-use Rattle.sar.specs.Joining.{isIdle, idle, joinStep, joinPart, finish, assembled, jobOctets, queueAt}
-use Rattle.sar.specs.JoinLaws.{total, wanted, wanted-next, step-cases}
+use Rattle.sar.specs.Joining.{isIdle, idle, joinStep, assembled, jobOctets}
+use Rattle.sar_room.specs.SarRoom.{joinPart, finish, queueAt}
+use Rattle.sar_room.specs.RoomLaws.{total, wanted, wanted-next, step-cases}
 
 -- ---- what is written
 

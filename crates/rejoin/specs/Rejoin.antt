@@ -16,13 +16,15 @@ use Rattle.octets.specs.Sets.{sets-append, sets-comm, sets-over, part-length, p
 use Rattle.cutting.specs.declared.Plan.the-variants.{Frames}
 use Rattle.cutting.specs.Cutting.{frameCount, stream, pieces, payloads, frame, planSend}
 use Rattle.cutting.specs.CutLaws.{split, plan-allowed}
-use Rattle.cutting.specs.FrameLaws.{pieces-nil, pieces-more}
-use Rattle.cutting.specs.Theorems.{cut}
+use Rattle.framing.specs.FrameLaws.{pieces-nil, pieces-more}
+use Rattle.framing.specs.Theorems.{cut}
 use Rattle.sar.specs.declared.Assembly.{Assembly}
 use Rattle.sar.specs.declared.Joined.{Joined}
 use Rattle.sar.specs.declared.Joined.the-variants.{Finished, Assembling}
-use Rattle.sar.specs.Joining.{idle, joinStep, joinPart, finish, queueAt}
-use Rattle.sar.specs.JoinLaws.{reached-part, reached-whole, first-reaches, next-reaches, grow-first, grow-next, finish-first, finish-joined, within}
+use Rattle.sar.specs.Joining.{idle, joinStep}
+use Rattle.sar_room.specs.SarRoom.{joinPart, finish, queueAt}
+use Rattle.sar.specs.JoinLaws.{reached-part, reached-whole, first-reaches, next-reaches}
+use Rattle.sar_room.specs.RoomLaws.{grow-first, grow-next, finish-first, finish-joined, within}
 use Rattle.rejoin.specs.Run.{Side, ran, after, stepOn, run}
 
 -- what is written over no more than what was written is all that stays

@@ -8,7 +8,8 @@ use Rattle.codes.specs.declared.Refusal.the-variants as Refusal
 use Rattle.sar.specs.declared.Assembly.{Assembly}
 use Rattle.sar.specs.declared.Joined.{Joined}
 use Rattle.sar.specs.declared.Joined.the-variants.{Refused, Dropped, Finished, Assembling}
-use Rattle.sar.specs.Joining.{idle, joinStep, joinPart, queueAt}
+use Rattle.sar.specs.Joining.{idle, joinStep}
+use Rattle.sar_room.specs.SarRoom.{joinPart, queueAt}
 
 -- What the receiving side keeps: the open assembly, how many jobs wait, its part of the room, and the jobs that came whole, in their order.
 pub record Side : Type 0 where

@@ -11,9 +11,9 @@ use Rattle.lists.specs.Every.{every}
 use Rattle.credit.specs.declared.CreditFlowPolicy.the-variants.{Every}
 use Rattle.lists.specs.Fuel.{whole, fuelled}
 use Rattle.headers.specs.Headers.{headersOf}
-use Rattle.signal.specs.Bodies.{leCreditConnReq, leCreditFlowInd}
+use Rattle.le_credit_bodies.specs.LeCreditBodies.{leCreditConnReq, leCreditFlowInd}
 use Rattle.cutting.specs.Cutting.{payloads}
-use Rattle.cutting.specs.Theorems as Cut
+use Rattle.framing.specs.Theorems as Cut
 use Rattle.channel.specs.declared.ChannelState.the-variants.{Connected, Disconnecting}
 use Rattle.channel.specs.declared.L2capChannelConfig.{L2capChannelConfig}
 use Rattle.channel.specs.declared.Setting.the-variants.{Default}

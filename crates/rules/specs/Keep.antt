@@ -12,7 +12,7 @@ use borrow.Author.Tests.{le-leb}
 use Rattle.lists.specs.Every.{every}
 use Rattle.credit.specs.declared.CreditFlowControl.{CreditFlowControl}
 use Rattle.credit.specs.Account.{creditSum}
-use Rattle.credit.specs.AccountLaws.{received-sum, grant-settles}
+use Rattle.credit_laws.specs.AccountLaws.{received-sum, grant-settles}
 use Rattle.sar.specs.declared.Assembly.{Assembly}
 use Rattle.sar.specs.Joining.{idle}
 use Rattle.channel.specs.Limits.{creditsMost}

@@ -13,8 +13,8 @@ use Rattle.octets.specs.Octets.{part, le16}
 use Rattle.octets.specs.Sets.{part-length}
 use Rattle.cutting.specs.Cutting.{ceil, frameCount, stream, pieces, payloads, frame, framesOf}
 use Rattle.cutting.specs.CutLaws.{split, ceil-zero, ceil-more, ceil-holds}
-use Rattle.cutting.specs.FrameLaws.{pieces-nil, pieces-more, framed, framed-nil, framed-start, framed-turn, count-first}
-use Rattle.cutting.specs.Theorems.{cut}
+use Rattle.framing.specs.FrameLaws.{pieces-nil, pieces-more, framed, framed-nil, framed-start, framed-turn, count-first}
+use Rattle.framing.specs.Theorems.{cut}
 use Rattle.channel.specs.Limits.{handleMost, signalMost}
 use Rattle.channel.specs.declared.Answer.the-variants.{Frames, Job}
 use Rattle.channel.specs.declared.Slot.{Slot}

@@ -1,13 +1,11 @@
 -- How the payloads of K-frames become a job again (document 01, 'Cutting, joining, credits'; Core Vol 3 Part A 3.4, 10.1): the step that a payload makes, decided
--- from numbers, and what it leaves in the slot's part of the room: the place for assembly, then the places of the finished jobs.
+-- from numbers, and which of its octets are the job's.
 use mathlib.Core.Bool.{Bool}
 use mathlib.Core.List.{List}
-use Prim.Native.Nat.{ℕ, suc, _+_, _-_, _*_}
-use lib.ListN.{length, drop, replicate}
-use lib.Seq.{sets}
+use Prim.Native.Nat.{ℕ, _+_, _-_}
+use lib.ListN.{drop}
 use lib.Dec.{eqb, leb, ltb}
 use Rattle.lists.specs.Choose.{choose}
-use Rattle.octets.specs.Octets.{part}
 use Rattle.codes.specs.declared.Refusal.the-variants as Refusal
 use Rattle.codes.specs.Codes.{refusalNumber}
 use Rattle.sar.specs.declared.Assembly.{Assembly}
@@ -48,28 +46,9 @@ joinedNumber Dropped = 21
 joinedNumber (Finished n) = 0
 joinedNumber (Assembling a) = 0
 
--- ---- what it leaves in the slot's part of the room, of places of that size
-
 -- the payload's octets that belong to the job, and how many octets stand assembled before them
 unfoldable pub jobOctets : Assembly → List ℕ → List ℕ
 jobOctets a p = choose (isIdle a) (drop 2 p) p
 
 unfoldable pub assembled : Assembly → ℕ
 assembled a = choose (isIdle a) 0 (a .have)
-
--- where the next finished job goes
-abbrev pub queueAt : ℕ → ℕ → ℕ
-queueAt place queued = suc queued * place
-
--- a job that one frame carries goes straight to its place at `at`; one that was assembled goes there, and the place for assembly is zeroed
-unfoldable pub finish : ℕ → Assembly → ℕ → List ℕ → List ℕ → List ℕ
-finish place a at xs p =
-    choose (isIdle a) (sets xs at (drop 2 p))
-    (sets (sets (sets xs at (part xs 0 (a .have))) (at + a .have) p) 0 (replicate place 0))
-
--- a refusal leaves the part to the caller, who leaves Connected
-unfoldable pub joinPart : ℕ → Assembly → ℕ → Joined → List ℕ → List ℕ → List ℕ
-joinPart place a queued (Refused r) xs p = xs
-joinPart place a queued Dropped xs p = sets xs 0 (replicate place 0)
-joinPart place a queued (Finished n) xs p = finish place a (queueAt place queued) xs p
-joinPart place a queued (Assembling b) xs p = sets xs (assembled a) (jobOctets a p)

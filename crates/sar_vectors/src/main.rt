@@ -72,7 +72,7 @@ fn feed(places: &mut [u8], place: usize, mtu: u16, d: usize, s: Side, payload: &
     if places.len() < (d + 1) * place {
         return s;
     }
-    let step = sar::join_frame(places, place, mtu, 23, d, a, queued, payload);
+    let step = sar_room::join_frame(places, place, mtu, 23, d, a, queued, payload);
     match step {
         Joined::Refused(r) => Side {
             a,
@@ -165,7 +165,7 @@ fn send(out: &mut [u8], l: u16, mtu: u16, mps: u16, credits: u16) {
     let mut job = [0u8; 65535];
     let n = l as usize;
     fill(&mut job);
-    let plan = cutting::send_job(out, 0x1234, mtu, mps, credits, &job[0..n]);
+    let plan = framing::send_job(out, 0x1234, mtu, mps, credits, &job[0..n]);
     came(plan, l, out);
 }
 
@@ -205,7 +205,7 @@ fn small(mps: u16, l: u16, octets: usize) {
         return;
     }
     fill(&mut job);
-    cutting::cut_job(&mut out, 0x1234, mps, &job[0..n]);
+    framing::cut_job(&mut out, 0x1234, mps, &job[0..n]);
     text(b"small");
     rejoin(l, &out[0..octets]);
     text(b"\n");

@@ -15,7 +15,7 @@ use Rattle.cutting.specs.declared.Plan.{Plan}
 use Rattle.cutting.specs.declared.Plan.the-variants as Plan
 use Rattle.cutting.specs.Cutting.{ceil, frameCount, framesLength, frame, framesOf, planSend, outputAfter}
 use Rattle.cutting.specs.CutLaws.{split, ceil-zero, ceil-more, Allowed, plan-allowed}
-use Rattle.cutting.specs.FrameLaws.{framed, framed-nil, framed-start, framed-turn, count-first}
+use Rattle.framing.specs.FrameLaws.{framed, framed-nil, framed-start, framed-turn, count-first}
 use Rattle.channel.specs.declared.Answer.the-variants.{Frames}
 use Rattle.channel.specs.declared.Served.{Served}
 use Rattle.channel.specs.declared.Slot.{Slot}

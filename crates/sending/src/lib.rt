@@ -42,7 +42,7 @@ fn send_on(t: Table, s: usize, sdu: &[u8], out: &mut [u8]) -> Served
     if !state::is_connected(k) {
         return slots::refused(t, Refusal::ChannelClosed);
     }
-    match cutting::send_job(out, x.peer.cid, x.peer.mtu, x.peer.mps, credits, sdu) {
+    match framing::send_job(out, x.peer.cid, x.peer.mtu, x.peer.mps, credits, sdu) {
         Plan::Refused(r) => slots::refused(t, r),
         Plan::Frames { n, octets } => {
             let used = n as u16;

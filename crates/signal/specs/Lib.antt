@@ -1,4 +1,2 @@
--- What signals are, from Core Vol 3 Part A 4, in its order and words.
+-- A refused connect response.
 pub mod Forms
-pub mod Bodies
-pub mod Parameters

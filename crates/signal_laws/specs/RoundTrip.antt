@@ -13,9 +13,11 @@ use Rattle.octets.specs.Numbers.{le16-back}
 use Rattle.codes.specs.Codes.{resultOf, result-back, result-exact}
 use Rattle.codes.specs.declared.ResultRead.{ResultRead}
 use Rattle.codes.specs.declared.ResultRead.the-variants.{Known, Unknown}
-use Rattle.signal.specs.Bodies.{commandRejectRes, disconnectionReq, disconnectionRes, connParamUpdateReq, connParamUpdateRes, leCreditConnReq, leCreditConnRes, leCreditFlowInd, resIf, fromCommandRejectRes, fromDisconnectionReq, fromDisconnectionRes, fromConnParamUpdateReq, fromConnParamUpdateRes, fromLeCreditConnReq, fromLeCreditConnRes, fromLeCreditFlowInd, signalOf}
-use Rattle.signal.specs.declared.bodies.SignalRead.{SignalRead}
-use Rattle.signal.specs.declared.bodies.SignalRead.the-variants.{NotSupported, Decode, Is}
+use Rattle.bodies.specs.Bodies.{commandRejectRes, disconnectionReq, disconnectionRes, connParamUpdateReq, connParamUpdateRes}
+use Rattle.le_credit_bodies.specs.LeCreditBodies.{leCreditConnReq, leCreditConnRes, leCreditFlowInd, resIf}
+use Rattle.signal_read.specs.SignalRead.{fromCommandRejectRes, fromDisconnectionReq, fromDisconnectionRes, fromConnParamUpdateReq, fromConnParamUpdateRes, fromLeCreditConnReq, fromLeCreditConnRes, fromLeCreditFlowInd, signalOf}
+use Rattle.signal_read.specs.declared.SignalRead.{SignalRead}
+use Rattle.signal_read.specs.declared.SignalRead.the-variants.{NotSupported, Decode, Is}
 use Rattle.signal.specs.declared.forms.Signal.{Signal}
 use Rattle.signal.specs.declared.forms.Signal.the-variants.{CommandRejectRes, DisconnectionReq, DisconnectionRes, ConnParamUpdateReq, ConnParamUpdateRes, LeCreditConnReq, LeCreditConnRes, LeCreditFlowInd}
 use Rattle.writer.specs.Writer.{octetsOf, codeOf, fieldsOf}

@@ -1,11 +1,11 @@
 // Replays the vectors of the file stdin over headers, signal and writer: a line is a PDU in hex, '=', and what is to come of it; a line
 // without '=' says what follows. Each line that differs is written, and at the end how many there are.
+use first_signal::HeaderRead;
 use headers::Checked;
-use headers::HeaderRead;
 use octets::least;
 use octets::put;
-use signal::bodies::SignalRead;
 use signal::forms::Signal;
+use signal_read::SignalRead;
 use writer::SignalWritten;
 ghost use mathlib.Core.Path.{_≡_};
 ghost use Prim.Native.Nat.{_≤_};
@@ -57,7 +57,7 @@ fn valid(s: Signal) -> u8 {
     let Signal::ConnParamUpdateReq(p) = s else {
         return 0;
     };
-    if signal::parameters::parameters_valid(p) {
+    if parameter_rule::parameters_valid(p) {
         1
     } else {
         0
@@ -67,7 +67,7 @@ fn valid(s: Signal) -> u8 {
 // The signal written again, where it could be read; how many octets that are. `head` gets 1 for no known code, 2 for a bad body, 3 for a
 // signal; and whether its parameters are valid.
 fn again(code: u8, id: u8, body: &[u8], head: &mut [u8], out: &mut [u8]) -> usize {
-    match signal::bodies::read_signal(code, body) {
+    match signal_read::read_signal(code, body) {
         SignalRead::NotSupported => {
             put(head, 2, 1);
             0

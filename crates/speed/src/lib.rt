@@ -36,5 +36,5 @@ pub extern "C" fn speed_send(
     ensures { λ r. ⌜ r ≡ octetsOf (planSend (length (now (sdu .entry))) mtu mps credits (length (now (out .entry)))) ⌝ }
     ensures { λ _. ⌜ now (out .exit) ≡ outputAfter (planSend (length (now (sdu .entry))) mtu mps credits (length (now (out .entry)))) cid mps (now (out .entry)) (now (sdu .entry)) ⌝ }
 {
-    octets_of(cutting::send_job(out, cid, mtu, mps, credits, sdu))
+    octets_of(framing::send_job(out, cid, mtu, mps, credits, sdu))
 }

@@ -1,30 +1,18 @@
--- A signal, written (Core Vol 3 Part A 3.1 and 4; document 01): length, CID 0x0005, then code, identifier, body length, body. Numbers are
--- two octets, the lower first.
+-- A signal, written (Core Vol 3 Part A 3.1 and 4; document 01): the PDU of its form's code and fields.
 use mathlib.Core.Path.{_≡_}
-use mathlib.Core.List.{List, [], _∷_, _++_}
-use Prim.Native.Nat.{ℕ, _+_, _*_, _/_, _%_, _≤_, _<_}
+use mathlib.Core.List.{List, [], _∷_}
+use Prim.Native.Nat.{ℕ, _≤_, _<_}
 use lib.ListN.{length}
 use lib.Seq.{sets}
 use lib.Dec.{ltb, lit≤}
 use borrow.Author.Tests.{lt-ltb, le-ltb}
 use Rattle.lists.specs.Choose.{choose}
-use Rattle.octets.specs.Octets.{le16}
+pub use Rattle.pdu.specs.Pdu.{octetsOf, headOf, pduOf}
 use Rattle.codes.specs.Codes.{resultNumber}
 use Rattle.signal.specs.declared.forms.Signal.{Signal}
 use Rattle.signal.specs.declared.forms.Signal.the-variants.{CommandRejectRes, DisconnectionReq, DisconnectionRes, ConnParamUpdateReq, ConnParamUpdateRes, LeCreditConnReq, LeCreditConnRes, LeCreditFlowInd}
 use Rattle.writer.specs.declared.SignalWritten.{SignalWritten}
 use Rattle.writer.specs.declared.SignalWritten.the-variants.{NoRoom, Octets}
-
--- fields of two octets each
-abbrev pub octetsOf : List ℕ → List ℕ
-octetsOf [] = []
-octetsOf (f ∷ fs) = f % 256 ∷ f / 256 ∷ octetsOf fs
-
-abbrev pub headOf : ℕ → ℕ → ℕ → List ℕ
-headOf code id n = octetsOf ((4 + n) ∷ 5 ∷ []) ++ (code ∷ id ∷ le16 n)
-
-abbrev pub pduOf : ℕ → ℕ → List ℕ → List ℕ
-pduOf code id fs = headOf code id (2 * length fs) ++ octetsOf fs
 
 -- each form's code, and its fields in Core's order
 abbrev pub codeOf : Signal → ℕ

@@ -2,7 +2,7 @@
 use mathlib.Core.Path.{sym, _∙_}
 use mathlib.Core.List.{[]}
 use native.Mathlib.Omega.{arith}
-use Rattle.sar.specs.JoinLaws.{finished-free}
+use Rattle.sar_room.specs.RoomLaws.{finished-free}
 use Rattle.definition.specs.Table.{width}
 use Rattle.definition.specs.Ending.{parts-none}
 use Rattle.room.specs.Placed.{placed}

@@ -6,8 +6,7 @@ use native.Mathlib.Omega.{arith}
 use borrow.Author.Needs.{needs}
 use lib.ListN.{getD, length-take, length-drop}
 use lib.Seq.{getD-set-other}
-use Rattle.octets.specs.Octets.{part}
-use Rattle.octets.specs.Sets.{Writing, writing-none, writing-more, writing-end, part-at}
+use Rattle.lists.specs.Sets.{part, Writing, writing-none, writing-more, writing-end, part-at}
 use Rattle.octets.proofs.shift_down.Statement.{statement}
 use Rattle.octets.proofs.shift_down.Tie as tie
 

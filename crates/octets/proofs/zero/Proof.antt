@@ -3,7 +3,7 @@ use Prim.Native.Nat.{_-_, _≤_}
 use native.Mathlib.Omega.{arith}
 use borrow.Author.Needs.{needs}
 use lib.ListN.{replicate, length-replicate, getD-replicate}
-use Rattle.octets.specs.Sets.{Writing, writing-none, writing-more, writing-end}
+use Rattle.lists.specs.Sets.{Writing, writing-none, writing-more, writing-end}
 use Rattle.octets.proofs.zero.Statement.{statement}
 use Rattle.octets.proofs.zero.Tie as tie
 

@@ -1,6 +1,6 @@
 -- `CreditFlowControl::process` meets its contract: each return is one case law of the definition, by the tests on the way to it.
 use borrow.Author.Needs.{needs}
-use Rattle.credit.specs.AccountLaws.{every-reached, every-under, threshold-under, threshold-reached, none-received}
+use Rattle.credit.specs.PolicyLaws.{every-reached, every-under, threshold-under, threshold-reached, none-received}
 use Rattle.credit.proofs.CreditFlowControl.process.Statement.{statement}
 use Rattle.credit.proofs.CreditFlowControl.process.Tie as tie
 

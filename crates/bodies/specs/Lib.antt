@@ -1,0 +1,2 @@
+-- The bodies of the signals, read.
+pub mod Bodies

@@ -1,0 +1,2 @@
+-- Laws of the credit account.
+pub mod AccountLaws

@@ -1,2 +1,0 @@
--- What the cursors' calls give.
-pub mod Cursor

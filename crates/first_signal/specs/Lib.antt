@@ -1,0 +1,2 @@
+-- The first signal of a PDU.
+pub mod FirstSignal

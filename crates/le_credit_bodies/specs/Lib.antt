@@ -1,0 +1,2 @@
+-- The bodies of the signals of LE credit based connections, read.
+pub mod LeCreditBodies

@@ -1,0 +1,3 @@
+-- A number as two octets in a run of octets, with its laws.
+pub mod Octets
+pub mod Numbers

@@ -1,0 +1,2 @@
+-- The connection parameters that a central takes.
+pub mod Parameters

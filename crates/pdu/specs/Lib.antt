@@ -1,0 +1,2 @@
+-- The PDU of one signal.
+pub mod Pdu

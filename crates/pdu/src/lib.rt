@@ -1,0 +1,56 @@
+// The PDU of one signal, written from the buffer's start: length, CID 0x0005, code, identifier, body length (Core Vol 3 Part A 3.1 and 4),
+// then as many fields of two octets as the form has.
+use octets::put;
+use octets::put_number;
+ghost use mathlib.Core.Path.{_≡_};
+ghost use mathlib.Core.List.{[], _∷_};
+ghost use Prim.Native.Nat.{_≤_};
+ghost use lib.Seq.{sets};
+ghost use Rattle.pdu.specs.Pdu.{headOf, pduOf};
+
+fn put_head(out: &mut [u8], code: u8, id: u8, n: u16)
+    requires { ⌜ n ≤ 10 ⌝ }
+    ensures { λ _. ⌜ now (out .exit) ≡ sets (now (out .entry)) 0 (headOf code id n) ⌝ }
+{
+    put_number(out, 0, 4 + n);
+    put_number(out, 2, 5);
+    put(out, 4, code);
+    put(out, 5, id);
+    put_number(out, 6, n);
+}
+
+pub fn put_one(out: &mut [u8], code: u8, id: u8, a: u16)
+    ensures { λ _. ⌜ now (out .exit) ≡ sets (now (out .entry)) 0 (pduOf code id (a ∷ [])) ⌝ }
+{
+    put_head(out, code, id, 2);
+    put_number(out, 8, a);
+}
+
+pub fn put_two(out: &mut [u8], code: u8, id: u8, a: u16, b: u16)
+    ensures { λ _. ⌜ now (out .exit) ≡ sets (now (out .entry)) 0 (pduOf code id (a ∷ b ∷ [])) ⌝ }
+{
+    put_head(out, code, id, 4);
+    put_number(out, 8, a);
+    put_number(out, 10, b);
+}
+
+pub fn put_four(out: &mut [u8], code: u8, id: u8, a: u16, b: u16, c: u16, d: u16)
+    ensures { λ _. ⌜ now (out .exit) ≡ sets (now (out .entry)) 0 (pduOf code id (a ∷ b ∷ c ∷ d ∷ [])) ⌝ }
+{
+    put_head(out, code, id, 8);
+    put_number(out, 8, a);
+    put_number(out, 10, b);
+    put_number(out, 12, c);
+    put_number(out, 14, d);
+}
+
+pub fn put_five(out: &mut [u8], code: u8, id: u8, a: u16, b: u16, c: u16, d: u16, e: u16)
+    ensures { λ _. ⌜ now (out .exit) ≡ sets (now (out .entry)) 0 (pduOf code id (a ∷ b ∷ c ∷ d ∷ e ∷ [])) ⌝ }
+{
+    put_head(out, code, id, 10);
+    put_number(out, 8, a);
+    put_number(out, 10, b);
+    put_number(out, 12, c);
+    put_number(out, 14, d);
+    put_number(out, 16, e);
+}

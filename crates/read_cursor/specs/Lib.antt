@@ -1,0 +1,2 @@
+-- What a read cursor's calls give.
+pub mod ReadCursor

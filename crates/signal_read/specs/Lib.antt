@@ -1,0 +1,2 @@
+-- Any signal, read.
+pub mod SignalRead

@@ -1,0 +1,2 @@
+-- What a write cursor's calls give.
+pub mod WriteCursor

@@ -1,25 +1,15 @@
 // The calls for C and Rust, on numbers and octets: a static library. Each entry reads the table from its 672 octets, makes the call, writes table and
-// answer back, and returns 0 or the refusal's number. Its contract is the call's own, lifted through the two layouts (Edge.antt of `edge`).
-use channel::ChannelIndex;
-use channel::Cid;
-use layout::TABLE_OCTETS;
+// answer back, and returns 0 or the refusal's number: the function of that name in `edge_asking`, `edge_opening`, `edge_closing` or `edge_frames`,
+// whose definition is the entry's too. It is the call's own, lifted through the two layouts (Edge.antt of `edge`).
 ghost use mathlib.Core.Path.{_≡_};
 ghost use mathlib.Core.List.{[]};
 ghost use lib.ListN.{length};
 ghost use Rattle.headers.specs.Headers.{restOf};
-ghost use Rattle.lists.specs.Choose.{choose};
-ghost use Rattle.making.specs.Made.{endMade};
-ghost use Rattle.definition.specs.Asking.{make, registerSpsm, attention, spsm, mtu, mps, peerMtu, peerMps, sendConnParamUpdateReq, sendConnParamUpdateRes};
-ghost use Rattle.definition.specs.Calls.{frame, jobs};
-ghost use Rattle.definition.specs.Closing.{incRef, decRef, disconnect, disconnectByCid, disconnected, nextDisconnect};
-ghost use Rattle.definition.specs.Ending.{servedOf, endOf};
-ghost use Rattle.definition.specs.Frames.{send, receive};
-ghost use Rattle.definition.specs.Opening.{create, opened, giveUp};
-ghost use Rattle.definition.specs.Pending.{nextPending, rejectAllPending, acceptPending, dropPending};
-ghost use Rattle.definition.specs.Signals.{signalled};
-ghost use Rattle.dispatching.specs.Framed.{frameIn};
-ghost use Rattle.rejecting.specs.Numbered.{rejectNumbered};
-ghost use Rattle.edge.specs.Edge.{edge, madeOn, onTable, alone, flag, configOf};
+ghost use Rattle.edge.specs.Edge.{edge};
+ghost use Rattle.edge_asking.specs.Asking.{makeEdge, registerSpsmEdge, spsmEdge, mtuEdge, mpsEdge, peerMtuEdge, peerMpsEdge, attentionEdge, sendConnParamUpdateReqEdge, sendConnParamUpdateResEdge};
+ghost use Rattle.edge_opening.specs.Opening.{nextPendingEdge, acceptPendingEdge, rejectPendingEdge, rejectAllPendingEdge, dropPendingEdge, createEdge, openedEdge, giveUpEdge};
+ghost use Rattle.edge_closing.specs.Closing.{incRefEdge, decRefEdge, disconnectEdge, disconnectByCidEdge, disconnectedEdge, nextDisconnectEdge};
+ghost use Rattle.edge_frames.specs.Frames.{signalEdge, dispatchEdge, sendEdge, receiveEdge};
 
 // Makes a table of n slots, depth d and packets of m octets, and zeroes its room. Table octets of another length are refused by 1.
 #[no_mangle]
@@ -31,111 +21,81 @@ pub extern "C" fn l2cap_make(
     d: u16,
     m: u16,
 ) -> u32
-    ensures { λ r. ⌜ edge r (now (table .exit)) (now (answer .exit)) (now (room .exit)) [] [] ≡ madeOn (now (table .entry)) (now (answer .entry)) (λ fits. endMade (make (choose fits n 0) d m (now (room .entry)))) ⌝ }
+    ensures { λ r. ⌜ edge r (now (table .exit)) (now (answer .exit)) (now (room .exit)) [] [] ≡ makeEdge (now (table .entry)) (now (answer .entry)) (now (room .entry)) n d m ⌝ }
 {
-    let fits = table.len() == TABLE_OCTETS;
-    let slots = edge::slots_if(fits, n);
-    let s = making::make(slots, d, m, room);
-    edge::store(table, answer, fits, s)
+    edge_asking::make(table, answer, room, n, d, m)
 }
 
 // Registers an SPSM, 1 to 255.
 #[no_mangle]
 pub extern "C" fn l2cap_register_spsm(table: &mut [u8], answer: &mut [u8], spsm: u16) -> u32
-    ensures { λ r. ⌜ edge r (now (table .exit)) (now (answer .exit)) [] [] [] ≡ onTable (now (table .entry)) (now (answer .entry)) (λ t. alone (servedOf (registerSpsm t spsm))) ⌝ }
+    ensures { λ r. ⌜ edge r (now (table .exit)) (now (answer .exit)) [] [] [] ≡ registerSpsmEdge (now (table .entry)) (now (answer .entry)) spsm ⌝ }
 {
-    let d = layout_decode::decode(table);
-    let t = d.table;
-    let s = asking::register_spsm(t, spsm);
-    edge::store(table, answer, d.ok, s)
+    edge_asking::register_spsm(table, answer, spsm)
 }
 
 // A slot's SPSM.
 #[no_mangle]
 pub extern "C" fn l2cap_spsm(table: &mut [u8], answer: &mut [u8], slot: u8) -> u32
-    ensures { λ r. ⌜ edge r (now (table .exit)) (now (answer .exit)) [] [] [] ≡ onTable (now (table .entry)) (now (answer .entry)) (λ t. alone (servedOf (spsm t slot))) ⌝ }
+    ensures { λ r. ⌜ edge r (now (table .exit)) (now (answer .exit)) [] [] [] ≡ spsmEdge (now (table .entry)) (now (answer .entry)) slot ⌝ }
 {
-    let d = layout_decode::decode(table);
-    let t = d.table;
-    let s = asking::spsm(t, ChannelIndex(slot));
-    edge::store(table, answer, d.ok, s)
+    edge_asking::spsm(table, answer, slot)
 }
 
 // A slot's MTU.
 #[no_mangle]
 pub extern "C" fn l2cap_mtu(table: &mut [u8], answer: &mut [u8], slot: u8) -> u32
-    ensures { λ r. ⌜ edge r (now (table .exit)) (now (answer .exit)) [] [] [] ≡ onTable (now (table .entry)) (now (answer .entry)) (λ t. alone (servedOf (mtu t slot))) ⌝ }
+    ensures { λ r. ⌜ edge r (now (table .exit)) (now (answer .exit)) [] [] [] ≡ mtuEdge (now (table .entry)) (now (answer .entry)) slot ⌝ }
 {
-    let d = layout_decode::decode(table);
-    let t = d.table;
-    let s = asking::mtu(t, ChannelIndex(slot));
-    edge::store(table, answer, d.ok, s)
+    edge_asking::mtu(table, answer, slot)
 }
 
 // A slot's MPS.
 #[no_mangle]
 pub extern "C" fn l2cap_mps(table: &mut [u8], answer: &mut [u8], slot: u8) -> u32
-    ensures { λ r. ⌜ edge r (now (table .exit)) (now (answer .exit)) [] [] [] ≡ onTable (now (table .entry)) (now (answer .entry)) (λ t. alone (servedOf (mps t slot))) ⌝ }
+    ensures { λ r. ⌜ edge r (now (table .exit)) (now (answer .exit)) [] [] [] ≡ mpsEdge (now (table .entry)) (now (answer .entry)) slot ⌝ }
 {
-    let d = layout_decode::decode(table);
-    let t = d.table;
-    let s = asking::mps(t, ChannelIndex(slot));
-    edge::store(table, answer, d.ok, s)
+    edge_asking::mps(table, answer, slot)
 }
 
 // The MTU of a slot's peer.
 #[no_mangle]
 pub extern "C" fn l2cap_peer_mtu(table: &mut [u8], answer: &mut [u8], slot: u8) -> u32
-    ensures { λ r. ⌜ edge r (now (table .exit)) (now (answer .exit)) [] [] [] ≡ onTable (now (table .entry)) (now (answer .entry)) (λ t. alone (servedOf (peerMtu t slot))) ⌝ }
+    ensures { λ r. ⌜ edge r (now (table .exit)) (now (answer .exit)) [] [] [] ≡ peerMtuEdge (now (table .entry)) (now (answer .entry)) slot ⌝ }
 {
-    let d = layout_decode::decode(table);
-    let t = d.table;
-    let s = asking::peer_mtu(t, ChannelIndex(slot));
-    edge::store(table, answer, d.ok, s)
+    edge_asking::peer_mtu(table, answer, slot)
 }
 
 // The MPS of a slot's peer.
 #[no_mangle]
 pub extern "C" fn l2cap_peer_mps(table: &mut [u8], answer: &mut [u8], slot: u8) -> u32
-    ensures { λ r. ⌜ edge r (now (table .exit)) (now (answer .exit)) [] [] [] ≡ onTable (now (table .entry)) (now (answer .entry)) (λ t. alone (servedOf (peerMps t slot))) ⌝ }
+    ensures { λ r. ⌜ edge r (now (table .exit)) (now (answer .exit)) [] [] [] ≡ peerMpsEdge (now (table .entry)) (now (answer .entry)) slot ⌝ }
 {
-    let d = layout_decode::decode(table);
-    let t = d.table;
-    let s = asking::peer_mps(t, ChannelIndex(slot));
-    edge::store(table, answer, d.ok, s)
+    edge_asking::peer_mps(table, answer, slot)
 }
 
 // The slots that call.
 #[no_mangle]
 pub extern "C" fn l2cap_attention(table: &mut [u8], answer: &mut [u8]) -> u32
-    ensures { λ r. ⌜ edge r (now (table .exit)) (now (answer .exit)) [] [] [] ≡ onTable (now (table .entry)) (now (answer .entry)) (λ t. alone (servedOf (attention t))) ⌝ }
+    ensures { λ r. ⌜ edge r (now (table .exit)) (now (answer .exit)) [] [] [] ≡ attentionEdge (now (table .entry)) (now (answer .entry)) ⌝ }
 {
-    let d = layout_decode::decode(table);
-    let t = d.table;
-    let s = calling::attention(t);
-    edge::store(table, answer, d.ok, s)
+    edge_asking::attention(table, answer)
 }
 
 // The lowest pending of a link; up: is the link up?
 #[no_mangle]
 pub extern "C" fn l2cap_next_pending(table: &mut [u8], answer: &mut [u8], link: u16, up: u8) -> u32
-    ensures { λ r. ⌜ edge r (now (table .exit)) (now (answer .exit)) [] [] [] ≡ onTable (now (table .entry)) (now (answer .entry)) (λ t. alone (servedOf (nextPending t link (flag up)))) ⌝ }
+    ensures { λ r. ⌜ edge r (now (table .exit)) (now (answer .exit)) [] [] [] ≡ nextPendingEdge (now (table .entry)) (now (answer .entry)) link up ⌝ }
 {
-    let d = layout_decode::decode(table);
-    let t = d.table;
-    let s = pending::next_pending(t, link, up != 0);
-    edge::store(table, answer, d.ok, s)
+    edge_opening::next_pending(table, answer, link, up)
 }
 
 // One hold more.
 #[no_mangle]
 pub extern "C" fn l2cap_inc_ref(table: &mut [u8], answer: &mut [u8], slot: u8) -> u32
-    ensures { λ r. ⌜ edge r (now (table .exit)) (now (answer .exit)) [] [] [] ≡ onTable (now (table .entry)) (now (answer .entry)) (λ t. alone (servedOf (incRef t slot))) ⌝ }
+    ensures { λ r. ⌜ edge r (now (table .exit)) (now (answer .exit)) [] [] [] ≡ incRefEdge (now (table .entry)) (now (answer .entry)) slot ⌝ }
 {
-    let d = layout_decode::decode(table);
-    let t = d.table;
-    let s = holding::inc_ref(t, ChannelIndex(slot));
-    edge::store(table, answer, d.ok, s)
+    edge_closing::inc_ref(table, answer, slot)
 }
 
 // Writes a request for connection parameters.
@@ -150,12 +110,9 @@ pub extern "C" fn l2cap_send_conn_param_update_req(
     latency: u16,
     timeout: u16,
 ) -> u32
-    ensures { λ r. ⌜ edge r (now (table .exit)) (now (answer .exit)) [] (now (signal .exit)) [] ≡ onTable (now (table .entry)) (now (answer .entry)) (λ t. endOf t [] [] (now (signal .entry)) [] (sendConnParamUpdateReq t (length (now (signal .entry))) link min max latency timeout)) ⌝ }
+    ensures { λ r. ⌜ edge r (now (table .exit)) (now (answer .exit)) [] (now (signal .exit)) [] ≡ sendConnParamUpdateReqEdge (now (table .entry)) (now (answer .entry)) (now (signal .entry)) link min max latency timeout ⌝ }
 {
-    let d = layout_decode::decode(table);
-    let t = d.table;
-    let s = senders::send_conn_param_update_req(t, signal, link, min, max, latency, timeout);
-    edge::store(table, answer, d.ok, s)
+    edge_asking::send_conn_param_update_req(table, answer, signal, link, min, max, latency, timeout)
 }
 
 // Writes the response to a request for connection parameters.
@@ -167,12 +124,9 @@ pub extern "C" fn l2cap_send_conn_param_update_res(
     link: u16,
     result: u16,
 ) -> u32
-    ensures { λ r. ⌜ edge r (now (table .exit)) (now (answer .exit)) [] (now (signal .exit)) [] ≡ onTable (now (table .entry)) (now (answer .entry)) (λ t. endOf t [] [] (now (signal .entry)) [] (sendConnParamUpdateRes t (length (now (signal .entry))) link result)) ⌝ }
+    ensures { λ r. ⌜ edge r (now (table .exit)) (now (answer .exit)) [] (now (signal .exit)) [] ≡ sendConnParamUpdateResEdge (now (table .entry)) (now (answer .entry)) (now (signal .entry)) link result ⌝ }
 {
-    let d = layout_decode::decode(table);
-    let t = d.table;
-    let s = senders::send_conn_param_update_res(t, signal, link, result);
-    edge::store(table, answer, d.ok, s)
+    edge_asking::send_conn_param_update_res(table, answer, signal, link, result)
 }
 
 // Accepts the pending of a slot.
@@ -188,13 +142,9 @@ pub extern "C" fn l2cap_accept_pending(
     value: u16,
     credits: u32,
 ) -> u32
-    ensures { λ r. ⌜ edge r (now (table .exit)) (now (answer .exit)) [] (now (signal .exit)) [] ≡ onTable (now (table .entry)) (now (answer .entry)) (λ t. endOf t [] [] (now (signal .entry)) [] (acceptPending t (length (now (signal .entry))) slot (configOf mtu mps kind value credits))) ⌝ }
+    ensures { λ r. ⌜ edge r (now (table .exit)) (now (answer .exit)) [] (now (signal .exit)) [] ≡ acceptPendingEdge (now (table .entry)) (now (answer .entry)) (now (signal .entry)) slot mtu mps kind value credits ⌝ }
 {
-    let d = layout_decode::decode(table);
-    let t = d.table;
-    let c = edge::config(mtu, mps, kind, value, credits);
-    let s = accepting::accept_pending(t, signal, ChannelIndex(slot), c);
-    edge::store(table, answer, d.ok, s)
+    edge_opening::accept_pending(table, answer, signal, slot, mtu, mps, kind, value, credits)
 }
 
 // Asks the peer for a channel.
@@ -211,13 +161,20 @@ pub extern "C" fn l2cap_create(
     value: u16,
     credits: u32,
 ) -> u32
-    ensures { λ r. ⌜ edge r (now (table .exit)) (now (answer .exit)) [] (now (signal .exit)) [] ≡ onTable (now (table .entry)) (now (answer .entry)) (λ t. endOf t [] [] (now (signal .entry)) [] (create t (length (now (signal .entry))) link spsm (configOf mtu mps kind value credits))) ⌝ }
+    ensures { λ r. ⌜ edge r (now (table .exit)) (now (answer .exit)) [] (now (signal .exit)) [] ≡ createEdge (now (table .entry)) (now (answer .entry)) (now (signal .entry)) link spsm mtu mps kind value credits ⌝ }
 {
-    let d = layout_decode::decode(table);
-    let t = d.table;
-    let c = edge::config(mtu, mps, kind, value, credits);
-    let s = creating::create(t, signal, link, spsm, c);
-    edge::store(table, answer, d.ok, s)
+    edge_opening::create(
+        table,
+        answer,
+        signal,
+        link,
+        spsm,
+        mtu,
+        mps,
+        kind,
+        value,
+        credits,
+    )
 }
 
 // Drops the pending of a slot.
@@ -228,12 +185,9 @@ pub extern "C" fn l2cap_drop_pending(
     room: &mut [u8],
     slot: u8,
 ) -> u32
-    ensures { λ r. ⌜ edge r (now (table .exit)) (now (answer .exit)) (now (room .exit)) [] [] ≡ onTable (now (table .entry)) (now (answer .entry)) (λ t. endOf t [] (now (room .entry)) [] [] (dropPending t (length (now (room .entry))) slot)) ⌝ }
+    ensures { λ r. ⌜ edge r (now (table .exit)) (now (answer .exit)) (now (room .exit)) [] [] ≡ dropPendingEdge (now (table .entry)) (now (answer .entry)) (now (room .entry)) slot ⌝ }
 {
-    let d = layout_decode::decode(table);
-    let t = d.table;
-    let s = pending::drop_pending(t, room, ChannelIndex(slot));
-    edge::store(table, answer, d.ok, s)
+    edge_opening::drop_pending(table, answer, room, slot)
 }
 
 // Is the channel of a slot open?
@@ -246,12 +200,9 @@ pub extern "C" fn l2cap_opened(
     link: u16,
     up: u8,
 ) -> u32
-    ensures { λ r. ⌜ edge r (now (table .exit)) (now (answer .exit)) (now (room .exit)) [] [] ≡ onTable (now (table .entry)) (now (answer .entry)) (λ t. endOf t [] (now (room .entry)) [] [] (opened t (length (now (room .entry))) slot link (flag up))) ⌝ }
+    ensures { λ r. ⌜ edge r (now (table .exit)) (now (answer .exit)) (now (room .exit)) [] [] ≡ openedEdge (now (table .entry)) (now (answer .entry)) (now (room .entry)) slot link up ⌝ }
 {
-    let d = layout_decode::decode(table);
-    let t = d.table;
-    let s = opening::opened(t, room, ChannelIndex(slot), link, up != 0);
-    edge::store(table, answer, d.ok, s)
+    edge_opening::opened(table, answer, room, slot, link, up)
 }
 
 // Gives up an attempt.
@@ -262,12 +213,9 @@ pub extern "C" fn l2cap_give_up(
     room: &mut [u8],
     slot: u8,
 ) -> u32
-    ensures { λ r. ⌜ edge r (now (table .exit)) (now (answer .exit)) (now (room .exit)) [] [] ≡ onTable (now (table .entry)) (now (answer .entry)) (λ t. endOf t [] (now (room .entry)) [] [] (giveUp t (length (now (room .entry))) slot)) ⌝ }
+    ensures { λ r. ⌜ edge r (now (table .exit)) (now (answer .exit)) (now (room .exit)) [] [] ≡ giveUpEdge (now (table .entry)) (now (answer .entry)) (now (room .entry)) slot ⌝ }
 {
-    let d = layout_decode::decode(table);
-    let t = d.table;
-    let s = opening::give_up(t, room, ChannelIndex(slot));
-    edge::store(table, answer, d.ok, s)
+    edge_opening::give_up(table, answer, room, slot)
 }
 
 // One hold less.
@@ -278,12 +226,9 @@ pub extern "C" fn l2cap_dec_ref(
     room: &mut [u8],
     slot: u8,
 ) -> u32
-    ensures { λ r. ⌜ edge r (now (table .exit)) (now (answer .exit)) (now (room .exit)) [] [] ≡ onTable (now (table .entry)) (now (answer .entry)) (λ t. endOf t [] (now (room .entry)) [] [] (decRef t (length (now (room .entry))) slot)) ⌝ }
+    ensures { λ r. ⌜ edge r (now (table .exit)) (now (answer .exit)) (now (room .exit)) [] [] ≡ decRefEdge (now (table .entry)) (now (answer .entry)) (now (room .entry)) slot ⌝ }
 {
-    let d = layout_decode::decode(table);
-    let t = d.table;
-    let s = holding::dec_ref(t, room, ChannelIndex(slot));
-    edge::store(table, answer, d.ok, s)
+    edge_closing::dec_ref(table, answer, room, slot)
 }
 
 // Disconnects a slot.
@@ -294,12 +239,9 @@ pub extern "C" fn l2cap_disconnect(
     room: &mut [u8],
     slot: u8,
 ) -> u32
-    ensures { λ r. ⌜ edge r (now (table .exit)) (now (answer .exit)) (now (room .exit)) [] [] ≡ onTable (now (table .entry)) (now (answer .entry)) (λ t. endOf t [] (now (room .entry)) [] [] (disconnect t (length (now (room .entry))) slot)) ⌝ }
+    ensures { λ r. ⌜ edge r (now (table .exit)) (now (answer .exit)) (now (room .exit)) [] [] ≡ disconnectEdge (now (table .entry)) (now (answer .entry)) (now (room .entry)) slot ⌝ }
 {
-    let d = layout_decode::decode(table);
-    let t = d.table;
-    let s = closing::disconnect(t, room, ChannelIndex(slot));
-    edge::store(table, answer, d.ok, s)
+    edge_closing::disconnect(table, answer, room, slot)
 }
 
 // Disconnects the slot of a CID.
@@ -310,12 +252,9 @@ pub extern "C" fn l2cap_disconnect_by_cid(
     room: &mut [u8],
     cid: u16,
 ) -> u32
-    ensures { λ r. ⌜ edge r (now (table .exit)) (now (answer .exit)) (now (room .exit)) [] [] ≡ onTable (now (table .entry)) (now (answer .entry)) (λ t. endOf t [] (now (room .entry)) [] [] (disconnectByCid t (length (now (room .entry))) cid)) ⌝ }
+    ensures { λ r. ⌜ edge r (now (table .exit)) (now (answer .exit)) (now (room .exit)) [] [] ≡ disconnectByCidEdge (now (table .entry)) (now (answer .entry)) (now (room .entry)) cid ⌝ }
 {
-    let d = layout_decode::decode(table);
-    let t = d.table;
-    let s = closing::disconnect_by_cid(t, room, Cid(cid));
-    edge::store(table, answer, d.ok, s)
+    edge_closing::disconnect_by_cid(table, answer, room, cid)
 }
 
 // A link is down.
@@ -326,12 +265,9 @@ pub extern "C" fn l2cap_disconnected(
     room: &mut [u8],
     link: u16,
 ) -> u32
-    ensures { λ r. ⌜ edge r (now (table .exit)) (now (answer .exit)) (now (room .exit)) [] [] ≡ onTable (now (table .entry)) (now (answer .entry)) (λ t. endOf t [] (now (room .entry)) [] [] (disconnected t (length (now (room .entry))) link)) ⌝ }
+    ensures { λ r. ⌜ edge r (now (table .exit)) (now (answer .exit)) (now (room .exit)) [] [] ≡ disconnectedEdge (now (table .entry)) (now (answer .entry)) (now (room .entry)) link ⌝ }
 {
-    let d = layout_decode::decode(table);
-    let t = d.table;
-    let s = closing::disconnected(t, room, link);
-    edge::store(table, answer, d.ok, s)
+    edge_closing::disconnected(table, answer, room, link)
 }
 
 // Rejects the lowest pending of a link that nobody holds.
@@ -343,12 +279,9 @@ pub extern "C" fn l2cap_reject_all_pending(
     signal: &mut [u8],
     link: u16,
 ) -> u32
-    ensures { λ r. ⌜ edge r (now (table .exit)) (now (answer .exit)) (now (room .exit)) (now (signal .exit)) [] ≡ onTable (now (table .entry)) (now (answer .entry)) (λ t. endOf t [] (now (room .entry)) (now (signal .entry)) [] (rejectAllPending t (length (now (room .entry))) (length (now (signal .entry))) link)) ⌝ }
+    ensures { λ r. ⌜ edge r (now (table .exit)) (now (answer .exit)) (now (room .exit)) (now (signal .exit)) [] ≡ rejectAllPendingEdge (now (table .entry)) (now (answer .entry)) (now (room .entry)) (now (signal .entry)) link ⌝ }
 {
-    let d = layout_decode::decode(table);
-    let t = d.table;
-    let s = pending::reject_all_pending(t, room, signal, link);
-    edge::store(table, answer, d.ok, s)
+    edge_opening::reject_all_pending(table, answer, room, signal, link)
 }
 
 // Rejects the pending of a slot with a result code; a number that is none is refusal 15.
@@ -361,12 +294,9 @@ pub extern "C" fn l2cap_reject_pending(
     slot: u8,
     result: u16,
 ) -> u32
-    ensures { λ r. ⌜ edge r (now (table .exit)) (now (answer .exit)) (now (room .exit)) (now (signal .exit)) [] ≡ onTable (now (table .entry)) (now (answer .entry)) (λ t. endOf t [] (now (room .entry)) (now (signal .entry)) [] (rejectNumbered t (length (now (room .entry))) (length (now (signal .entry))) slot result)) ⌝ }
+    ensures { λ r. ⌜ edge r (now (table .exit)) (now (answer .exit)) (now (room .exit)) (now (signal .exit)) [] ≡ rejectPendingEdge (now (table .entry)) (now (answer .entry)) (now (room .entry)) (now (signal .entry)) slot result ⌝ }
 {
-    let d = layout_decode::decode(table);
-    let t = d.table;
-    let s = rejecting::reject_pending(t, room, signal, ChannelIndex(slot), result);
-    edge::store(table, answer, d.ok, s)
+    edge_opening::reject_pending(table, answer, room, signal, slot, result)
 }
 
 // The next disconnect that is due.
@@ -377,12 +307,9 @@ pub extern "C" fn l2cap_next_disconnect(
     room: &mut [u8],
     signal: &mut [u8],
 ) -> u32
-    ensures { λ r. ⌜ edge r (now (table .exit)) (now (answer .exit)) (now (room .exit)) (now (signal .exit)) [] ≡ onTable (now (table .entry)) (now (answer .entry)) (λ t. endOf t [] (now (room .entry)) (now (signal .entry)) [] (nextDisconnect t (length (now (room .entry))) (length (now (signal .entry))))) ⌝ }
+    ensures { λ r. ⌜ edge r (now (table .exit)) (now (answer .exit)) (now (room .exit)) (now (signal .exit)) [] ≡ nextDisconnectEdge (now (table .entry)) (now (answer .entry)) (now (room .entry)) (now (signal .entry)) ⌝ }
 {
-    let d = layout_decode::decode(table);
-    let t = d.table;
-    let s = announcing::next_disconnect(t, room, signal);
-    edge::store(table, answer, d.ok, s)
+    edge_closing::next_disconnect(table, answer, room, signal)
 }
 
 // The first signal of a PDU.
@@ -397,12 +324,9 @@ pub extern "C" fn l2cap_signal(
     central: u8,
     pdu: &[u8],
 ) -> u32
-    ensures { λ r. ⌜ edge r (now (table .exit)) (now (answer .exit)) (now (room .exit)) (now (signal .exit)) [] ≡ onTable (now (table .entry)) (now (answer .entry)) (λ t. endOf t [] (now (room .entry)) (now (signal .entry)) [] (signalled t (length (now (room .entry))) (length (now (signal .entry))) link (flag listening) (flag central) (now (pdu .entry)))) ⌝ }
+    ensures { λ r. ⌜ edge r (now (table .exit)) (now (answer .exit)) (now (room .exit)) (now (signal .exit)) [] ≡ signalEdge (now (table .entry)) (now (answer .entry)) (now (room .entry)) (now (signal .entry)) link listening central (now (pdu .entry)) ⌝ }
 {
-    let d = layout_decode::decode(table);
-    let t = d.table;
-    let s = signals::signal(t, room, signal, link, listening != 0, central != 0, pdu);
-    edge::store(table, answer, d.ok, s)
+    edge_frames::signal(table, answer, room, signal, link, listening, central, pdu)
 }
 
 // A frame that came in.
@@ -415,12 +339,9 @@ pub extern "C" fn l2cap_dispatch(
     cid: u16,
     payload: &[u8],
 ) -> u32
-    ensures { λ r. ⌜ edge r (now (table .exit)) (now (answer .exit)) (now (room .exit)) [] [] ≡ onTable (now (table .entry)) (now (answer .entry)) (λ t. endOf t (jobs t (frame link cid (now (payload .entry)))) (now (room .entry)) [] [] (frameIn t (length (now (room .entry))) link cid (now (payload .entry)))) ⌝ }
+    ensures { λ r. ⌜ edge r (now (table .exit)) (now (answer .exit)) (now (room .exit)) [] [] ≡ dispatchEdge (now (table .entry)) (now (answer .entry)) (now (room .entry)) link cid (now (payload .entry)) ⌝ }
 {
-    let d = layout_decode::decode(table);
-    let t = d.table;
-    let s = dispatching::dispatch(t, room, link, Cid(cid), payload);
-    edge::store(table, answer, d.ok, s)
+    edge_frames::dispatch(table, answer, room, link, cid, payload)
 }
 
 // Cuts a job into frames.
@@ -432,12 +353,9 @@ pub extern "C" fn l2cap_send(
     slot: u8,
     sdu: &[u8],
 ) -> u32
-    ensures { λ r. ⌜ edge r (now (table .exit)) (now (answer .exit)) [] (now (out .exit)) [] ≡ onTable (now (table .entry)) (now (answer .entry)) (λ t. endOf t (now (sdu .entry)) [] (now (out .entry)) [] (send t slot (length (now (sdu .entry))) (length (now (out .entry))))) ⌝ }
+    ensures { λ r. ⌜ edge r (now (table .exit)) (now (answer .exit)) [] (now (out .exit)) [] ≡ sendEdge (now (table .entry)) (now (answer .entry)) (now (out .entry)) slot (now (sdu .entry)) ⌝ }
 {
-    let d = layout_decode::decode(table);
-    let t = d.table;
-    let s = sending::send(t, ChannelIndex(slot), sdu, out);
-    edge::store(table, answer, d.ok, s)
+    edge_frames::send(table, answer, out, slot, sdu)
 }
 
 // Takes the oldest job that waits in a slot.
@@ -450,12 +368,9 @@ pub extern "C" fn l2cap_receive(
     job: &mut [u8],
     slot: u8,
 ) -> u32
-    ensures { λ r. ⌜ edge r (now (table .exit)) (now (answer .exit)) (now (room .exit)) (now (signal .exit)) (now (job .exit)) ≡ onTable (now (table .entry)) (now (answer .entry)) (λ t. endOf t [] (now (room .entry)) (now (signal .entry)) (now (job .entry)) (receive t (length (now (room .entry))) (length (now (signal .entry))) slot (length (now (job .entry))))) ⌝ }
+    ensures { λ r. ⌜ edge r (now (table .exit)) (now (answer .exit)) (now (room .exit)) (now (signal .exit)) (now (job .exit)) ≡ receiveEdge (now (table .entry)) (now (answer .entry)) (now (room .entry)) (now (signal .entry)) (now (job .entry)) slot ⌝ }
 {
-    let d = layout_decode::decode(table);
-    let t = d.table;
-    let s = receiving::receive(t, room, signal, ChannelIndex(slot), job);
-    edge::store(table, answer, d.ok, s)
+    edge_frames::receive(table, answer, room, signal, job, slot)
 }
 
 // How many octets of a PDU stand behind its first signal: what `l2cap_signal` is called with next. No slice crosses the edge.

@@ -1,0 +1,2 @@
+-- Making, the questions and the two senders, on octets.
+pub mod Asking

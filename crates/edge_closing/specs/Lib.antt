@@ -1,0 +1,2 @@
+-- Holding and closing, on octets.
+pub mod Closing

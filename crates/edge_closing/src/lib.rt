@@ -1,0 +1,73 @@
+// The calls that hold a channel and that end it, each on octets: the table read, the call, the table and the answer written back. Each is defined
+// in specs/Closing.antt, by the call's own definition lifted through the two layouts. The exported names are in `entries`.
+use channel::ChannelIndex;
+use channel::Cid;
+ghost use mathlib.Core.Path.{_≡_};
+ghost use mathlib.Core.List.{[]};
+ghost use Rattle.edge.specs.Edge.{edge};
+ghost use Rattle.edge_closing.specs.Closing.{incRefEdge, decRefEdge, disconnectEdge, disconnectByCidEdge, disconnectedEdge, nextDisconnectEdge};
+
+// One hold more.
+pub fn inc_ref(table: &mut [u8], answer: &mut [u8], slot: u8) -> u32
+    ensures { λ r. ⌜ edge r (now (table .exit)) (now (answer .exit)) [] [] [] ≡ incRefEdge (now (table .entry)) (now (answer .entry)) slot ⌝ }
+{
+    let d = layout_decode::decode(table);
+    let t = d.table;
+    let s = holding::inc_ref(t, ChannelIndex(slot));
+    edge::store(table, answer, d.ok, s)
+}
+
+// One hold less.
+pub fn dec_ref(table: &mut [u8], answer: &mut [u8], room: &mut [u8], slot: u8) -> u32
+    ensures { λ r. ⌜ edge r (now (table .exit)) (now (answer .exit)) (now (room .exit)) [] [] ≡ decRefEdge (now (table .entry)) (now (answer .entry)) (now (room .entry)) slot ⌝ }
+{
+    let d = layout_decode::decode(table);
+    let t = d.table;
+    let s = holding::dec_ref(t, room, ChannelIndex(slot));
+    edge::store(table, answer, d.ok, s)
+}
+
+// Disconnects a slot.
+pub fn disconnect(table: &mut [u8], answer: &mut [u8], room: &mut [u8], slot: u8) -> u32
+    ensures { λ r. ⌜ edge r (now (table .exit)) (now (answer .exit)) (now (room .exit)) [] [] ≡ disconnectEdge (now (table .entry)) (now (answer .entry)) (now (room .entry)) slot ⌝ }
+{
+    let d = layout_decode::decode(table);
+    let t = d.table;
+    let s = closing::disconnect(t, room, ChannelIndex(slot));
+    edge::store(table, answer, d.ok, s)
+}
+
+// Disconnects the slot of a CID.
+pub fn disconnect_by_cid(table: &mut [u8], answer: &mut [u8], room: &mut [u8], cid: u16) -> u32
+    ensures { λ r. ⌜ edge r (now (table .exit)) (now (answer .exit)) (now (room .exit)) [] [] ≡ disconnectByCidEdge (now (table .entry)) (now (answer .entry)) (now (room .entry)) cid ⌝ }
+{
+    let d = layout_decode::decode(table);
+    let t = d.table;
+    let s = closing::disconnect_by_cid(t, room, Cid(cid));
+    edge::store(table, answer, d.ok, s)
+}
+
+// A link is down.
+pub fn disconnected(table: &mut [u8], answer: &mut [u8], room: &mut [u8], link: u16) -> u32
+    ensures { λ r. ⌜ edge r (now (table .exit)) (now (answer .exit)) (now (room .exit)) [] [] ≡ disconnectedEdge (now (table .entry)) (now (answer .entry)) (now (room .entry)) link ⌝ }
+{
+    let d = layout_decode::decode(table);
+    let t = d.table;
+    let s = closing::disconnected(t, room, link);
+    edge::store(table, answer, d.ok, s)
+}
+
+// The next disconnect that is due.
+pub fn next_disconnect(
+    table: &mut [u8],
+    answer: &mut [u8],
+    room: &mut [u8],
+    signal: &mut [u8],
+) -> u32
+    ensures { λ r. ⌜ edge r (now (table .exit)) (now (answer .exit)) (now (room .exit)) (now (signal .exit)) [] ≡ nextDisconnectEdge (now (table .entry)) (now (answer .entry)) (now (room .entry)) (now (signal .entry)) ⌝ }
+{
+    let d = layout_decode::decode(table);
+    let t = d.table;
+    let s = announcing::next_disconnect(t, room, signal);
+    edge::store(table, answer, d.ok, s)
+}

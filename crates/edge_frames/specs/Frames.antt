@@ -1,0 +1,26 @@
+-- What the calls on signals, frames and jobs leave on octets. Each is the call's own end (Ending.antt of `definition`), lifted through the two layouts.
+use mathlib.Core.List.{List, []}
+use Prim.Native.Nat.{ℕ}
+use lib.ListN.{length}
+use Rattle.definition.specs.Calls.{frame, jobs}
+use Rattle.definition.specs.Ending.{endOf}
+use Rattle.definition.specs.Frames.{send, receive}
+use Rattle.definition.specs.Signals.{signalled}
+use Rattle.dispatching.specs.Framed.{frameIn}
+use Rattle.edge.specs.Edge.{Edge, onTable, flag}
+
+-- The first signal of a PDU.
+abbrev pub signalEdge : (table answer room signal : List ℕ) (link listening central : ℕ) (pdu : List ℕ) → Edge
+signalEdge table answer room signal link listening central pdu = onTable table answer (λ t. endOf t [] room signal [] (signalled t (length room) (length signal) link (flag listening) (flag central) pdu))
+
+-- A frame that came in.
+abbrev pub dispatchEdge : (table answer room : List ℕ) (link cid : ℕ) (payload : List ℕ) → Edge
+dispatchEdge table answer room link cid payload = onTable table answer (λ t. endOf t (jobs t (frame link cid payload)) room [] [] (frameIn t (length room) link cid payload))
+
+-- Cuts a job into frames.
+abbrev pub sendEdge : (table answer out : List ℕ) (slot : ℕ) (sdu : List ℕ) → Edge
+sendEdge table answer out slot sdu = onTable table answer (λ t. endOf t sdu [] out [] (send t slot (length sdu) (length out)))
+
+-- Takes the oldest job that waits in a slot.
+abbrev pub receiveEdge : (table answer room signal job : List ℕ) (slot : ℕ) → Edge
+receiveEdge table answer room signal job slot = onTable table answer (λ t. endOf t [] room signal job (receive t (length room) (length signal) slot (length job)))

@@ -1,0 +1,2 @@
+-- Signals, frames and jobs, on octets.
+pub mod Frames

@@ -1,0 +1,2 @@
+-- Opening, on octets.
+pub mod Opening

@@ -1,0 +1,61 @@
+-- `printed::queried` meets its contract: where the first query answers a number, the four others stand behind it.
+use Rattle.lists.specs.Choose.{choose}
+use Rattle.printed.specs.Printed.{queriesText}
+use borrow.Author.Needs.{needs}
+use Rattle.printed.proofs.queried.Statement.{statement}
+use Rattle.printed.proofs.queried.Tie as tie
+
+is-number-requires : tie.Need-is-number-requires
+is-number-requires c κs = search needs
+
+number-requires : tie.Need-number-requires
+number-requires c κs = search needs
+
+number-requires-2 : tie.Need-number-requires-2
+number-requires-2 c κs = search needs
+
+number-requires-3 : tie.Need-number-requires-3
+number-requires-3 c κs = search needs
+
+number-requires-4 : tie.Need-number-requires-4
+number-requires-4 c κs = search needs
+
+slice-aggregate-told-more : tie.Need-slice-aggregate-told-more
+slice-aggregate-told-more c = search needs
+
+told-more-requires : tie.Need-told-more-requires
+told-more-requires c κs = search needs
+
+told-requires : tie.Need-told-requires
+told-requires c κs = search needs
+
+same-length : tie.Need-same-length
+same-length c = search needs
+
+returns : tie.Need-returns
+unfolding queriesText choose
+returns c = rw (← c .before .before .before .before .before .before .before .before .before .before .is-number .ensures, c .before .before .before .before .before .before .before .before .before .if1 .taken, ← c .before .before .before .before .before .before .before .number .ensures, ← c .before .before .before .before .before .before .number2 .ensures, ← c .before .before .before .before .before .number3 .ensures, ← c .before .before .before .before .number4 .ensures) (c .before .before .told-more .ensures)
+
+same-length-2 : tie.Need-same-length-2
+same-length-2 c = search needs
+
+returns-2 : tie.Need-returns-2
+unfolding queriesText choose
+returns-2 c = rw (← c .before .before .before .before .before .is-number .ensures, c .before .before .before .before .if1 .left) (c .before .before .told .ensures)
+
+pub queried-spec : {M : Type 1} → statement M
+queried-spec =
+    tie.close
+    (tie.spec
+    is-number-requires
+    number-requires
+    number-requires-2
+    number-requires-3
+    number-requires-4
+    slice-aggregate-told-more
+    told-more-requires
+    told-requires
+    same-length
+    returns
+    same-length-2
+    returns-2)

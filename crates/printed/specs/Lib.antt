@@ -1,0 +1,2 @@
+-- The rows of a call.
+pub mod Printed

@@ -1,4 +1,4 @@
-// Eight octets copied at once: a crate of its own below `octets`, whose edits would each prove it again.
+// Eight octets copied at once: a crate of its own, so that an edit of `copying` doesn't prove it again.
 ghost use mathlib.Core.Path.{_≡_};
 ghost use Prim.Native.Nat.{_+_, _≤_};
 ghost use lib.ListN.{length, take, drop};

@@ -86,7 +86,7 @@ fn reject(t: Table, room: &mut [u8], signal: &mut [u8], slot: u16, result: u16) 
 // The calls of a slot or a CID alone.
 fn of_slot(t: Table, c: Command, room: &mut [u8]) -> Served {
     match c {
-        Command::DropPending(slot) => pending::drop_pending(t, room, slot_of(slot)),
+        Command::DropPending(slot) => dropping::drop_pending(t, room, slot_of(slot)),
         Command::GiveUp(slot) => opening::give_up(t, room, slot_of(slot)),
         Command::IncRef(slot) => holding::inc_ref(t, slot_of(slot)),
         Command::DecRef(slot) => holding::dec_ref(t, room, slot_of(slot)),
@@ -101,7 +101,7 @@ fn signalling(t: Table, c: Command, room: &mut [u8], signal: &mut [u8]) -> Serve
     match c {
         Command::RegisterSpsm(spsm) => asking::register_spsm(t, spsm),
         Command::NextPending { link, up } => pending::next_pending(t, link, up),
-        Command::RejectAllPending(link) => pending::reject_all_pending(t, room, signal, link),
+        Command::RejectAllPending(link) => clearing::reject_all_pending(t, room, signal, link),
         Command::AcceptPending { slot, config } => {
             accepting::accept_pending(t, signal, slot_of(slot), config)
         }

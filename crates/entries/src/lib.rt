@@ -232,7 +232,7 @@ pub extern "C" fn l2cap_drop_pending(
 {
     let d = layout_decode::decode(table);
     let t = d.table;
-    let s = pending::drop_pending(t, room, ChannelIndex(slot));
+    let s = dropping::drop_pending(t, room, ChannelIndex(slot));
     edge::store(table, answer, d.ok, s)
 }
 
@@ -347,7 +347,7 @@ pub extern "C" fn l2cap_reject_all_pending(
 {
     let d = layout_decode::decode(table);
     let t = d.table;
-    let s = pending::reject_all_pending(t, room, signal, link);
+    let s = clearing::reject_all_pending(t, room, signal, link);
     edge::store(table, answer, d.ok, s)
 }
 

@@ -1,4 +1,4 @@
--- `pending::reject_all_pending` meets its contract: behind the gate code and definition make the same tests in the same order.
+-- `clearing::reject_all_pending` meets its contract: behind the gate code and definition make the same tests in the same order.
 use mathlib.Core.Path.{sym, _∙_}
 use mathlib.Core.List.{[]}
 use native.Mathlib.Omega.{arith}
@@ -10,8 +10,8 @@ use Rattle.lists.specs.Choose.{choose}
 use Rattle.definition.specs.Mem.{sizes}
 use Rattle.definition.specs.Pending.{rejectAllPending}
 use borrow.Author.Needs.{needs}
-use Rattle.pending.proofs.reject_all_pending.Statement.{statement}
-use Rattle.pending.proofs.reject_all_pending.Tie as tie
+use Rattle.clearing.proofs.reject_all_pending.Statement.{statement}
+use Rattle.clearing.proofs.reject_all_pending.Tie as tie
 
 gate-requires : tie.Need-gate-requires
 gate-requires c κs = search needs

@@ -69,7 +69,7 @@ pub fn make(n: u16, d: u16, m: u16, room: &mut [u8], row: &mut [u8]) -> Table {
 fn reject(t: Table, room: &mut [u8], signal: &mut [u8], slot: u16, result: u16) -> Served {
     let index = slot_of(slot);
     match codes::result_of(result) {
-        ResultRead::Known(code) => accepting::reject_pending(t, room, signal, index, code),
+        ResultRead::Known(code) => refusing::reject_pending(t, room, signal, index, code),
         ResultRead::Unknown => match gate::gate(
             t,
             Given::Is(room.len()),

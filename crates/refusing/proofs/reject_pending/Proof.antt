@@ -1,4 +1,4 @@
--- `accepting::reject_pending` meets its contract: behind the gate code and definition make the same tests in the same order.
+-- `refusing::reject_pending` meets its contract: behind the gate code and definition make the same tests in the same order.
 use mathlib.Core.Path.{sym, _∙_}
 use mathlib.Core.List.{[]}
 use native.Mathlib.Omega.{arith}
@@ -10,8 +10,8 @@ use Rattle.lists.specs.Choose.{choose}
 use Rattle.definition.specs.Mem.{sizes}
 use Rattle.definition.specs.Pending.{rejectPending}
 use borrow.Author.Needs.{needs}
-use Rattle.accepting.proofs.reject_pending.Statement.{statement}
-use Rattle.accepting.proofs.reject_pending.Tie as tie
+use Rattle.refusing.proofs.reject_pending.Statement.{statement}
+use Rattle.refusing.proofs.reject_pending.Tie as tie
 
 number-requires : tie.Need-number-requires
 number-requires c κs = search needs

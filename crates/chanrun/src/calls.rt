@@ -87,7 +87,7 @@ fn reject(t: Table, room: &mut [u8], signal: &mut [u8], slot: u16, result: u16) 
 fn of_slot(t: Table, c: Command, room: &mut [u8]) -> Served {
     match c {
         Command::DropPending(slot) => dropping::drop_pending(t, room, slot_of(slot)),
-        Command::GiveUp(slot) => opening::give_up(t, room, slot_of(slot)),
+        Command::GiveUp(slot) => giving_up::give_up(t, room, slot_of(slot)),
         Command::IncRef(slot) => holding::inc_ref(t, slot_of(slot)),
         Command::DecRef(slot) => holding::dec_ref(t, room, slot_of(slot)),
         Command::Disconnect(slot) => closing::disconnect(t, room, slot_of(slot)),

@@ -266,7 +266,7 @@ pub extern "C" fn l2cap_give_up(
 {
     let d = layout_decode::decode(table);
     let t = d.table;
-    let s = opening::give_up(t, room, ChannelIndex(slot));
+    let s = giving_up::give_up(t, room, ChannelIndex(slot));
     edge::store(table, answer, d.ok, s)
 }
 

@@ -1,4 +1,4 @@
--- `opening::give_up` meets its contract: behind the gate code and definition make the same tests in the same order.
+-- `giving_up::give_up` meets its contract: behind the gate code and definition make the same tests in the same order.
 use mathlib.Core.Path.{sym, _∙_}
 use mathlib.Core.List.{[]}
 use native.Mathlib.Omega.{arith}
@@ -9,8 +9,8 @@ use Rattle.lists.specs.Choose.{choose}
 use Rattle.definition.specs.Mem.{sizes}
 use Rattle.definition.specs.Opening.{giveUp}
 use borrow.Author.Needs.{needs}
-use Rattle.opening.proofs.give_up.Statement.{statement}
-use Rattle.opening.proofs.give_up.Tie as tie
+use Rattle.giving_up.proofs.give_up.Statement.{statement}
+use Rattle.giving_up.proofs.give_up.Tie as tie
 
 number-requires : tie.Need-number-requires
 number-requires c κs = search needs

@@ -99,7 +99,7 @@ fn of_slot(t: Table, c: Command, room: &mut [u8]) -> Served {
 // The other calls that are lent a signal buffer, or nothing.
 fn signalling(t: Table, c: Command, room: &mut [u8], signal: &mut [u8]) -> Served {
     match c {
-        Command::RegisterSpsm(spsm) => asking::register_spsm(t, spsm),
+        Command::RegisterSpsm(spsm) => registering::register_spsm(t, spsm),
         Command::NextPending { link, up } => pending::next_pending(t, link, up),
         Command::RejectAllPending(link) => clearing::reject_all_pending(t, room, signal, link),
         Command::AcceptPending { slot, config } => {

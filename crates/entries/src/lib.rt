@@ -46,7 +46,7 @@ pub extern "C" fn l2cap_register_spsm(table: &mut [u8], answer: &mut [u8], spsm:
 {
     let d = layout_decode::decode(table);
     let t = d.table;
-    let s = asking::register_spsm(t, spsm);
+    let s = registering::register_spsm(t, spsm);
     edge::store(table, answer, d.ok, s)
 }
 

@@ -1,4 +1,4 @@
--- `asking::register_spsm` meets its contract: behind the gate code and definition make the same tests in the same order.
+-- `registering::register_spsm` meets its contract: behind the gate code and definition make the same tests in the same order.
 use Rattle.lists.specs.Choose.{choose}
 use Rattle.definition.specs.Mem.{sizes}
 use Rattle.definition.specs.Asking.{registerSpsm}
@@ -7,8 +7,8 @@ use borrow.Author.Needs.{needs}
 use borrow.Author.Tests.{leb-true, not-false}
 use Rattle.channel.specs.Limits.{spsmMost}
 use Rattle.gate.specs.Sizes.{both}
-use Rattle.asking.proofs.register_spsm.Statement.{statement}
-use Rattle.asking.proofs.register_spsm.Tie as tie
+use Rattle.registering.proofs.register_spsm.Statement.{statement}
+use Rattle.registering.proofs.register_spsm.Tie as tie
 
 gate-requires : tie.Need-gate-requires
 gate-requires c κs = search needs

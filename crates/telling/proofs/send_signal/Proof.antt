@@ -1,4 +1,4 @@
--- `asking::send_signal` meets its contract: behind the gate code and definition make the same tests in the same order.
+-- `telling::send_signal` meets its contract: behind the gate code and definition make the same tests in the same order.
 use mathlib.Core.Path.{sym, _∙_}
 use mathlib.Core.List.{[]}
 use native.Mathlib.Omega.{arith}
@@ -9,8 +9,8 @@ use Rattle.lists.specs.Choose.{choose}
 use Rattle.definition.specs.Mem.{sizes}
 use Rattle.definition.specs.Asking.{sendSignal}
 use borrow.Author.Needs.{needs}
-use Rattle.asking.proofs.send_signal.Statement.{statement}
-use Rattle.asking.proofs.send_signal.Tie as tie
+use Rattle.telling.proofs.send_signal.Statement.{statement}
+use Rattle.telling.proofs.send_signal.Tie as tie
 
 gate-requires : tie.Need-gate-requires
 gate-requires c κs = search needs

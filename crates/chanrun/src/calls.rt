@@ -89,7 +89,7 @@ fn of_slot(t: Table, c: Command, room: &mut [u8]) -> Served {
         Command::DropPending(slot) => dropping::drop_pending(t, room, slot_of(slot)),
         Command::GiveUp(slot) => giving_up::give_up(t, room, slot_of(slot)),
         Command::IncRef(slot) => holding::inc_ref(t, slot_of(slot)),
-        Command::DecRef(slot) => holding::dec_ref(t, room, slot_of(slot)),
+        Command::DecRef(slot) => releasing::dec_ref(t, room, slot_of(slot)),
         Command::Disconnect(slot) => closing::disconnect(t, room, slot_of(slot)),
         Command::DisconnectByCid(cid) => closing::disconnect_by_cid(t, room, Cid(cid)),
         _ => slots::done(t),
@@ -107,7 +107,7 @@ fn signalling(t: Table, c: Command, room: &mut [u8], signal: &mut [u8]) -> Serve
         }
         Command::RejectPending { slot, result } => reject(t, room, signal, slot, result),
         Command::Create { link, spsm, config } => creating::create(t, signal, link, spsm, config),
-        Command::Disconnected(link) => closing::disconnected(t, room, link),
+        Command::Disconnected(link) => link_down::disconnected(t, room, link),
         Command::NextDisconnect => announcing::next_disconnect(t, room, signal),
         Command::Attention => calling::attention(t),
         Command::SendConnParamUpdateReq {

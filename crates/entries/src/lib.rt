@@ -282,7 +282,7 @@ pub extern "C" fn l2cap_dec_ref(
 {
     let d = layout_decode::decode(table);
     let t = d.table;
-    let s = holding::dec_ref(t, room, ChannelIndex(slot));
+    let s = releasing::dec_ref(t, room, ChannelIndex(slot));
     edge::store(table, answer, d.ok, s)
 }
 
@@ -330,7 +330,7 @@ pub extern "C" fn l2cap_disconnected(
 {
     let d = layout_decode::decode(table);
     let t = d.table;
-    let s = closing::disconnected(t, room, link);
+    let s = link_down::disconnected(t, room, link);
     edge::store(table, answer, d.ok, s)
 }
 

@@ -1,4 +1,4 @@
--- `closing::disconnecting` meets its contract: behind the gate code and definition make the same tests in the same order.
+-- `leaving::disconnecting` meets its contract: behind the gate code and definition make the same tests in the same order.
 use mathlib.Core.Path.{sym, _∙_}
 use Rattle.definition.specs.Ending.{end-still}
 use Rattle.gate.specs.Passed.{passed}
@@ -7,8 +7,8 @@ use Rattle.lists.specs.Choose.{choose}
 use Rattle.definition.specs.Mem.{sizes}
 use Rattle.definition.specs.Closing.{disconnecting}
 use borrow.Author.Needs.{needs}
-use Rattle.closing.proofs.disconnecting.Statement.{statement}
-use Rattle.closing.proofs.disconnecting.Tie as tie
+use Rattle.leaving.proofs.disconnecting.Statement.{statement}
+use Rattle.leaving.proofs.disconnecting.Tie as tie
 
 slot-at-requires : tie.Need-slot-at-requires
 slot-at-requires c κs = search needs

@@ -1,4 +1,4 @@
--- `closing::disconnected` meets its contract: behind the gate code and definition make the same tests in the same order.
+-- `link_down::disconnected` meets its contract: behind the gate code and definition make the same tests in the same order.
 use mathlib.Core.Path.{sym, _∙_}
 use Rattle.definition.specs.Ending.{end-still}
 use Rattle.gate.specs.Passed.{passed}
@@ -7,8 +7,8 @@ use Rattle.lists.specs.Choose.{choose}
 use Rattle.definition.specs.Mem.{sizes}
 use Rattle.definition.specs.Closing.{disconnected}
 use borrow.Author.Needs.{needs}
-use Rattle.closing.proofs.disconnected.Statement.{statement}
-use Rattle.closing.proofs.disconnected.Tie as tie
+use Rattle.link_down.proofs.disconnected.Statement.{statement}
+use Rattle.link_down.proofs.disconnected.Tie as tie
 
 gate-requires : tie.Need-gate-requires
 gate-requires c κs = search needs

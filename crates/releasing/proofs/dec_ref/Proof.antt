@@ -1,4 +1,4 @@
--- `holding::dec_ref` meets its contract: behind the gate code and definition make the same tests in the same order.
+-- `releasing::dec_ref` meets its contract: behind the gate code and definition make the same tests in the same order.
 use mathlib.Core.Path.{sym, _∙_}
 use mathlib.Core.List.{[]}
 use Rattle.definition.specs.Ending.{end-still}
@@ -9,8 +9,8 @@ use Rattle.lists.specs.Choose.{choose}
 use Rattle.definition.specs.Mem.{sizes}
 use Rattle.definition.specs.Closing.{decRef}
 use borrow.Author.Needs.{needs}
-use Rattle.holding.proofs.dec_ref.Statement.{statement}
-use Rattle.holding.proofs.dec_ref.Tie as tie
+use Rattle.releasing.proofs.dec_ref.Statement.{statement}
+use Rattle.releasing.proofs.dec_ref.Tie as tie
 
 number-requires : tie.Need-number-requires
 number-requires c κs = search needs

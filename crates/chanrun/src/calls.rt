@@ -186,12 +186,12 @@ fn every_signal(
     row: &mut [u8],
 ) -> Table {
     let mut u = one_signal(t, link, listening, central, pdu, room, row);
-    let mut rest = signals::rest(pdu);
+    let mut rest = remaining::rest(pdu);
     let mut turns = pdu.len();
     while 0 < turns && 0 < rest.len() {
         let next = one_signal(u, link, listening, central, rest, room, row);
         u = next;
-        let tail = signals::rest(rest);
+        let tail = remaining::rest(rest);
         rest = tail;
         turns -= 1;
     }

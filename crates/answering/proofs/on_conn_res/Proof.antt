@@ -1,12 +1,12 @@
--- `connecting::on_conn_res` meets its contract: code and definition search for the same attempt.
+-- `answering::on_conn_res` meets its contract: code and definition search for the same attempt.
 use mathlib.Core.List.{[]}
 use borrow.Author.Tests.{le-leb, lt-leb}
 use Rattle.lists.specs.Choose.{choose}
 use Rattle.definition.specs.Mem.{sizes}
 use Rattle.definition.specs.Signals.{onConnRes}
 use borrow.Author.Needs.{needs}
-use Rattle.connecting.proofs.on_conn_res.Statement.{statement}
-use Rattle.connecting.proofs.on_conn_res.Tie as tie
+use Rattle.answering.proofs.on_conn_res.Statement.{statement}
+use Rattle.answering.proofs.on_conn_res.Tie as tie
 
 enum-told : tie.Need-enum-told
 enum-told c = search needs

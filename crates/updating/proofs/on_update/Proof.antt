@@ -1,8 +1,8 @@
--- `handling::on_update` meets its contract: code and definition ask the same of the side.
+-- `updating::on_update` meets its contract: code and definition ask the same of the side.
 use Rattle.lists.specs.Choose.{choose}
 use borrow.Author.Needs.{needs}
-use Rattle.handling.proofs.on_update.Statement.{statement}
-use Rattle.handling.proofs.on_update.Tie as tie
+use Rattle.updating.proofs.on_update.Statement.{statement}
+use Rattle.updating.proofs.on_update.Tie as tie
 
 read-conn-param-update-req-requires : tie.Need-read-conn-param-update-req-requires
 read-conn-param-update-req-requires c κs = search needs

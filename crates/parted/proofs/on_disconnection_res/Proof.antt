@@ -1,4 +1,4 @@
--- `parting::on_disconnection_res` meets its contract: the CID names a slot (named), and code and definition make the same tests.
+-- `parted::on_disconnection_res` meets its contract: the CID names a slot (named), and code and definition make the same tests.
 use mathlib.Core.Path.{sym, ap, _∙_}
 use mathlib.Core.List.{[]}
 use native.Mathlib.Omega.{arith}
@@ -10,8 +10,8 @@ use Rattle.definition.specs.Ending.{end-still}
 use Rattle.definition.specs.Signals.{onDisconnectionRes}
 use Rattle.slots.specs.Named.{named}
 use borrow.Author.Needs.{needs}
-use Rattle.parting.proofs.on_disconnection_res.Statement.{statement}
-use Rattle.parting.proofs.on_disconnection_res.Tie as tie
+use Rattle.parted.proofs.on_disconnection_res.Statement.{statement}
+use Rattle.parted.proofs.on_disconnection_res.Tie as tie
 
 enum-told : tie.Need-enum-told
 enum-told c = search needs

@@ -1,4 +1,4 @@
--- `signals::checked` meets its contract: what the check of the headers finds tells which case of the definition it is.
+-- `checking::checked` meets its contract: what the check of the headers finds tells which case of the definition it is.
 use mathlib.Core.Path.{sym}
 use mathlib.Core.List.{[]}
 use borrow.Author.Tests.{eq-eqb, ne-eqb}
@@ -7,8 +7,8 @@ use Rattle.definition.specs.Mem.{sizes}
 use Rattle.definition.specs.Ending.{end-still}
 use Rattle.definition.specs.Signals.{checked}
 use borrow.Author.Needs.{needs}
-use Rattle.signals.proofs.checked.Statement.{statement}
-use Rattle.signals.proofs.checked.Tie as tie
+use Rattle.checking.proofs.checked.Statement.{statement}
+use Rattle.checking.proofs.checked.Tie as tie
 
 check-headers-requires : tie.Need-check-headers-requires
 check-headers-requires c κs = search needs

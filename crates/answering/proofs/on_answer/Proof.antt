@@ -1,9 +1,9 @@
--- `connecting::on_answer` meets its contract: code and definition ask the same of the result.
+-- `answering::on_answer` meets its contract: code and definition ask the same of the result.
 use borrow.Author.Tests.{eq-eqb, ne-eqb}
 use Rattle.lists.specs.Choose.{choose}
 use borrow.Author.Needs.{needs}
-use Rattle.connecting.proofs.on_answer.Statement.{statement}
-use Rattle.connecting.proofs.on_answer.Tie as tie
+use Rattle.answering.proofs.on_answer.Statement.{statement}
+use Rattle.answering.proofs.on_answer.Tie as tie
 
 slot-at-requires : tie.Need-slot-at-requires
 slot-at-requires c κs = search needs

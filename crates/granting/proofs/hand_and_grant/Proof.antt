@@ -1,8 +1,8 @@
--- `receiving::hand_and_grant` meets its contract: what was handed out, booked and written is the end of a take that grants (takes-granting).
-use Rattle.receiving.specs.Taken.{room-spent, takes-granting}
+-- `granting::hand_and_grant` meets its contract: what was handed out, booked and written is the end of a take that grants (takes-granting).
+use Rattle.granting.specs.Granted.{room-spent, takes-granting}
 use borrow.Author.Needs.{needs}
-use Rattle.receiving.proofs.hand_and_grant.Statement.{statement}
-use Rattle.receiving.proofs.hand_and_grant.Tie as tie
+use Rattle.granting.proofs.hand_and_grant.Statement.{statement}
+use Rattle.granting.proofs.hand_and_grant.Tie as tie
 
 spent-requires : tie.Need-spent-requires
 spent-requires c κs = search needs

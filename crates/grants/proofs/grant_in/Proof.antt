@@ -1,9 +1,9 @@
--- `receiving::grant_in` meets its contract: Connected, and what the account says; else nothing.
+-- `grants::grant_in` meets its contract: Connected, and what the account says; else nothing.
 use Rattle.lists.specs.Choose.{choose}
 use Rattle.definition.specs.Frames.{grantIn}
 use borrow.Author.Needs.{needs}
-use Rattle.receiving.proofs.grant_in.Statement.{statement}
-use Rattle.receiving.proofs.grant_in.Tie as tie
+use Rattle.grants.proofs.grant_in.Statement.{statement}
+use Rattle.grants.proofs.grant_in.Tie as tie
 
 is-connected-requires : tie.Need-is-connected-requires
 is-connected-requires c κs = search needs

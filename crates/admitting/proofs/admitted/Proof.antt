@@ -1,4 +1,4 @@
--- `dispatching::admitted` meets its contract: code and definition make the same tests in the same order, and a frame that passes them is
+-- `admitting::admitted` meets its contract: code and definition make the same tests in the same order, and a frame that passes them is
 -- joined as its payload says (frame-joins).
 use mathlib.Core.Path.{_≡_, sym, ap, _∙_}
 use native.Mathlib.Omega.{arith}
@@ -10,10 +10,10 @@ use Rattle.definition.specs.Mem.{sizes}
 use Rattle.definition.specs.Table.{slotAt, slotOf, withAccount}
 use Rattle.definition.specs.Ending.{end-still}
 use Rattle.slots.specs.Named.{named}
-use Rattle.dispatching.specs.Framed.{admitted, frame-joins, have-fits}
+use Rattle.admitting.specs.Admitted.{admitted, frame-joins, have-fits}
 use borrow.Author.Needs.{needs}
-use Rattle.dispatching.proofs.admitted.Statement.{statement}
-use Rattle.dispatching.proofs.admitted.Tie as tie
+use Rattle.admitting.proofs.admitted.Statement.{statement}
+use Rattle.admitting.proofs.admitted.Tie as tie
 
 is-cid-requires : tie.Need-is-cid-requires
 is-cid-requires c κs = search needs

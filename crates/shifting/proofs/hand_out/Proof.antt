@@ -1,9 +1,9 @@
--- `handing::hand_out` meets its contract: the job is copied before the part is lent (parts-lent) and its jobs move up.
+-- `shifting::hand_out` meets its contract: the job is copied before the part is lent (parts-lent) and its jobs move up.
 use Rattle.gate.specs.Sizes.{partWidth}
 use Rattle.room.specs.Parts.{parts-lent}
 use borrow.Author.Needs.{needs}
-use Rattle.handing.proofs.hand_out.Statement.{statement}
-use Rattle.handing.proofs.hand_out.Tie as tie
+use Rattle.shifting.proofs.hand_out.Statement.{statement}
+use Rattle.shifting.proofs.hand_out.Tie as tie
 
 place-size-requires : tie.Need-place-size-requires
 place-size-requires c κs = search needs

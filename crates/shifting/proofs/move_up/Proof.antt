@@ -1,12 +1,12 @@
--- `handing::move_up` meets its contract: the two moves, one after the other; both products are small (mul-le-mul).
+-- `shifting::move_up` meets its contract: the two moves, one after the other; both products are small (mul-le-mul).
 use Prim.Native.Nat.{_-_}
 use native.Mathlib.Nat.{mul-le-mul}
 use native.Mathlib.Omega.{arith}
 use Rattle.channel.specs.Limits.{packetMost}
 use Rattle.definition.specs.Mem.{moves, move, fill}
 use borrow.Author.Needs.{needs}
-use Rattle.handing.proofs.move_up.Statement.{statement}
-use Rattle.handing.proofs.move_up.Tie as tie
+use Rattle.shifting.proofs.move_up.Statement.{statement}
+use Rattle.shifting.proofs.move_up.Tie as tie
 
 sub-later : tie.Need-sub-later
 sub-later c = search needs

@@ -1,4 +1,4 @@
--- `joining::join_part` meets its contract: the part is lent (parts-lent), and what the join leaves there is its moves (join-moves).
+-- `placing::join_part` meets its contract: the part is lent (parts-lent), and what the join leaves there is its moves (join-moves).
 use mathlib.Core.Path.{ap, _∙_}
 use Prim.Native.Nat.{_+_, _≤_}
 use native.Mathlib.Numerals.{add-one}
@@ -7,10 +7,10 @@ use lib.ListN.{length}
 use Rattle.octets.specs.Sets.{mid-part, part-length}
 use Rattle.gate.specs.Sizes.{partWidth}
 use Rattle.room.specs.Parts.{parts-lent}
-use Rattle.joining.specs.Joins.{join-moves}
+use Rattle.placing.specs.Moved.{join-moves}
 use borrow.Author.Needs.{needs}
-use Rattle.joining.proofs.join_part.Statement.{statement}
-use Rattle.joining.proofs.join_part.Tie as tie
+use Rattle.placing.proofs.join_part.Statement.{statement}
+use Rattle.placing.proofs.join_part.Tie as tie
 
 place-size-requires : tie.Need-place-size-requires
 place-size-requires c κs = search needs

@@ -1,28 +1,19 @@
--- `receiving::take` meets its contract: the definition's tests in its order, and what was handed out is its end (takes).
+-- `taking::take` meets its contract: the definition's tests in its order, and what was handed out is its end (takes).
 use mathlib.Core.Path.{sym}
 use borrow.Author.Tests.{eq-eqb, ne-eqb}
 use Rattle.lists.specs.Choose.{choose}
 use Rattle.definition.specs.Mem.{sizes}
 use Rattle.definition.specs.Ending.{end-still}
-use Rattle.receiving.specs.Taken.{takes}
+use Rattle.taking.specs.Taken.{takes}
 use borrow.Author.Needs.{needs}
-use Rattle.receiving.proofs.take.Statement.{statement}
-use Rattle.receiving.proofs.take.Tie as tie
+use Rattle.taking.proofs.take.Statement.{statement}
+use Rattle.taking.proofs.take.Tie as tie
 
 slot-at-requires : tie.Need-slot-at-requires
 slot-at-requires c κs = search needs
 
-is-disconnected-requires : tie.Need-is-disconnected-requires
-is-disconnected-requires c κs = search needs
-
-is-connecting-requires : tie.Need-is-connecting-requires
-is-connecting-requires c κs = search needs
-
-is-peer-connecting-requires : tie.Need-is-peer-connecting-requires
-is-peer-connecting-requires c κs = search needs
-
-is-connect-failed-requires : tie.Need-is-connect-failed-requires
-is-connect-failed-requires c κs = search needs
+closed-requires : tie.Need-closed-requires
+closed-requires c κs = search needs
 
 refused-requires : tie.Need-refused-requires
 refused-requires c κs = search needs
@@ -30,13 +21,9 @@ refused-requires c κs = search needs
 returns : tie.Need-returns
 unfolding choose sizes
 returns c =
-    let f = c .before .before in
     rw (
-      ← f .before .before .before .before .slot-at .ensures,
-      ← f .before .before .before .is-disconnected .ensures,
-      ← f .before .before .is-connecting .ensures,
-      ← f .before .is-peer-connecting .ensures,
-      ← f .is-connect-failed .ensures,
+      ← c .before .before .before .slot-at .ensures,
+      ← c .before .before .closed .ensures,
       c .before .if1 .taken,
       c .refused .ensures,
     ) (sym (end-still _ _ _ _ _ _ _))
@@ -47,13 +34,9 @@ done-requires c κs = search needs
 returns-2 : tie.Need-returns-2
 unfolding choose sizes
 returns-2 c =
-    let f = c .before .before .before .before in
     rw (
-      ← f .before .before .before .before .slot-at .ensures,
-      ← f .before .before .before .is-disconnected .ensures,
-      ← f .before .before .is-connecting .ensures,
-      ← f .before .is-peer-connecting .ensures,
-      ← f .is-connect-failed .ensures,
+      ← c .before .before .before .before .before .slot-at .ensures,
+      ← c .before .before .before .before .closed .ensures,
       c .before .before .before .if1 .left,
       eq-eqb _ _ (c .before .if2 .taken),
       c .done .ensures,
@@ -83,19 +66,14 @@ same-length-2 c = search needs
 returns-3 : tie.Need-returns-3
 unfolding choose
 returns-3 c =
-    let f = c .before .before .before .before .before .before .before .before .before .before .before .before .before in
-    let a = c .before .before .before .before .before .before .before .before .before .before .before .before .before .before .before .before .before .before .before .before .before .args in
     rw (
-      ← f .before .before .before .before .slot-at .ensures,
-      ← f .before .before .before .is-disconnected .ensures,
-      ← f .before .before .is-connecting .ensures,
-      ← f .before .is-peer-connecting .ensures,
-      ← f .is-connect-failed .ensures,
+      ← c .before .before .before .before .before .before .before .before .before .before .before .before .before .before .slot-at .ensures,
+      ← c .before .before .before .before .before .before .before .before .before .before .before .before .before .closed .ensures,
       c .before .before .before .before .before .before .before .before .before .before .before .before .if1 .left,
       ne-eqb _ _ (c .before .before .before .before .before .before .before .before .before .before .if2 .left),
       ← c .before .before .before .before .before .before .before .before .before .grant-in .ensures,
       c .before .before .before .before .before .before .before .enum-told .given .1,
-    ) (takes (a .t) (a .s) (f .before .before .before .before .slot-at .result) (a .signal .now) (c .before .before .before .before .hand .ensures))
+    ) (takes (c .before .before .before .before .before .before .before .before .before .before .before .before .before .before .before .before .before .before .args .t) (c .before .before .before .before .before .before .before .before .before .before .before .before .before .before .before .before .before .before .args .s) (c .before .before .before .before .before .before .before .before .before .before .before .before .before .before .slot-at .result) (c .before .before .before .before .before .before .before .before .before .before .before .before .before .before .before .before .before .before .args .signal .now) (c .before .before .before .before .hand .ensures))
 
 same-length-3 : tie.Need-same-length-3
 same-length-3 c = search needs
@@ -109,13 +87,9 @@ same-length-5 c = search needs
 returns-4 : tie.Need-returns-4
 unfolding choose
 returns-4 c =
-    let f = c .before .before .before .before .before .before .before .before .before .before .before .before .before .before .before .before .before in
     rw (
-      ← f .before .before .before .before .slot-at .ensures,
-      ← f .before .before .before .is-disconnected .ensures,
-      ← f .before .before .is-connecting .ensures,
-      ← f .before .is-peer-connecting .ensures,
-      ← f .is-connect-failed .ensures,
+      ← c .before .before .before .before .before .before .before .before .before .before .before .before .before .before .before .before .before .before .slot-at .ensures,
+      ← c .before .before .before .before .before .before .before .before .before .before .before .before .before .before .before .before .before .closed .ensures,
       c .before .before .before .before .before .before .before .before .before .before .before .before .before .before .before .before .if1 .left,
       ne-eqb _ _ (c .before .before .before .before .before .before .before .before .before .before .before .before .before .before .if2 .left),
       ← c .before .before .before .before .before .before .before .before .before .before .before .before .before .grant-in .ensures,
@@ -127,10 +101,7 @@ take-spec =
     tie.close
     (tie.spec
     slot-at-requires
-    is-disconnected-requires
-    is-connecting-requires
-    is-peer-connecting-requires
-    is-connect-failed-requires
+    closed-requires
     refused-requires
     returns
     done-requires

@@ -24,25 +24,25 @@ pub fn called(t: Table, c: Command, room: &mut [u8], signal: &mut [u8]) -> Serve
     match c {
         Command::Bad => slots::done(t),
         Command::Make { .. } => slots::done(t),
-        Command::RegisterSpsm(spsm) => asking::register_spsm(t, spsm),
+        Command::RegisterSpsm(spsm) => registering::register_spsm(t, spsm),
         Command::Signal { .. } => slots::done(t),
         Command::NextPending { link, up } => pending::next_pending(t, link, up),
-        Command::RejectAllPending(link) => pending::reject_all_pending(t, room, signal, link),
+        Command::RejectAllPending(link) => clearing::reject_all_pending(t, room, signal, link),
         Command::AcceptPending { slot, config } => {
             accepting::accept_pending(t, signal, slot_of(slot), config)
         }
         Command::RejectPending { slot, result } => {
             rejecting::reject_pending(t, room, signal, slot_of(slot), result)
         }
-        Command::DropPending(slot) => pending::drop_pending(t, room, slot_of(slot)),
+        Command::DropPending(slot) => dropping::drop_pending(t, room, slot_of(slot)),
         Command::Create { link, spsm, config } => creating::create(t, signal, link, spsm, config),
         Command::Opened { slot, link, up } => opening::opened(t, room, slot_of(slot), link, up),
-        Command::GiveUp(slot) => opening::give_up(t, room, slot_of(slot)),
+        Command::GiveUp(slot) => giving_up::give_up(t, room, slot_of(slot)),
         Command::IncRef(slot) => holding::inc_ref(t, slot_of(slot)),
-        Command::DecRef(slot) => holding::dec_ref(t, room, slot_of(slot)),
+        Command::DecRef(slot) => releasing::dec_ref(t, room, slot_of(slot)),
         Command::Disconnect(slot) => closing::disconnect(t, room, slot_of(slot)),
         Command::DisconnectByCid(cid) => closing::disconnect_by_cid(t, room, Cid(cid)),
-        Command::Disconnected(link) => closing::disconnected(t, room, link),
+        Command::Disconnected(link) => link_down::disconnected(t, room, link),
         Command::NextDisconnect => announcing::next_disconnect(t, room, signal),
         Command::Dispatch { .. } => slots::done(t),
         Command::Send { .. } => slots::done(t),

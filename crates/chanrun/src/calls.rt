@@ -69,7 +69,7 @@ pub fn make(n: u16, d: u16, m: u16, room: &mut [u8], row: &mut [u8]) -> Table {
 fn reject(t: Table, room: &mut [u8], signal: &mut [u8], slot: u16, result: u16) -> Served {
     let index = slot_of(slot);
     match codes::result_of(result) {
-        ResultRead::Known(code) => accepting::reject_pending(t, room, signal, index, code),
+        ResultRead::Known(code) => refusing::reject_pending(t, room, signal, index, code),
         ResultRead::Unknown => match gate::gate(
             t,
             Given::Is(room.len()),
@@ -86,10 +86,10 @@ fn reject(t: Table, room: &mut [u8], signal: &mut [u8], slot: u16, result: u16) 
 // The calls of a slot or a CID alone.
 fn of_slot(t: Table, c: Command, room: &mut [u8]) -> Served {
     match c {
-        Command::DropPending(slot) => pending::drop_pending(t, room, slot_of(slot)),
-        Command::GiveUp(slot) => opening::give_up(t, room, slot_of(slot)),
+        Command::DropPending(slot) => dropping::drop_pending(t, room, slot_of(slot)),
+        Command::GiveUp(slot) => giving_up::give_up(t, room, slot_of(slot)),
         Command::IncRef(slot) => holding::inc_ref(t, slot_of(slot)),
-        Command::DecRef(slot) => holding::dec_ref(t, room, slot_of(slot)),
+        Command::DecRef(slot) => releasing::dec_ref(t, room, slot_of(slot)),
         Command::Disconnect(slot) => closing::disconnect(t, room, slot_of(slot)),
         Command::DisconnectByCid(cid) => closing::disconnect_by_cid(t, room, Cid(cid)),
         _ => slots::done(t),
@@ -99,15 +99,15 @@ fn of_slot(t: Table, c: Command, room: &mut [u8]) -> Served {
 // The other calls that are lent a signal buffer, or nothing.
 fn signalling(t: Table, c: Command, room: &mut [u8], signal: &mut [u8]) -> Served {
     match c {
-        Command::RegisterSpsm(spsm) => asking::register_spsm(t, spsm),
+        Command::RegisterSpsm(spsm) => registering::register_spsm(t, spsm),
         Command::NextPending { link, up } => pending::next_pending(t, link, up),
-        Command::RejectAllPending(link) => pending::reject_all_pending(t, room, signal, link),
+        Command::RejectAllPending(link) => clearing::reject_all_pending(t, room, signal, link),
         Command::AcceptPending { slot, config } => {
             accepting::accept_pending(t, signal, slot_of(slot), config)
         }
         Command::RejectPending { slot, result } => reject(t, room, signal, slot, result),
         Command::Create { link, spsm, config } => creating::create(t, signal, link, spsm, config),
-        Command::Disconnected(link) => closing::disconnected(t, room, link),
+        Command::Disconnected(link) => link_down::disconnected(t, room, link),
         Command::NextDisconnect => announcing::next_disconnect(t, room, signal),
         Command::Attention => calling::attention(t),
         Command::SendConnParamUpdateReq {
@@ -186,12 +186,12 @@ fn every_signal(
     row: &mut [u8],
 ) -> Table {
     let mut u = one_signal(t, link, listening, central, pdu, room, row);
-    let mut rest = signals::rest(pdu);
+    let mut rest = remaining::rest(pdu);
     let mut turns = pdu.len();
     while 0 < turns && 0 < rest.len() {
         let next = one_signal(u, link, listening, central, rest, room, row);
         u = next;
-        let tail = signals::rest(rest);
+        let tail = remaining::rest(rest);
         rest = tail;
         turns -= 1;
     }

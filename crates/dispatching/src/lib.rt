@@ -1,48 +1,16 @@
-// Frame in (`dispatch` in the original): whose frame it is, one credit used, and the payload joined. The contract is the equation
-// with the definition of that call, for every payload: its length octets and its job octets are split as in a run of the definition.
+// Frame in (`dispatch` in the original): the gate, and `admitting` behind it. The contract is the equation with the definition of that call,
+// for every payload: its length octets and its job octets are split as in a run of the definition.
 ghost use mathlib.Core.Path.{_≡_};
-ghost use mathlib.Core.Bool.{true};
 ghost use mathlib.Core.List.{[]};
 ghost use lib.ListN.{length};
-ghost use Rattle.definition.specs.Table.{wellFormed};
 ghost use Rattle.definition.specs.Calls.{frame, jobs};
 ghost use Rattle.definition.specs.Ending.{end, endOf};
-ghost use Rattle.room.specs.Placed.{RoomOf};
-ghost use Rattle.dispatching.specs.Framed.{headOf, frameIn, admitted};
+ghost use Rattle.dispatching.specs.Framed.{frameIn};
 use channel::Cid;
 use channel::Given;
 use channel::Served;
 use channel::Table;
 use channel::Verdict;
-use codes::Refusal;
-
-// A frame that passed the first refusals.
-fn admitted(t: Table, room: &mut [u8], link: u16, cid: Cid, payload: &[u8]) -> Served
-    requires { ⌜ RoomOf t (length (now room)) × (wellFormed t ≡ true) ⌝ }
-    ensures { λ r. ⌜ end r (now (room .exit)) [] [] ≡ endOf t (jobs t (frame link (cid .0) (now (payload .entry)))) (now (room .entry)) [] []
-        (admitted t link (cid .0) (headOf t (cid .0) (now (payload .entry))) (length (jobs t (frame link (cid .0) (now (payload .entry)))))) ⌝ }
-{
-    if !slots::is_cid(t, cid) {
-        return slots::refused(t, Refusal::InvalidChannelId);
-    }
-    let s = slots::number(slots::slot_of(cid));
-    let x = slots::slot_at(t, s);
-    let k = x.state;
-    if !state::is_connected(k) {
-        return slots::done(t);
-    }
-    let account = x.account;
-    let stranger = x.link != link;
-    let no_credit = account.credits == 0;
-    if stranger {
-        return slots::refused(t, Refusal::NotFound);
-    }
-    if no_credit {
-        return slots::refused(t, Refusal::OutOfMemory);
-    }
-    let y = slot::with_account(x, account::received_through(account, 1));
-    joining::join(t, room, s, y, payload)
-}
 
 pub fn dispatch(t: Table, room: &mut [u8], link: u16, cid: Cid, payload: &[u8]) -> Served
     ensures { λ r. ⌜ end r (now (room .exit)) [] [] ≡ endOf t (jobs t (frame link (cid .0) (now (payload .entry)))) (now (room .entry)) [] []
@@ -56,6 +24,6 @@ pub fn dispatch(t: Table, room: &mut [u8], link: u16, cid: Cid, payload: &[u8]) 
         Given::Nothing,
     ) {
         Verdict::Stop(r) => slots::refused(t, r),
-        Verdict::Pass => admitted(t, room, link, cid, payload),
+        Verdict::Pass => admitting::admitted(t, room, link, cid, payload),
     }
 }

@@ -23,7 +23,7 @@ pub fn register_spsm(table: &mut [u8], answer: &mut [u8], spsm: u16) -> u32
 {
     let d = layout_decode::decode(table);
     let t = d.table;
-    let s = asking::register_spsm(t, spsm);
+    let s = registering::register_spsm(t, spsm);
     edge::store(table, answer, d.ok, s)
 }
 

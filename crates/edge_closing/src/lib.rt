@@ -23,7 +23,7 @@ pub fn dec_ref(table: &mut [u8], answer: &mut [u8], room: &mut [u8], slot: u8) -
 {
     let d = layout_decode::decode(table);
     let t = d.table;
-    let s = holding::dec_ref(t, room, ChannelIndex(slot));
+    let s = releasing::dec_ref(t, room, ChannelIndex(slot));
     edge::store(table, answer, d.ok, s)
 }
 
@@ -53,7 +53,7 @@ pub fn disconnected(table: &mut [u8], answer: &mut [u8], room: &mut [u8], link: 
 {
     let d = layout_decode::decode(table);
     let t = d.table;
-    let s = closing::disconnected(t, room, link);
+    let s = link_down::disconnected(t, room, link);
     edge::store(table, answer, d.ok, s)
 }
 

@@ -66,7 +66,7 @@ pub fn reject_all_pending(
 {
     let d = layout_decode::decode(table);
     let t = d.table;
-    let s = pending::reject_all_pending(t, room, signal, link);
+    let s = clearing::reject_all_pending(t, room, signal, link);
     edge::store(table, answer, d.ok, s)
 }
 
@@ -76,7 +76,7 @@ pub fn drop_pending(table: &mut [u8], answer: &mut [u8], room: &mut [u8], slot: 
 {
     let d = layout_decode::decode(table);
     let t = d.table;
-    let s = pending::drop_pending(t, room, ChannelIndex(slot));
+    let s = dropping::drop_pending(t, room, ChannelIndex(slot));
     edge::store(table, answer, d.ok, s)
 }
 
@@ -125,6 +125,6 @@ pub fn give_up(table: &mut [u8], answer: &mut [u8], room: &mut [u8], slot: u8) -
 {
     let d = layout_decode::decode(table);
     let t = d.table;
-    let s = opening::give_up(t, room, ChannelIndex(slot));
+    let s = giving_up::give_up(t, room, ChannelIndex(slot));
     edge::store(table, answer, d.ok, s)
 }

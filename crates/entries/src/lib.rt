@@ -378,5 +378,5 @@ pub extern "C" fn l2cap_receive(
 pub extern "C" fn l2cap_signal_rest(pdu: &[u8]) -> usize
     ensures { λ r. ⌜ r ≡ length (restOf (now (pdu .entry))) ⌝ }
 {
-    signals::rest(pdu).len()
+    remaining::rest(pdu).len()
 }

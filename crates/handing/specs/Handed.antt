@@ -1,7 +1,7 @@
--- The moves in the part of a slot that hands a job out, what that leaves, and its law: it is the end of the definition's `handing`.
+-- What a slot that hands a job out leaves, and its law: it is the end of the definition's `handing`.
 use mathlib.Core.Path.{_≡_, refl, sym, _∙_}
 use mathlib.Core.List.{List, [], _∷_, _++_, append-nil}
-use Prim.Native.Nat.{ℕ, _+_, _-_, _*_, min}
+use Prim.Native.Nat.{ℕ, _+_, _*_, min}
 use native.Mathlib.Omega.{arith}
 use lib.ListN.{length, getD, drop}
 use lib.Seq.{sets}
@@ -10,16 +10,12 @@ use Rattle.channel.specs.declared.Answer.the-variants.{Job}
 use Rattle.channel.specs.declared.Served.{Served}
 use Rattle.channel.specs.declared.Slot.{Slot}
 use Rattle.channel.specs.declared.Table.{Table}
-use Rattle.definition.specs.Mem.{Fill, zeros, given, held, Move, put, sizes, fill, fills, written, parts}
+use Rattle.definition.specs.Mem.{Fill, given, sizes, fill, fills, written, parts}
 use Rattle.definition.specs.Table.{placeOf, width, putSlot, withQueue}
 use Rattle.definition.specs.Outcome.{only}
 use Rattle.definition.specs.Ending.{itself, end, endOf, gave, written-none, written-given, sizes-given}
 use Rattle.reply.specs.Reply.{Replied}
 use Rattle.definition.specs.Frames.{shifted, movingUp, handing}
-
--- The moves in the part of a slot with so many jobs, in places of p octets (`movingUp` of a table and a slot).
-abbrev pub upwards : (p count : ℕ) → List Move
-upwards p count = put p (held (2 * p) ((count - 1) * p)) ∷ put (count * p) (zeros p) ∷ []
 
 -- a queue of four lengths without its oldest
 pub shifted-four : (xs : List ℕ) → length xs ≡ 4 → getD xs 1 0 ∷ getD xs 2 0 ∷ getD xs 3 0 ∷ 0 ∷ [] ≡ drop 1 xs ++ (0 ∷ [])

@@ -2,41 +2,24 @@
 // signal buffer to be as long as the table says; `handled` is `pub` for the signal call alone. Its contract is the equation with the
 // definition of that name.
 ghost use mathlib.Core.Path.{_≡_};
-ghost use mathlib.Core.List.{List, []};
-ghost use Prim.Native.Nat.{ℕ, _≤_};
+ghost use mathlib.Core.List.{[]};
+ghost use Prim.Native.Nat.{_≤_};
 ghost use lib.ListN.{length};
-ghost use Rattle.lists.specs.Choose.{choose};
-ghost use Rattle.bodies.specs.Bodies.{connParamUpdateReq};
 ghost use Rattle.channel.specs.Limits.{signalMost};
-ghost use Rattle.channel.specs.declared.Answer.the-variants.{Done};
-ghost use Rattle.channel.specs.declared.Table.{Table as TableOf};
-ghost use Rattle.definition.specs.Outcome.{still};
 ghost use Rattle.definition.specs.Ending.{end, endOf};
-ghost use Rattle.definition.specs.Signals.{rejectReply, onParameters, handled};
+ghost use Rattle.definition.specs.Signals.{handled};
 ghost use Rattle.room.specs.Placed.{RoomOf};
-use bodies::read_command_reject_res;
-use bodies::read_conn_param_update_req;
-use bodies::read_conn_param_update_res;
-use bodies::read_disconnection_req;
-use bodies::read_disconnection_res;
 use channel::Answer;
 use channel::Served;
 use channel::Table;
 use codes::Refusal;
+use bodies::read_command_reject_res;
+use bodies::read_conn_param_update_res;
+use bodies::read_disconnection_req;
+use bodies::read_disconnection_res;
 use le_credit_bodies::read_le_credit_conn_req;
 use le_credit_bodies::read_le_credit_conn_res;
 use le_credit_bodies::read_le_credit_flow_ind;
-
-// Code 0x12: a central alone takes parameters; any other side rejects before the body is read.
-fn on_update(t: Table, out: &mut [u8], central: bool, id: u8, body: &[u8]) -> Served
-    requires { ⌜ signalMost ≤ length (now out) ⌝ }
-    ensures { λ r. ⌜ ((t₀ : TableOf) (room job : List ℕ) → end r room (now (out .exit)) job ≡ endOf t₀ [] room (now (out .entry)) job (choose central (onParameters t id (connParamUpdateReq (now (body .entry)))) (still t Done (rejectReply id 0)))) ⌝ }
-{
-    if central {
-        return parameters::on_parameters(t, out, id, read_conn_param_update_req(body));
-    }
-    rejects::reject(t, out, Answer::Done, id, 0)
-}
 
 // The signal, by the number of its code.
 pub fn handled(
@@ -56,11 +39,11 @@ pub fn handled(
     match code {
         0x01 => parameters::on_reject(t, out, id, read_command_reject_res(body)),
         0x06 => parting::on_disconnection_req(t, room, out, link, id, read_disconnection_req(body)),
-        0x07 => parting::on_disconnection_res(t, room, out, link, id, read_disconnection_res(body)),
-        0x12 => on_update(t, out, central, id, body),
+        0x07 => parted::on_disconnection_res(t, room, out, link, id, read_disconnection_res(body)),
+        0x12 => updating::on_update(t, out, central, id, body),
         0x13 => parameters::on_parameter_response(t, out, id, read_conn_param_update_res(body)),
         0x14 => connecting::on_conn_req(t, out, link, listening, id, read_le_credit_conn_req(body)),
-        0x15 => connecting::on_conn_res(t, room, out, link, id, read_le_credit_conn_res(body)),
+        0x15 => answering::on_conn_res(t, room, out, link, id, read_le_credit_conn_res(body)),
         0x16 => crediting::on_credits(t, room, out, link, id, read_le_credit_flow_ind(body)),
         _ => rejects::reject(t, out, Answer::Refused(Refusal::NotSupported), id, 0),
     }

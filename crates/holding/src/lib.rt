@@ -1,12 +1,9 @@
-// Holds on a slot (`inc_ref`, `dec_ref` in the original). Each contract is the equation with the definition of that call.
+// A hold on a slot (`inc_ref` in the original). The contract is the equation with the definition of that call.
 ghost use mathlib.Core.Path.{_≡_};
-ghost use mathlib.Core.List.{[]};
-ghost use lib.ListN.{length};
-ghost use Rattle.definition.specs.Ending.{servedOf, end, endOf};
-ghost use Rattle.definition.specs.Closing.{incRef, decRef};
+ghost use Rattle.definition.specs.Ending.{servedOf};
+ghost use Rattle.definition.specs.Closing.{incRef};
 use channel::Answer;
 use channel::ChannelIndex;
-use channel::ChannelState;
 use channel::Given;
 use channel::HOLDS_MOST;
 use channel::Served;
@@ -34,42 +31,6 @@ pub fn inc_ref(t: Table, slot: ChannelIndex) -> Served
                 return slots::refused(t, Refusal::Held);
             }
             slots::changed(t, s, slot::with_hold(x, hold + 1), Answer::Done, 0)
-        }
-    }
-}
-
-// One hold less; the last one turns Connected into Disconnecting.
-pub fn dec_ref(t: Table, room: &mut [u8], slot: ChannelIndex) -> Served
-    ensures { λ r. ⌜ end r (now (room .exit)) [] [] ≡ endOf t [] (now (room .entry)) [] [] (decRef t (length (now (room .entry))) (slot .0)) ⌝ }
-{
-    let s = slots::number(slot);
-    match gate::gate(
-        t,
-        Given::Is(room.len()),
-        Given::Nothing,
-        Given::Nothing,
-        Given::Is(s),
-    ) {
-        Verdict::Stop(r) => slots::refused(t, r),
-        Verdict::Pass => {
-            let x = slots::slot_at(t, s);
-            let hold = x.hold;
-            if hold == 0 {
-                return slots::refused(t, Refusal::Held);
-            }
-            let k = x.state;
-            if state::is_connected(k) & (hold == 1) {
-                let y = slot::with_hold(x, 0);
-                return forms::leave(
-                    t,
-                    room,
-                    s,
-                    y,
-                    ChannelState::Disconnecting(false),
-                    Answer::Done,
-                );
-            }
-            forms::alter(t, s, slot::with_hold(x, hold - 1), Answer::Done)
         }
     }
 }

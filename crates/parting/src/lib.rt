@@ -1,21 +1,20 @@
-// The peer's disconnect requests and responses: codes 0x06 and 0x07 (`handle_disconnect_request`, `handle_disconnect_response` in
-// the original). They stand behind the gate, which has found room and signal buffer to be as long as the table says; each is `pub` for the
-// signal call alone. Each contract is the equation with the definition's handler.
+// The peer's disconnect requests: code 0x06 (`handle_disconnect_request` in the original). They stand behind the gate, which has found room
+// and signal buffer to be as long as the table says; `on_disconnection_req` is `pub` for the signal call alone. Its contract is the equation
+// with the definition's handler.
 ghost use mathlib.Core.Path.{_≡_};
 ghost use mathlib.Core.List.{[]};
 ghost use Prim.Native.Nat.{_≤_};
 ghost use lib.ListN.{length};
 ghost use Rattle.channel.specs.Limits.{signalMost};
 ghost use Rattle.definition.specs.Ending.{end, endOf};
-ghost use Rattle.definition.specs.Signals.{onDisconnectionReq, onDisconnectionRes};
+ghost use Rattle.definition.specs.Signals.{onDisconnectionReq};
 ghost use Rattle.room.specs.Placed.{RoomOf};
-use bodies::DisconnectionReqRead;
-use bodies::DisconnectionResRead;
 use channel::Answer;
 use channel::ChannelState;
 use channel::Cid;
 use channel::Served;
 use channel::Table;
+use bodies::DisconnectionReqRead;
 
 // Code 0x06: a slot of this link that the CID names is to answer; another CID is rejected.
 pub fn on_disconnection_req(
@@ -49,36 +48,6 @@ pub fn on_disconnection_req(
                 ChannelState::PeerDisconnecting(id),
                 Answer::Done,
             )
-        }
-    }
-}
-
-// Code 0x07: the slot of this link that waits for it is freed.
-pub fn on_disconnection_res(
-    t: Table,
-    room: &mut [u8],
-    out: &mut [u8],
-    link: u16,
-    id: u8,
-    read: DisconnectionResRead,
-) -> Served
-    requires { ⌜ RoomOf t (length (now room)) × (signalMost ≤ length (now out)) ⌝ }
-    ensures { λ r. ⌜ end r (now (room .exit)) (now (out .exit)) [] ≡ endOf t [] (now (room .entry)) (now (out .entry)) [] (onDisconnectionRes t link id read) ⌝ }
-{
-    match read {
-        DisconnectionResRead::Decode => rejects::bad_body(t, out, id),
-        DisconnectionResRead::Is(res) => {
-            let cid = Cid(res.scid);
-            if !slots::is_cid(t, cid) {
-                return slots::done(t);
-            }
-            let s = slots::number(slots::slot_of(cid));
-            let x = slots::slot_at(t, s);
-            let k = x.state;
-            if !(state::is_disconnecting(k) & (x.link == link)) {
-                return slots::done(t);
-            }
-            forms::free(t, room, s, x, Answer::Done)
         }
     }
 }

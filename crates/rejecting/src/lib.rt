@@ -1,5 +1,5 @@
 // The rejection of a pending whose result comes as a number, for callers that have numbers only. Defined in specs/Numbered.antt; it rests on
-// `accepting::reject_pending`.
+// `refusing::reject_pending`.
 ghost use mathlib.Core.Path.{_≡_};
 ghost use mathlib.Core.List.{[]};
 ghost use lib.ListN.{length};
@@ -41,7 +41,7 @@ pub fn reject_pending(
     ensures { λ r. ⌜ end r (now (room .exit)) (now (signal .exit)) [] ≡ endOf t [] (now (room .entry)) (now (signal .entry)) [] (rejectNumbered t (length (now (room .entry))) (length (now (signal .entry))) (slot .0) result) ⌝ }
 {
     match codes::result_of(result) {
-        ResultRead::Known(code) => accepting::reject_pending(t, room, signal, slot, code),
+        ResultRead::Known(code) => refusing::reject_pending(t, room, signal, slot, code),
         ResultRead::Unknown => not_code(t, room, signal, slot),
     }
 }

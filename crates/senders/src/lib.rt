@@ -28,7 +28,7 @@ pub fn send_conn_param_update_req(
         latency,
         timeout,
     };
-    asking::send_signal(t, signal, link, Signal::ConnParamUpdateReq(form))
+    telling::send_signal(t, signal, link, Signal::ConnParamUpdateReq(form))
 }
 
 // Answers the peer's request for connection parameters: 0 accepts, 1 refuses.
@@ -36,5 +36,5 @@ pub fn send_conn_param_update_res(t: Table, signal: &mut [u8], link: u16, result
     ensures { λ r. ⌜ end r [] (now (signal .exit)) [] ≡ endOf t [] [] (now (signal .entry)) [] (sendConnParamUpdateRes t (length (now (signal .entry))) link result) ⌝ }
 {
     let form = ConnParamUpdateRes { result };
-    asking::send_signal(t, signal, link, Signal::ConnParamUpdateRes(form))
+    telling::send_signal(t, signal, link, Signal::ConnParamUpdateRes(form))
 }

@@ -48,23 +48,10 @@ slot-at-requires c κs = search needs
 is-peer-disconnecting-requires : tie.Need-is-peer-disconnecting-requires
 is-peer-disconnecting-requires c κs = search needs
 
-identifier-of-requires : tie.Need-identifier-of-requires
-identifier-of-requires c κs = search needs
-
-index-at-requires : tie.Need-index-at-requires
-index-at-requires c κs =
-    let p = passed _ _ _ _ _ (sym (c .before .before .before .before .before .before .before .before .before .gate .ensures) ∙ c .before .before .before .before .before .before .before .enum-told .given .1) in
-    omega (arith, p .sizes .n-most)
-
-response-requires : tie.Need-response-requires
-response-requires c κs =
+respond-requires : tie.Need-respond-requires
+respond-requires c κs =
     let p = passed _ _ _ _ _ (sym (c .before .before .before .before .before .before .before .before .before .before .gate .ensures) ∙ c .before .before .before .before .before .before .before .before .enum-told .given .1) in
-    omega (arith, p .sizes .n-most)
-
-free-and-tell-requires : tie.Need-free-and-tell-requires
-free-and-tell-requires c κs =
-    let p = passed _ _ _ _ _ (sym (c .before .before .before .before .before .before .before .before .before .before .before .before .before .gate .ensures) ∙ c .before .before .before .before .before .before .before .before .before .before .before .enum-told .given .1) in
-    (room-of p, omega arith, p .signal-is)
+    (room-of p, omega arith, p .signal-is, omega (arith, p .sizes .n-most))
 
 same-length : tie.Need-same-length
 same-length c = search needs
@@ -76,38 +63,19 @@ returns-2 : tie.Need-returns-2
 unfolding choose sizes nextDisconnect
 returns-2 c =
     rw (
-      ← c .before .before .before .before .before .before .before .before .before .before .before .before .before .before .before .before .before .before .gate .ensures,
-      c .before .before .before .before .before .before .before .before .before .before .before .before .before .before .before .before .enum-told .given .1,
-      ← c .before .before .before .before .before .before .before .before .before .before .before .before .before .before .before .find .ensures,
-      lt-leb _ _ (c .before .before .before .before .before .before .before .before .before .before .before .before .before .if1 .left),
-      ← c .before .before .before .before .before .before .before .before .before .before .before .before .slot-at .ensures,
-      ← c .before .before .before .before .before .before .before .before .before .before .before .is-peer-disconnecting .ensures,
-      c .before .before .before .before .before .before .before .before .before .before .if2 .taken,
-    ) (rw (c .before .before .before .before .before .before .before .response .ensures, c .before .before .before .before .before .before .before .before .index-at .ensures, c .before .before .before .before .before .before .before .before .before .identifier-of .ensures) at (c .before .before .before .before .free-and-tell .ensures []))
-
-spent-requires : tie.Need-spent-requires
-spent-requires c κs = search needs
-
-next-id-requires : tie.Need-next-id-requires
-next-id-requires c κs = search needs
-
-in-state-requires : tie.Need-in-state-requires
-in-state-requires c κs = search needs
-
-index-at-requires-2 : tie.Need-index-at-requires-2
-index-at-requires-2 c κs =
-    let p = passed _ _ _ _ _ (sym (c .before .before .before .before .before .before .before .before .before .before .before .gate .ensures) ∙ c .before .before .before .before .before .before .before .before .before .enum-told .given .1) in
-    omega (arith, p .sizes .n-most)
+      ← c .before .before .before .before .before .before .before .before .before .before .before .before .before .before .before .gate .ensures,
+      c .before .before .before .before .before .before .before .before .before .before .before .before .before .enum-told .given .1,
+      ← c .before .before .before .before .before .before .before .before .before .before .before .before .find .ensures,
+      lt-leb _ _ (c .before .before .before .before .before .before .before .before .before .before .if1 .left),
+      ← c .before .before .before .before .before .before .before .before .before .slot-at .ensures,
+      ← c .before .before .before .before .before .before .before .before .is-peer-disconnecting .ensures,
+      c .before .before .before .before .before .before .before .if2 .taken,
+    ) (c .before .before .before .before .respond .ensures)
 
 request-requires : tie.Need-request-requires
 request-requires c κs =
-    let p = passed _ _ _ _ _ (sym (c .before .before .before .before .before .before .before .before .before .before .before .before .gate .ensures) ∙ c .before .before .before .before .before .before .before .before .before .before .enum-told .given .1) in
-    omega (arith, p .sizes .n-most)
-
-alter-and-tell-requires : tie.Need-alter-and-tell-requires
-alter-and-tell-requires c κs =
-    let p = passed _ _ _ _ _ (sym (c .before .before .before .before .before .before .before .before .before .before .before .before .before .before .gate .ensures) ∙ c .before .before .before .before .before .before .before .before .before .before .before .before .enum-told .given .1) in
-    p .signal-is
+    let p = passed _ _ _ _ _ (sym (c .before .before .before .before .before .before .before .before .before .gate .ensures) ∙ c .before .before .before .before .before .before .before .enum-told .given .1) in
+    (p .signal-is, omega (arith, p .sizes .n-most))
 
 returns-3 : tie.Need-returns-3
 unfolding choose sizes nextDisconnect
@@ -125,14 +93,14 @@ returns-4 : tie.Need-returns-4
 unfolding choose sizes nextDisconnect
 returns-4 c =
     rw (
-      ← c .before .before .before .before .before .before .before .before .before .before .before .before .before .before .before .before .before .gate .ensures,
-      c .before .before .before .before .before .before .before .before .before .before .before .before .before .before .before .enum-told .given .1,
-      ← c .before .before .before .before .before .before .before .before .before .before .before .before .before .before .find .ensures,
-      lt-leb _ _ (c .before .before .before .before .before .before .before .before .before .before .before .before .if1 .left),
-      ← c .before .before .before .before .before .before .before .before .before .before .before .slot-at .ensures,
-      ← c .before .before .before .before .before .before .before .before .before .before .is-peer-disconnecting .ensures,
-      c .before .before .before .before .before .before .before .before .before .if2 .left,
-    ) (rw (c .before .before .before .before .request .ensures, c .before .before .before .before .before .index-at2 .ensures, c .before .before .before .before .before .before .in-state .ensures, c .before .before .before .before .before .before .before .next-id .ensures, c .before .before .before .before .before .before .before .before .spent .ensures) at (c .before .before .alter-and-tell .ensures (c .before .before .before .before .before .before .before .before .before .before .before .before .before .before .before .before .before .before .before .before .args .t) (c .before .before .before .before .before .before .before .before .before .before .before .before .before .before .before .before .before .before .before .before .args .room .now) []))
+      ← c .before .before .before .before .before .before .before .before .before .before .before .before .gate .ensures,
+      c .before .before .before .before .before .before .before .before .before .before .enum-told .given .1,
+      ← c .before .before .before .before .before .before .before .before .before .find .ensures,
+      lt-leb _ _ (c .before .before .before .before .before .before .before .if1 .left),
+      ← c .before .before .before .before .before .before .slot-at .ensures,
+      ← c .before .before .before .before .before .is-peer-disconnecting .ensures,
+      c .before .before .before .before .if2 .left,
+    ) (c .before .before .request .ensures _ _ _)
 
 pub next-disconnect-spec : {M : Type 1} → statement M
 next-disconnect-spec =
@@ -147,19 +115,11 @@ next-disconnect-spec =
     returns
     slot-at-requires
     is-peer-disconnecting-requires
-    identifier-of-requires
-    index-at-requires
-    response-requires
-    free-and-tell-requires
+    respond-requires
     same-length
     same-length-2
     returns-2
-    spent-requires
-    next-id-requires
-    in-state-requires
-    index-at-requires-2
     request-requires
-    alter-and-tell-requires
     returns-3
     same-length-3
     returns-4)

@@ -6,7 +6,7 @@ use Rattle.definition.specs.Frames.{dispatch}
 use Rattle.definition.specs.Ending.{end-still}
 use Rattle.gate.specs.Passed.{passed}
 use Rattle.room.specs.Placed.{room-of}
-use Rattle.dispatching.specs.Framed.{admitted}
+use Rattle.admitting.specs.Admitted.{admitted}
 use borrow.Author.Needs.{needs}
 use Rattle.dispatching.proofs.dispatch.Statement.{statement}
 use Rattle.dispatching.proofs.dispatch.Tie as tie

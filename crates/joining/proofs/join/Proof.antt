@@ -7,7 +7,8 @@ use Rattle.definition.specs.Table.{width}
 use Rattle.definition.specs.Ending.{parts-none}
 use Rattle.room.specs.Placed.{placed}
 use Rattle.definition.specs.Frames.{joined}
-use Rattle.joining.specs.Joins.{joinMoves, moves-in, end-leaving}
+use Rattle.placing.specs.Moved.{joinMoves}
+use Rattle.joining.specs.Joins.{moves-in, end-leaving}
 use borrow.Author.Needs.{needs}
 use Rattle.joining.proofs.join.Statement.{statement}
 use Rattle.joining.proofs.join.Tie as tie

@@ -1,4 +1,4 @@
--- `senders::send_conn_param_update_req` meets its contract: `asking::send_signal` with this form.
+-- `senders::send_conn_param_update_req` meets its contract: `telling::send_signal` with this form.
 use borrow.Author.Needs.{needs}
 use Rattle.senders.proofs.send_conn_param_update_req.Statement.{statement}
 use Rattle.senders.proofs.send_conn_param_update_req.Tie as tie

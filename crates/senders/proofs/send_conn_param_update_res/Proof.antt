@@ -1,4 +1,4 @@
--- `senders::send_conn_param_update_res` meets its contract: `asking::send_signal` with this form.
+-- `senders::send_conn_param_update_res` meets its contract: `telling::send_signal` with this form.
 use borrow.Author.Needs.{needs}
 use Rattle.senders.proofs.send_conn_param_update_res.Statement.{statement}
 use Rattle.senders.proofs.send_conn_param_update_res.Tie as tie

@@ -1,0 +1,2 @@
+-- A frame that has passed the first refusals.
+pub mod Admitted

@@ -1,0 +1,2 @@
+-- What an accept that nothing refuses comes to.
+pub mod Agreed

@@ -1,2 +1,0 @@
--- The signals of a disconnect.
-pub mod Parting

@@ -1,0 +1,2 @@
+-- What is told the peer of a disconnect.
+pub mod Parting

@@ -1,0 +1,40 @@
+// A connection that we asked for given up (the clean-up of `poll_created` in the original). The contract is the equation with the definition
+// of that call.
+ghost use mathlib.Core.Path.{_≡_};
+ghost use mathlib.Core.List.{[]};
+ghost use lib.ListN.{length};
+ghost use Rattle.definition.specs.Ending.{end, endOf};
+ghost use Rattle.definition.specs.Opening.{giveUp};
+use channel::Answer;
+use channel::ChannelIndex;
+use channel::Given;
+use channel::Served;
+use channel::Table;
+use channel::Verdict;
+use codes::Refusal;
+
+// Gives our attempt up.
+pub fn give_up(t: Table, room: &mut [u8], slot: ChannelIndex) -> Served
+    ensures { λ r. ⌜ end r (now (room .exit)) [] [] ≡ endOf t [] (now (room .entry)) [] [] (giveUp t (length (now (room .entry))) (slot .0)) ⌝ }
+{
+    let s = slots::number(slot);
+    match gate::gate(
+        t,
+        Given::Is(room.len()),
+        Given::Nothing,
+        Given::Nothing,
+        Given::Is(s),
+    ) {
+        Verdict::Stop(r) => slots::refused(t, r),
+        Verdict::Pass => {
+            let x = slots::slot_at(t, s);
+            let k = x.state;
+            if state::is_connecting(k)
+                | (state::is_connect_failed(k) | (state::is_connected(k) & (x.hold == 0)))
+            {
+                return forms::free(t, room, s, x, Answer::Done);
+            }
+            slots::refused(t, Refusal::NotFound)
+        }
+    }
+}

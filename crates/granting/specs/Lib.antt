@@ -1,0 +1,2 @@
+-- What a take that grants credits comes to.
+pub mod Granted

@@ -1,0 +1,2 @@
+-- A payload joined in its slot's part of the room.
+pub mod Moved

@@ -1,0 +1,2 @@
+-- The opened query of a slot in use.
+pub mod Polled

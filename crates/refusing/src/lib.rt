@@ -1,0 +1,63 @@
+// A pending connection rejected (the original's name). The contract is the equation with the definition of that call, for the answer, the
+// table and every lent slice.
+ghost use mathlib.Core.Path.{_≡_};
+ghost use mathlib.Core.List.{[]};
+ghost use lib.ListN.{length};
+ghost use Rattle.definition.specs.Ending.{end, endOf};
+ghost use Rattle.definition.specs.Pending.{rejectPending};
+use channel::Answer;
+use channel::ChannelIndex;
+use channel::Given;
+use channel::Served;
+use channel::Table;
+use channel::Verdict;
+use codes::LeCreditConnResultCode;
+use codes::Refusal;
+use signal::forms::LeCreditConnRes;
+use signal::forms::Signal;
+
+// Rejects a pending connection: the response with that result, and the slot is freed.
+pub fn reject_pending(
+    t: Table,
+    room: &mut [u8],
+    signal: &mut [u8],
+    slot: ChannelIndex,
+    result: LeCreditConnResultCode,
+) -> Served
+    ensures { λ r. ⌜ end r (now (room .exit)) (now (signal .exit)) [] ≡ endOf t [] (now (room .entry)) (now (signal .entry)) [] (rejectPending t (length (now (room .entry))) (length (now (signal .entry))) (slot .0) result) ⌝ }
+{
+    let s = slots::number(slot);
+    match gate::gate(
+        t,
+        Given::Is(room.len()),
+        Given::Is(signal.len()),
+        Given::Nothing,
+        Given::Is(s),
+    ) {
+        Verdict::Stop(r) => slots::refused(t, r),
+        Verdict::Pass => {
+            let x = slots::slot_at(t, s);
+            let k = x.state;
+            if !state::is_peer_connecting(k) {
+                return slots::refused(t, Refusal::NotFound);
+            }
+            let hold = x.hold;
+            if hold == 0 {
+                return slots::refused(t, Refusal::Held);
+            }
+            let id = state::identifier_of(k);
+            let y = slot::with_hold(x, hold - 1);
+            let res = LeCreditConnRes::reject(result);
+            forms::free_and_tell(
+                t,
+                room,
+                signal,
+                s,
+                y,
+                Answer::Link(x.link),
+                id,
+                Signal::LeCreditConnRes(res),
+            )
+        }
+    }
+}

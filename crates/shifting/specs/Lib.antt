@@ -1,0 +1,2 @@
+-- The moves of a job that is handed out.
+pub mod Upwards

@@ -1,0 +1,2 @@
+-- Two tests with one refusal.
+pub mod Sizing

@@ -1,0 +1,2 @@
+-- What a create that nothing refuses comes to.
+pub mod Started

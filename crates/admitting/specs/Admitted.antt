@@ -79,30 +79,3 @@ pub frame-joins : (t : Table) (link cid : ℕ) (p : List ℕ) (s : ℕ) (x : Slo
     (joined t s x (length (jobOctets (x .assembly) p)) (joinStep (x .mtu) (x .mps) (t .d) (x .assembly) (x .queue .count) (length p) (u16At p 0)))
 frame-joins t link cid p s x room named mine =
     rw (jobs-are t link cid p (x .assembly) named mine, head-is t link cid p (x .assembly) named mine, step-of (x .mtu) (x .mps) (t .d) (x .assembly) (x .queue .count) p (isIdle (x .assembly)) refl)
-
--- ---- what the slot holds of an assembly fits its place
-
-every-any : {A : Type 0} (p : A → Bool) (d : A) (xs : List A) → every p xs ≡ true → p d ≡ true → (i : ℕ) → p (getD xs i d) ≡ true
-unfolding every
-every-any p d [] e f i = f
-every-any p d (x ∷ xs) e f zero = and-left (p x) _ e
-every-any p d (x ∷ xs) e f (suc i) = every-any p d xs (and-right (p x) _ e) f i
-
-gap-fits : (d place : ℕ) → slotFits d place gap ≡ true
-unfolding slotFits every
-gap-fits d place = rw (le-leb 0 d (omega arith), le-leb 0 place (omega arith))
-
-have-of : (d place : ℕ) (x : Slot) → slotFits d place x ≡ true → x .assembly .have ≤ place
-unfolding slotFits
-have-of d place x e =
-    let waiting = and-right (leb (x .queue .count) d) _ e in
-    let jobs-fit = and-right (every (λ n. leb n place) (take (x .queue .count) (x .queue .lens))) _ waiting in
-    leb-true (x .assembly .have) place (and-left (leb (x .assembly .have) place) _ jobs-fit)
-
-pub have-fits : (t : Table) (s : ℕ) → wellFormed t ≡ true → s < t .n → slotAt t s .assembly .have ≤ placeOf t
-unfolding wellFormed
-have-fits t s well h =
-    let all : every (slotFits (t .d) (placeOf t)) (live t) ≡ true = and-right (sizesFit (t .n) (t .d) (t .m)) _ well in
-    let fit : slotFits (t .d) (placeOf t) (slotAt t s) ≡ true =
-    ap (slotFits (t .d) (placeOf t)) (sym (getD-take (t .n) (t .slots) s gap h)) ∙ every-any (slotFits (t .d) (placeOf t)) gap (live t) all (gap-fits (t .d) (placeOf t)) s in
-    have-of (t .d) (placeOf t) (slotAt t s) fit

@@ -15,16 +15,11 @@ use Rattle.definition.specs.Table.{withAccount, cidOf, nextId, spent}
 use Rattle.definition.specs.Ending.{end, endOf}
 use Rattle.definition.specs.Frames.{taken}
 use Rattle.reply.specs.Reply.{Replied}
-use Rattle.room.specs.Placed.{RoomOf}
 use Rattle.handing.specs.Handed.{Handed, hands-telling}
 
 -- The signal that grants n credits to slot s's peer.
 abbrev pub crediting : (s n : ℕ) → LeCreditFlowInd
 crediting s n = record { cid = cidOf s; credits = n }
-
--- the room of a table is its room once an identifier was used
-pub room-spent : {t u : Table} {long : ℕ} → u ≡ spent t → RoomOf t long → RoomOf u long
-room-spent e p = rw e (record { sizes = p .sizes; is = p .is })
 
 -- the identifier is used, the credits are booked, and their signal is written
 pub takes-granting : (t : Table) (s : ℕ) (x : Slot) {room job : List ℕ} {r : Served} {room′ job′ : List ℕ} (out : List ℕ) {u : Table} {y : Slot} {id n octets : ℕ} {ind : LeCreditFlowInd} {out′ : List ℕ}

@@ -10,7 +10,8 @@ use Rattle.definition.specs.Mem.{sizes}
 use Rattle.definition.specs.Table.{slotAt, slotOf, withAccount}
 use Rattle.definition.specs.Ending.{end-still}
 use Rattle.slots.specs.Named.{named}
-use Rattle.admitting.specs.Admitted.{admitted, frame-joins, have-fits}
+use Rattle.gate.specs.Fits.{have-fits}
+use Rattle.admitting.specs.Admitted.{admitted, frame-joins}
 use borrow.Author.Needs.{needs}
 use Rattle.admitting.proofs.admitted.Statement.{statement}
 use Rattle.admitting.proofs.admitted.Tie as tie

@@ -1,5 +1,6 @@
 -- `granting::hand_and_grant` meets its contract: what was handed out, booked and written is the end of a take that grants (takes-granting).
-use Rattle.granting.specs.Granted.{room-spent, takes-granting}
+use Rattle.room.specs.Placed.{room-spent}
+use Rattle.granting.specs.Granted.{takes-granting}
 use borrow.Author.Needs.{needs}
 use Rattle.granting.proofs.hand_and_grant.Statement.{statement}
 use Rattle.granting.proofs.hand_and_grant.Tie as tie

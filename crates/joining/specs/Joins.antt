@@ -11,7 +11,8 @@ use Rattle.sar.specs.declared.Assembly.{Assembly}
 use Rattle.sar.specs.declared.Joined.{Joined}
 use Rattle.sar.specs.declared.Joined.the-variants as Joined
 use Rattle.sar.specs.Joining.{isIdle, assembled, jobOctets}
-use Rattle.sar_room.specs.SarRoom.{queueAt, finish, joinPart}
+use Rattle.sar_places.specs.SarPlaces.{finish}
+use Rattle.sar_room.specs.SarRoom.{queueAt, joinPart}
 use Rattle.channel.specs.declared.Answer.{Answer}
 use Rattle.channel.specs.declared.ChannelState.{ChannelState}
 use Rattle.channel.specs.declared.Served.{Served}

@@ -1,17 +1,8 @@
--- The PDU of one signal (Core Vol 3 Part A 3.1 and 4; document 01): length, CID 0x0005, then code, identifier, body length, body. Numbers are
--- two octets, the lower first.
-use mathlib.Core.List.{List, [], _∷_, _++_}
-use Prim.Native.Nat.{ℕ, _+_, _*_, _/_, _%_}
+-- The PDU of one signal (Core Vol 3 Part A 3.1 and 4; document 01): its head, and its body, of fields of two octets.
+use mathlib.Core.List.{List, _++_}
+use Prim.Native.Nat.{ℕ, _*_}
 use lib.ListN.{length}
-use Rattle.octets.specs.Octets.{le16}
-
--- fields of two octets each
-abbrev pub octetsOf : List ℕ → List ℕ
-octetsOf [] = []
-octetsOf (f ∷ fs) = f % 256 ∷ f / 256 ∷ octetsOf fs
-
-abbrev pub headOf : ℕ → ℕ → ℕ → List ℕ
-headOf code id n = octetsOf ((4 + n) ∷ 5 ∷ []) ++ (code ∷ id ∷ le16 n)
+pub use Rattle.signal_head.specs.SignalHead.{octetsOf, headOf}
 
 abbrev pub pduOf : ℕ → ℕ → List ℕ → List ℕ
 pduOf code id fs = headOf code id (2 * length fs) ++ octetsOf fs

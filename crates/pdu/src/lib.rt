@@ -1,23 +1,10 @@
-// The PDU of one signal, written from the buffer's start: length, CID 0x0005, code, identifier, body length (Core Vol 3 Part A 3.1 and 4),
-// then as many fields of two octets as the form has.
-use octets::put;
+// The PDU of one signal, written from the buffer's start: the head, then as many fields of two octets as the form has.
 use octets::put_number;
+use signal_head::put_head;
 ghost use mathlib.Core.Path.{_≡_};
 ghost use mathlib.Core.List.{[], _∷_};
-ghost use Prim.Native.Nat.{_≤_};
 ghost use lib.Seq.{sets};
-ghost use Rattle.pdu.specs.Pdu.{headOf, pduOf};
-
-fn put_head(out: &mut [u8], code: u8, id: u8, n: u16)
-    requires { ⌜ n ≤ 10 ⌝ }
-    ensures { λ _. ⌜ now (out .exit) ≡ sets (now (out .entry)) 0 (headOf code id n) ⌝ }
-{
-    put_number(out, 0, 4 + n);
-    put_number(out, 2, 5);
-    put(out, 4, code);
-    put(out, 5, id);
-    put_number(out, 6, n);
-}
+ghost use Rattle.pdu.specs.Pdu.{pduOf};
 
 pub fn put_one(out: &mut [u8], code: u8, id: u8, a: u16)
     ensures { λ _. ⌜ now (out .exit) ≡ sets (now (out .entry)) 0 (pduOf code id (a ∷ [])) ⌝ }

@@ -10,7 +10,8 @@ use Rattle.sar.specs.declared.Assembly.{Assembly}
 use Rattle.sar.specs.declared.Joined.{Joined}
 use Rattle.sar.specs.declared.Joined.the-variants as Joined
 use Rattle.sar.specs.Joining.{isIdle, assembled, jobOctets}
-use Rattle.sar_room.specs.SarRoom.{queueAt, finish, joinPart}
+use Rattle.sar_places.specs.SarPlaces.{finish}
+use Rattle.sar_room.specs.SarRoom.{queueAt, joinPart}
 use Rattle.definition.specs.Mem.{zeros, job, held, Move, put, fill, move, moves}
 use Rattle.definition.specs.Table.{if_then_else_}
 use Rattle.definition.specs.Ending.{itself}

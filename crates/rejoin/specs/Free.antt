@@ -18,7 +18,8 @@ use Rattle.sar.specs.declared.Assembly.{Assembly}
 use Rattle.sar.specs.declared.Joined.{Joined}
 use Rattle.sar.specs.declared.Joined.the-variants.{Refused, Dropped, Finished, Assembling}
 use Rattle.sar.specs.Joining.{isIdle, idle, joinStep, assembled, jobOctets}
-use Rattle.sar_room.specs.SarRoom.{joinPart, finish, queueAt}
+use Rattle.sar_places.specs.SarPlaces.{finish}
+use Rattle.sar_room.specs.SarRoom.{joinPart, queueAt}
 use Rattle.sar_room.specs.RoomLaws.{total, wanted, wanted-next, step-cases}
 
 -- ---- what is written

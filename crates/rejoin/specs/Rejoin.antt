@@ -22,9 +22,11 @@ use Rattle.sar.specs.declared.Assembly.{Assembly}
 use Rattle.sar.specs.declared.Joined.{Joined}
 use Rattle.sar.specs.declared.Joined.the-variants.{Finished, Assembling}
 use Rattle.sar.specs.Joining.{idle, joinStep}
-use Rattle.sar_room.specs.SarRoom.{joinPart, finish, queueAt}
+use Rattle.sar_places.specs.SarPlaces.{finish}
+use Rattle.sar_room.specs.SarRoom.{joinPart, queueAt}
 use Rattle.sar.specs.JoinLaws.{reached-part, reached-whole, first-reaches, next-reaches}
-use Rattle.sar_room.specs.RoomLaws.{grow-first, grow-next, finish-first, finish-joined, within}
+use Rattle.sar_places.specs.PlaceLaws.{grow-first, grow-next, finish-first, finish-joined}
+use Rattle.sar_room.specs.RoomLaws.{within}
 use Rattle.rejoin.specs.Run.{Side, ran, after, stepOn, run}
 
 -- what is written over no more than what was written is all that stays

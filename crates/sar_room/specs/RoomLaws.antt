@@ -1,13 +1,11 @@
--- Laws of joining in the room: what is written, case by case; and what a step says, from the cases of the step.
+-- Laws of joining in the room: what a step says, from its cases, and where a finished job lies.
 use mathlib.Core.Path.{_≡_}
 use Prim.Native.Nat.{ℕ, suc, _+_, _-_, _*_, _≤_, _<_}
 use mathlib.Core.List.{List}
 use native.Mathlib.Numerals.{add-one}
-use lib.ListN.{length, replicate, length-drop}
-use lib.Seq.{sets, take-length}
+use lib.ListN.{length, length-drop}
 use lib.Dec.{ltb, leb}
-use Rattle.octets.specs.Octets.{part, u16At}
-use Rattle.octets.specs.Sets.{tail-part}
+use Rattle.octets.specs.Octets.{u16At}
 use native.Mathlib.Nat.{suc-mul, mul-le-mul-right}
 use native.Mathlib.Omega.{arith}
 use borrow.Author.Tests.{ltb-true, ltb-false, leb-true, leb-false, eqb-true, eqb-false, eq-eqb, ne-eqb}
@@ -17,26 +15,6 @@ use Rattle.sar.specs.declared.Assembly.{Assembly}
 use Rattle.sar.specs.declared.Joined.{Joined}
 use Rattle.sar.specs.declared.Joined.the-variants.{Refused, Dropped, Finished, Assembling}
 use Rattle.sar.specs.Joining.{isIdle, reached, firstStep, joinStep, assembled, jobOctets}
-use Rattle.sar_room.specs.SarRoom.{finish}
-
--- ---- what is written, case by case
-module _ (a : Assembly) (xs p : List ℕ) where
-  pub grow-first : a .want ≡ 0 → sets xs 0 (part p 2 (length p - 2)) ≡ sets xs (assembled a) (jobOctets a p)
-  unfolding assembled jobOctets choose
-  grow-first none = rw (eq-eqb (a .want) 0 none, tail-part 2 p)
-
-  pub grow-next : (a .want ≡ 0 → ⊥) → sets xs (a .have) (part p 0 (length p)) ≡ sets xs (assembled a) (jobOctets a p)
-  unfolding assembled jobOctets choose
-  grow-next some = rw (ne-eqb (a .want) 0 some, take-length p)
-
-  pub finish-first : (place at : ℕ) → a .want ≡ 0 → sets xs at (part p 2 (length p - 2)) ≡ finish place a at xs p
-  unfolding finish choose
-  finish-first place at none = rw (eq-eqb (a .want) 0 none, tail-part 2 p)
-
-  pub finish-joined : (place at : ℕ) → (a .want ≡ 0 → ⊥)
-      → sets (sets (sets xs at (part xs 0 (a .have))) (at + a .have) (part p 0 (length p))) 0 (replicate place 0) ≡ finish place a at xs p
-  unfolding finish choose
-  finish-joined place at some = rw (ne-eqb (a .want) 0 some, take-length p)
 
 -- ---- what a step says
 

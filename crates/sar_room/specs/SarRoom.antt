@@ -1,25 +1,18 @@
 -- What a joined payload leaves in the slot's part of the room (document 01, 'Cutting, joining, credits'; Core Vol 3 Part A 3.4), of places of
 -- that size: the place for assembly, then the places of the finished jobs.
 use mathlib.Core.List.{List}
-use Prim.Native.Nat.{ℕ, suc, _+_, _*_}
-use lib.ListN.{drop, replicate}
+use Prim.Native.Nat.{ℕ, suc, _*_}
+use lib.ListN.{replicate}
 use lib.Seq.{sets}
-use Rattle.lists.specs.Choose.{choose}
-use Rattle.octets.specs.Octets.{part}
 use Rattle.sar.specs.declared.Assembly.{Assembly}
 use Rattle.sar.specs.declared.Joined.{Joined}
 use Rattle.sar.specs.declared.Joined.the-variants.{Refused, Dropped, Finished, Assembling}
-use Rattle.sar.specs.Joining.{isIdle, assembled, jobOctets}
+use Rattle.sar.specs.Joining.{assembled, jobOctets}
+use Rattle.sar_places.specs.SarPlaces.{finish}
 
 -- where the next finished job goes
 abbrev pub queueAt : ℕ → ℕ → ℕ
 queueAt place queued = suc queued * place
-
--- a job that one frame carries goes straight to its place at `at`; one that was assembled goes there, and the place for assembly is zeroed
-unfoldable pub finish : ℕ → Assembly → ℕ → List ℕ → List ℕ → List ℕ
-finish place a at xs p =
-    choose (isIdle a) (sets xs at (drop 2 p))
-    (sets (sets (sets xs at (part xs 0 (a .have))) (at + a .have) p) 0 (replicate place 0))
 
 -- a refusal leaves the part to the caller, who leaves Connected
 unfoldable pub joinPart : ℕ → Assembly → ℕ → Joined → List ℕ → List ℕ → List ℕ

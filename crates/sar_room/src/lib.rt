@@ -1,55 +1,15 @@
-// Joining the payloads of K-frames to a job in a slot's part of the room (l2cap/sar.rs in the original; Core Vol 3 Part A 3.4), over the step
-// that sar decides. What is right stands in specs/SarRoom.antt; it rests on `octets`.
+// Joining the payloads of K-frames to a job in a slot's part of the room (l2cap/sar.rs in the original; Core Vol 3 Part A 3.4): the step that sar
+// decides, and what sar_places writes for it. What is right stands in specs/SarRoom.antt.
 use sar::Assembly;
 use sar::Joined;
+use sar_places::grow;
+use sar_places::put_job;
 ghost use mathlib.Core.Path.{_≡_};
 ghost use Prim.Native.Nat.{_+_, _*_, _≤_};
 ghost use lib.ListN.{length};
-ghost use lib.Seq.{sets};
-ghost use Rattle.octets.specs.Octets.{part, u16At};
-ghost use Rattle.sar.specs.Joining.{joinStep, assembled, jobOctets};
-ghost use Rattle.sar_room.specs.SarRoom.{finish, joinPart};
-
-// Copies the first `n` octets of `places` to index `at`, which lies behind them.
-fn lift(places: &mut [u8], at: usize, n: usize)
-    requires { ⌜ n ≤ at ⌝ }
-    ensures { λ _. ⌜ now (places .exit) ≡ sets (now (places .entry)) at (part (now (places .entry)) 0 n) ⌝ }
-{
-    let m = octets::least(n, octets::left(places.len(), at));
-    let mut i: usize = 0;
-    while i < m {
-        places[at + i] = places[i];
-        i += 1;
-    }
-}
-
-// The payload's octets of the job come to those in the place for assembly.
-fn grow(places: &mut [u8], a: Assembly, payload: &[u8])
-    ensures { λ _. ⌜ now (places .exit) ≡ sets (now (places .entry)) (assembled a) (jobOctets a (now (payload .entry))) ⌝ }
-{
-    let n = payload.len();
-    if a.want == 0 {
-        octets::copy_to(places, 0, payload, 2, octets::left(n, 2));
-        return;
-    }
-    octets::copy_to(places, a.have as usize, payload, 0, n);
-}
-
-// The whole job goes to its own place, at `at`; a place for assembly that was in use is zeroed.
-fn put_job(places: &mut [u8], place: usize, a: Assembly, at: usize, payload: &[u8])
-    requires { ⌜ (at + place ≤ length (now places)) × (a .have ≤ place) × (place ≤ at) ⌝ }
-    ensures { λ _. ⌜ now (places .exit) ≡ finish place a at (now (places .entry)) (now (payload .entry)) ⌝ }
-{
-    let n = payload.len();
-    if a.want == 0 {
-        octets::copy_to(places, at, payload, 2, octets::left(n, 2));
-        return;
-    }
-    let have = a.have as usize;
-    lift(places, at, have);
-    octets::copy_to(places, at + have, payload, 0, n);
-    octets::zero(places, 0, place);
-}
+ghost use Rattle.octets.specs.Octets.{u16At};
+ghost use Rattle.sar.specs.Joining.{joinStep};
+ghost use Rattle.sar_room.specs.SarRoom.{joinPart};
 
 // Joins a payload in a slot's part of the room: its place for assembly and the `d` places of its finished jobs, `place` octets each.
 // A refusal by which the channel is left leaves the part as it is: who leaves Connected zeroes the place for assembly.

@@ -1,7 +1,7 @@
--- `pdu::put_head` meets its contract: the runs of stores follow one another.
+-- `signal_head::put_head` meets its contract: the runs of stores follow one another.
 use borrow.Author.Needs.{needs}
-use Rattle.pdu.proofs.put_head.Statement.{statement}
-use Rattle.pdu.proofs.put_head.Tie as tie
+use Rattle.signal_head.proofs.put_head.Statement.{statement}
+use Rattle.signal_head.proofs.put_head.Tie as tie
 
 add-put-number : tie.Need-add-put-number
 add-put-number c = search needs

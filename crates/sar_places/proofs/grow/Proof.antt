@@ -1,9 +1,9 @@
--- `sar_room::grow` meets its contract: each of its two copies is one case of what is written.
+-- `sar_places::grow` meets its contract: each of its two copies is one case of what is written.
 use mathlib.Core.Path.{_∙_}
-use Rattle.sar_room.specs.RoomLaws.{grow-first, grow-next}
+use Rattle.sar_places.specs.PlaceLaws.{grow-first, grow-next}
 use borrow.Author.Needs.{needs}
-use Rattle.sar_room.proofs.grow.Statement.{statement}
-use Rattle.sar_room.proofs.grow.Tie as tie
+use Rattle.sar_places.proofs.grow.Statement.{statement}
+use Rattle.sar_places.proofs.grow.Tie as tie
 
 left-requires : tie.Need-left-requires
 left-requires c κs = search needs

@@ -1,4 +1,4 @@
--- `sar_room::lift` meets its contract: the loop writes the first octets as they were (Writing), and they stay, since they lie before what is written.
+-- `sar_places::lift` meets its contract: the loop writes the first octets as they were (Writing), and they stay, since they lie before what is written.
 use mathlib.Core.Path.{_≡_, refl, sym, _∙_}
 use Prim.Native.Nat.{ℕ, _+_, _-_, _≤_, _<_}
 use native.Mathlib.Nat.{zero-add}
@@ -8,8 +8,8 @@ use lib.ListN.{getD, length-take, length-drop}
 use lib.Seq.{getD-set-other}
 use Rattle.octets.specs.Octets.{part}
 use Rattle.octets.specs.Sets.{Writing, writing-none, writing-more, writing-end, part-at}
-use Rattle.sar_room.proofs.lift.Statement.{statement}
-use Rattle.sar_room.proofs.lift.Tie as tie
+use Rattle.sar_places.proofs.lift.Statement.{statement}
+use Rattle.sar_places.proofs.lift.Tie as tie
 
 abbrev Inv-loop : tie.InvT-loop
 Inv-loop places₀ at n m i₀ places i = (i ≤ m) × Writing places₀ at (part places₀ 0 n) i places × ((k : ℕ) → k < at → getD places k 0 ≡ getD places₀ k 0)

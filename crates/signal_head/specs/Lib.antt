@@ -1,0 +1,2 @@
+-- The head of a signal's PDU.
+pub mod SignalHead

@@ -9,11 +9,11 @@ ghost use Rattle.channel.specs.Limits.{signalMost};
 ghost use Rattle.definition.specs.Ending.{end, endOf};
 ghost use Rattle.definition.specs.Signals.{onDisconnectionRes};
 ghost use Rattle.room.specs.Placed.{RoomOf};
+use bodies::DisconnectionResRead;
 use channel::Answer;
 use channel::Cid;
 use channel::Served;
 use channel::Table;
-use bodies::DisconnectionResRead;
 
 // Code 0x07: the slot of this link that waits for it is freed.
 pub fn on_disconnection_res(

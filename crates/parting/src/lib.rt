@@ -9,12 +9,12 @@ ghost use Rattle.channel.specs.Limits.{signalMost};
 ghost use Rattle.definition.specs.Ending.{end, endOf};
 ghost use Rattle.definition.specs.Signals.{onDisconnectionReq};
 ghost use Rattle.room.specs.Placed.{RoomOf};
+use bodies::DisconnectionReqRead;
 use channel::Answer;
 use channel::ChannelState;
 use channel::Cid;
 use channel::Served;
 use channel::Table;
-use bodies::DisconnectionReqRead;
 
 // Code 0x06: a slot of this link that the CID names is to answer; another CID is rejected.
 pub fn on_disconnection_req(

@@ -12,10 +12,10 @@ ghost use Rattle.channel.specs.declared.Table.{Table as TableOf};
 ghost use Rattle.definition.specs.Outcome.{still};
 ghost use Rattle.definition.specs.Ending.{end, endOf};
 ghost use Rattle.definition.specs.Signals.{rejectReply, onParameters};
+use bodies::read_conn_param_update_req;
 use channel::Answer;
 use channel::Served;
 use channel::Table;
-use bodies::read_conn_param_update_req;
 
 // Code 0x12: a central alone takes parameters; any other side rejects before the body is read.
 pub fn on_update(t: Table, out: &mut [u8], central: bool, id: u8, body: &[u8]) -> Served

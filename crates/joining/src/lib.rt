@@ -1,5 +1,5 @@
 // A frame of a slot whose credit is used: joined in the slot's part of the room, and what the slot becomes by it. The crate
-// `dispatching` asks first whose frame it is.
+// `admitting` asks first whose frame it is.
 ghost use mathlib.Core.Path.{_≡_};
 ghost use mathlib.Core.List.{[]};
 ghost use Prim.Native.Nat.{_≤_, _<_};

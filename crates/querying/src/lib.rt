@@ -1,5 +1,5 @@
-// The query of a slot whose answer is known: it is told where the gate lets the call pass. `told` is `pub` for the queries of `asking`; its contract is
-// the equation with the definition's query.
+// The query of a slot whose answer is known: it is told where the gate lets the call pass. `told` is `pub` for the queries of `asking`; its
+// contract is the equation with the definition's query.
 ghost use mathlib.Core.Path.{_≡_};
 ghost use Rattle.definition.specs.Ending.{servedOf};
 ghost use Rattle.definition.specs.Asking.{query};

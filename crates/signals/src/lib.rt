@@ -1,6 +1,7 @@
 // One signal PDU (`signal` in the original): every header is checked, then the first signal goes to the handler of its code. The contract
 // is the equation with the definition. A whole PDU is fed one call a signal: call `signal`, hand out the reply that it wrote, and go on with
-// `remaining::rest` of the PDU until that is empty. It is shorter each time, so that this ends, and its headers are good (signal_laws, specs/Feeding.antt).
+// `remaining::rest` of the PDU until that is empty. It is shorter each time, so that this ends, and its headers are good (signal_laws,
+// specs/Feeding.antt).
 ghost use mathlib.Core.Path.{_≡_};
 ghost use mathlib.Core.List.{[]};
 ghost use lib.ListN.{length};

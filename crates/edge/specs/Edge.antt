@@ -44,7 +44,8 @@ lifted ok table answer e =
       job = e .job;
     }
 
--- A call on the table that the octets spell. Octets that spell none are read as a table of no slots, which every call refuses by 1.
+-- A call on the table that the octets spell. Octets that spell none are read as a table of no slots, which every call refuses by 1: table, room
+-- and buffers stay as they were (NoTable.antt and Entries.antt of `edge_laws`).
 unfoldable pub onTable : (table answer : List ℕ) → (Table → End) → Edge
 onTable table answer call = lifted (read table .ok) table answer (call (read table .table))
 

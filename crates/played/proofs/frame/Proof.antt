@@ -1,0 +1,25 @@
+-- `played::frame` meets its contract: the row is read off the call's end (by-end).
+use mathlib.Core.Path.{refl}
+use Rattle.played.specs.Played.{withNone}
+use Rattle.played.specs.PlayedLaws.{by-end}
+use borrow.Author.Needs.{needs}
+use Rattle.played.proofs.frame.Statement.{statement}
+use Rattle.played.proofs.frame.Tie as tie
+
+dispatch-requires : tie.Need-dispatch-requires
+dispatch-requires c κs = search needs
+
+told-requires : tie.Need-told-requires
+told-requires c κs = search needs
+
+same-length : tie.Need-same-length
+same-length c = search needs
+
+same-length-2 : tie.Need-same-length-2
+same-length-2 c = search needs
+
+returns : tie.Need-returns
+returns c = by-end withNone (c .before .before .before .before .before .before .before .dispatch .ensures) (record { table = refl; room = refl; text = c .before .before .before .told .ensures })
+
+pub frame-spec : {M : Type 1} → statement M
+frame-spec = tie.close (tie.spec dispatch-requires told-requires same-length same-length-2 returns)

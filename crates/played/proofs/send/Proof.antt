@@ -1,0 +1,40 @@
+-- `played::send` meets its contract: the row is read off the call's end (by-end).
+use mathlib.Core.Path.{refl}
+use Rattle.played.specs.Played.{withFrames}
+use Rattle.played.specs.PlayedLaws.{by-end}
+use borrow.Author.Needs.{needs}
+use Rattle.played.proofs.send.Statement.{statement}
+use Rattle.played.proofs.send.Tie as tie
+
+slot-of-requires : tie.Need-slot-of-requires
+slot-of-requires c κs = search needs
+
+send-requires : tie.Need-send-requires
+send-requires c κs = search needs
+
+first-requires : tie.Need-first-requires
+first-requires c κs = search needs
+
+answered-requires : tie.Need-answered-requires
+answered-requires c κs = search needs
+
+same-length : tie.Need-same-length
+same-length c = search needs
+
+same-length-2 : tie.Need-same-length-2
+same-length-2 c = search needs
+
+returns : tie.Need-returns
+returns c = rw (← c .before .before .before .before .before .before .before .before .before .before .before .slot-of .ensures) (by-end (withFrames (c .before .before .before .before .before .before .before .before .before .before .before .before .before .before .before .before .args .room .now)) (c .before .before .before .before .before .before .before .before .before .send .ensures) (record { table = refl; room = refl; text = rw (← c .before .before .before .before .first .ensures) (c .before .before .before .answered .ensures) }))
+
+pub send-spec : {M : Type 1} → statement M
+send-spec =
+    tie.close
+    (tie.spec
+    slot-of-requires
+    send-requires
+    first-requires
+    answered-requires
+    same-length
+    same-length-2
+    returns)

@@ -1,0 +1,3 @@
+-- A call and its row.
+pub mod Played
+pub mod PlayedLaws

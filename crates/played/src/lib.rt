@@ -1,0 +1,132 @@
+// A call and its row (docs/CHANRUN.md): the call is made on the table and the lent room, and its row is written at the start of a lent `row`. What
+// each comes to is defined in specs/Played.antt; it rests on the calls and on `printed`.
+ghost use mathlib.Core.Path.{_≡_};
+ghost use lib.ListN.{length, take};
+ghost use Rattle.played.specs.Played.{Plays, plainOf, openedOf, signalOf, frameOf, sendOf, takeOf, sizeOf, spelledOf};
+use called::called;
+use called::slot_of;
+use channel::Cid;
+use channel::Table;
+use commands::Command;
+use hex::HexRead;
+use printed::first;
+use words::Word;
+
+// The table after a call, and the octets of its row.
+pub struct Played {
+    pub table: Table,
+    pub octets: usize,
+}
+
+// `R`, `P`, `J`, `A` and the others that `called` makes.
+pub fn plain(t: Table, c: Command, room: &mut [u8], row: &mut [u8]) -> Played
+    ensures { λ r. ⌜ Plays (plainOf t (now (room .entry)) c) (now (row .entry)) r (now (room .exit)) (now (row .exit)) ⌝ }
+{
+    let mut signal = [0u8; 18];
+    let s = called(t, c, room, &mut signal);
+    let answer = s.answer;
+    let octets = printed::answered(row, answer, first(&signal, s.octets));
+    let table = s.table;
+    Played { table, octets }
+}
+
+// `O`
+pub fn opened(t: Table, c: Command, room: &mut [u8], row: &mut [u8]) -> Played
+    ensures { λ r. ⌜ Plays (openedOf t (now (room .entry)) c) (now (row .entry)) r (now (room .exit)) (now (row .exit)) ⌝ }
+{
+    let mut signal = [0u8; 18];
+    let s = called(t, c, room, &mut signal);
+    let answer = s.answer;
+    let octets = printed::opened(row, answer);
+    let table = s.table;
+    Played { table, octets }
+}
+
+// `S`: one signal of the PDU.
+pub fn signal(
+    t: Table,
+    link: u16,
+    listening: bool,
+    central: bool,
+    pdu: &[u8],
+    room: &mut [u8],
+    row: &mut [u8],
+) -> Played
+    ensures { λ r. ⌜ Plays (signalOf t (now (room .entry)) link listening central (now (pdu .entry))) (now (row .entry)) r (now (room .exit)) (now (row .exit)) ⌝ }
+{
+    let mut signal = [0u8; 18];
+    let s = signals::signal(t, room, &mut signal, link, listening, central, pdu);
+    let answer = s.answer;
+    let octets = printed::answered(row, answer, first(&signal, s.octets));
+    let table = s.table;
+    Played { table, octets }
+}
+
+// `F`
+pub fn frame(
+    t: Table,
+    link: u16,
+    cid: u16,
+    payload: &[u8],
+    room: &mut [u8],
+    row: &mut [u8],
+) -> Played
+    ensures { λ r. ⌜ Plays (frameOf t (now (room .entry)) link cid (now (payload .entry))) (now (row .entry)) r (now (room .exit)) (now (row .exit)) ⌝ }
+{
+    let s = dispatching::dispatch(t, room, link, Cid(cid), payload);
+    let answer = s.answer;
+    let octets = printed::told(row, answer);
+    let table = s.table;
+    Played { table, octets }
+}
+
+// `K`
+pub fn send(
+    t: Table,
+    slot: u16,
+    job: &[u8],
+    room: &[u8],
+    frames: &mut [u8],
+    row: &mut [u8],
+) -> Played
+    ensures { λ r. ⌜ Plays (sendOf t (now (room .entry)) (now (frames .entry)) slot (now (job .entry))) (now (row .entry)) r (now (room .entry)) (now (row .exit)) ⌝ }
+{
+    let s = sending::send(t, slot_of(slot), job, frames);
+    let answer = s.answer;
+    let octets = printed::answered(row, answer, first(frames, s.octets));
+    let table = s.table;
+    Played { table, octets }
+}
+
+// `B`
+pub fn take(t: Table, slot: u16, room: &mut [u8], job: &mut [u8], row: &mut [u8]) -> Played
+    ensures { λ r. ⌜ Plays (takeOf t (now (room .entry)) (now (job .entry)) slot) (now (row .entry)) r (now (room .exit)) (now (row .exit)) ⌝ }
+{
+    let mut signal = [0u8; 18];
+    let s = receiving::receive(t, room, &mut signal, slot_of(slot), job);
+    let answer = s.answer;
+    let octets = printed::taken(row, answer, job, first(&signal, s.octets));
+    let table = s.table;
+    Played { table, octets }
+}
+
+// The octets of a room of these sizes; none where no table has them.
+pub fn size_of(n: usize, d: usize, m: usize) -> usize
+    ensures { λ r. ⌜ r ≡ sizeOf n d m ⌝ }
+{
+    if gate::sizes_fit(n, d, m) {
+        gate::room_size(n, d, m)
+    } else {
+        0
+    }
+}
+
+// The octets of a word, read into `octets`: how many.
+pub fn spelled(line: &[u8], w: Word, octets: &mut [u8]) -> usize
+    ensures { λ r. ⌜ take r (now (octets .exit)) ≡ spelledOf (length (now (octets .entry))) (now (line .entry)) w ⌝ }
+{
+    match hex::read_hex(words::text(line, w), octets) {
+        HexRead::Octets(n) => n,
+        HexRead::Bad => 0,
+    }
+}

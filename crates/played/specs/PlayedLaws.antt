@@ -8,7 +8,8 @@ use lib.ListN.{length, take}
 use lib.Seq.{sets, take-nil}
 use Rattle.lists.specs.Choose.{choose}
 use Rattle.octets.specs.Sets.{sets-out, sets-append-right}
-use Rattle.hex.specs.Hex.{isHexWord, octetsOf, hexRead, hexOctets}
+use Rattle.hex_words.specs.HexWords.{isHexWord}
+use Rattle.hex.specs.Hex.{octetsOf, hexRead, hexOctets}
 use Rattle.hex.specs.declared.HexRead.{HexRead}
 use Rattle.hex.specs.declared.HexRead.the-variants as HexRead
 use Rattle.definition.specs.Ending.{End}

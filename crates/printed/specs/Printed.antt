@@ -4,8 +4,9 @@ use mathlib.Core.List.{List, [], _∷_, _++_}
 use Prim.Native.Nat.{ℕ}
 use lib.ListN.{take}
 use Rattle.lists.specs.Choose.{choose}
-use Rattle.hex.specs.Hex.{hexText}
-use Rattle.answers.specs.Answers.{answerText, columnsText}
+use Rattle.hex_write.specs.HexText.{hexText}
+use Rattle.columns.specs.Columns.{columnsText}
+use Rattle.answers.specs.Answers.{answerText}
 use Rattle.channel.specs.declared.Answer.{Answer}
 use Rattle.channel.specs.declared.Answer.the-variants as Answer
 

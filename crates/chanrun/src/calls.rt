@@ -1,53 +1,39 @@
-// The calls: each command's call is made and its rows are printed. `room` is the table's room, no longer and no shorter.
+// The calls: each command's call is played by a proved function and its rows are printed. `room` is the table's room, no longer and no shorter.
+ghost use mathlib.Core.Path.{_≡_};
+ghost use Rattle.definition.specs.Asking.{noSlots};
+ghost use Rattle.played.specs.Played.{sizeOf};
 use super::output::answered;
-use super::output::answered_more;
 use super::output::bad;
-use super::output::first;
-use super::output::taken;
+use super::output::printed_row;
+use super::output::queried;
 use super::output::viewed;
+use called::slot_of;
 use channel::Answer;
-use channel::ChannelIndex;
-use channel::Cid;
 use channel::DEPTH;
-use channel::Given;
 use channel::PACKET_MOST;
 use channel::SLOTS;
-use channel::Served;
 use channel::Table;
-use channel::Verdict;
 use codes::Refusal;
-use codes::ResultRead;
 use commands::Command;
-use hex::HexRead;
 use octets::least;
-use words::Word;
-
-// A slot's number. One that is no octet is past every table, as 255 is.
-fn slot_of(n: u16) -> ChannelIndex {
-    ChannelIndex(least(n as usize, 255) as u8)
-}
-
-// The octets of a room of these sizes; 0 where a table cannot have them.
-fn size_of(n: usize, d: usize, m: usize) -> usize {
-    if gate::sizes_fit(n, d, m) {
-        gate::room_size(n, d, m)
-    } else {
-        0
-    }
-}
+use played::size_of;
+use played::spelled;
+use printed::first;
 
 // The octets of a table's room.
-pub fn room_size(t: Table) -> usize {
+pub fn room_size(t: Table) -> usize
+    ensures { λ r. ⌜ r ≡ sizeOf (t .n) (t .d) (t .m) ⌝ }
+{
     size_of(t.n, t.d, t.m)
 }
 
 // ---- making
 
 // The table of no slots, as before the first `T`.
-pub fn no_table() -> Table {
-    let mut none = [0u8; 1];
-    let made = making::make(0, 0, 0, &mut none);
-    made.table
+pub fn no_table() -> Table
+    ensures { λ r. ⌜ r ≡ noSlots ⌝ }
+{
+    making::blank(0, 0, 0)
 }
 
 // `T`: a room that `room` cannot hold is refused by 1.
@@ -63,99 +49,17 @@ pub fn make(n: u16, d: u16, m: u16, room: &mut [u8], row: &mut [u8]) -> Table {
     made.table
 }
 
-// ---- the calls that tell their answer and what they wrote to the signal buffer
-
-// `X`: a number that is no result code is refused by 15, behind the refusals that come first.
-fn reject(t: Table, room: &mut [u8], signal: &mut [u8], slot: u16, result: u16) -> Served {
-    let index = slot_of(slot);
-    match codes::result_of(result) {
-        ResultRead::Known(code) => refusing::reject_pending(t, room, signal, index, code),
-        ResultRead::Unknown => match gate::gate(
-            t,
-            Given::Is(room.len()),
-            Given::Is(signal.len()),
-            Given::Nothing,
-            Given::Is(slots::number(index)),
-        ) {
-            Verdict::Stop(r) => slots::refused(t, r),
-            Verdict::Pass => slots::refused(t, Refusal::Decode),
-        },
-    }
-}
-
-// The calls of a slot or a CID alone.
-fn of_slot(t: Table, c: Command, room: &mut [u8]) -> Served {
-    match c {
-        Command::DropPending(slot) => dropping::drop_pending(t, room, slot_of(slot)),
-        Command::GiveUp(slot) => giving_up::give_up(t, room, slot_of(slot)),
-        Command::IncRef(slot) => holding::inc_ref(t, slot_of(slot)),
-        Command::DecRef(slot) => releasing::dec_ref(t, room, slot_of(slot)),
-        Command::Disconnect(slot) => closing::disconnect(t, room, slot_of(slot)),
-        Command::DisconnectByCid(cid) => closing::disconnect_by_cid(t, room, Cid(cid)),
-        _ => slots::done(t),
-    }
-}
-
-// The other calls that are lent a signal buffer, or nothing.
-fn signalling(t: Table, c: Command, room: &mut [u8], signal: &mut [u8]) -> Served {
-    match c {
-        Command::RegisterSpsm(spsm) => registering::register_spsm(t, spsm),
-        Command::NextPending { link, up } => pending::next_pending(t, link, up),
-        Command::RejectAllPending(link) => clearing::reject_all_pending(t, room, signal, link),
-        Command::AcceptPending { slot, config } => {
-            accepting::accept_pending(t, signal, slot_of(slot), config)
-        }
-        Command::RejectPending { slot, result } => reject(t, room, signal, slot, result),
-        Command::Create { link, spsm, config } => creating::create(t, signal, link, spsm, config),
-        Command::Disconnected(link) => link_down::disconnected(t, room, link),
-        Command::NextDisconnect => announcing::next_disconnect(t, room, signal),
-        Command::Attention => calling::attention(t),
-        Command::SendConnParamUpdateReq {
-            link,
-            min,
-            max,
-            latency,
-            timeout,
-        } => senders::send_conn_param_update_req(t, signal, link, min, max, latency, timeout),
-        Command::SendConnParamUpdateRes { link, result } => {
-            senders::send_conn_param_update_res(t, signal, link, result)
-        }
-        _ => of_slot(t, c, room),
-    }
-}
+// ---- the calls
 
 fn plain(t: Table, c: Command, room: &mut [u8], row: &mut [u8]) -> Table {
-    let mut signal = [0u8; 18];
-    let s = signalling(t, c, room, &mut signal);
-    let answer = s.answer;
-    answered(row, answer, first(&signal, s.octets));
-    s.table
+    let p = played::plain(t, c, room, row);
+    printed_row(p, row)
 }
 
-// ---- the others
-
-// `O`: where nothing is to be told yet, 0 is.
+// `O`
 fn opened(t: Table, slot: u16, link: u16, up: bool, room: &mut [u8], row: &mut [u8]) -> Table {
-    let s = opening::opened(t, room, slot_of(slot), link, up);
-    let answer = s.answer;
-    match answer {
-        Answer::Done => {
-            answered_more(row, answer, b"", &[0]);
-            s.table
-        }
-        _ => {
-            answered(row, answer, b"");
-            s.table
-        }
-    }
-}
-
-// The octets of a word, read into `octets`: how many.
-fn spelled(line: &[u8], w: Word, octets: &mut [u8]) -> usize {
-    match hex::read_hex(words::text(line, w), octets) {
-        HexRead::Octets(n) => n,
-        HexRead::Bad => 0,
-    }
+    let p = played::opened(t, Command::Opened { slot, link, up }, room, row);
+    printed_row(p, row)
 }
 
 // One signal of a PDU, and its row.
@@ -168,11 +72,8 @@ fn one_signal(
     room: &mut [u8],
     row: &mut [u8],
 ) -> Table {
-    let mut signal = [0u8; 18];
-    let s = signals::signal(t, room, &mut signal, link, listening, central, pdu);
-    let answer = s.answer;
-    answered(row, answer, first(&signal, s.octets));
-    s.table
+    let p = played::signal(t, link, listening, central, pdu, room, row);
+    printed_row(p, row)
 }
 
 // `S`: a row a signal, one row for empty input. Each signal has a header, so that the PDU's octets bound the turns.
@@ -200,62 +101,35 @@ fn every_signal(
 
 // `F`
 fn frame(t: Table, link: u16, cid: u16, payload: &[u8], room: &mut [u8], row: &mut [u8]) -> Table {
-    let s = dispatching::dispatch(t, room, link, Cid(cid), payload);
-    let answer = s.answer;
-    answered(row, answer, b"");
-    s.table
+    let p = played::frame(t, link, cid, payload, room, row);
+    printed_row(p, row)
 }
 
 // `K`
-fn send(t: Table, slot: u16, job: &[u8], frames: &mut [u8], row: &mut [u8]) -> Table {
-    let s = sending::send(t, slot_of(slot), job, frames);
-    let answer = s.answer;
-    answered(row, answer, first(frames, s.octets));
-    s.table
+fn send(t: Table, slot: u16, job: &[u8], room: &[u8], frames: &mut [u8], row: &mut [u8]) -> Table {
+    let p = played::send(t, slot, job, room, frames, row);
+    printed_row(p, row)
 }
 
 // `B`
 fn take(t: Table, slot: u16, room: &mut [u8], job: &mut [u8], row: &mut [u8]) -> Table {
-    let mut signal = [0u8; 18];
-    let s = receiving::receive(t, room, &mut signal, slot_of(slot), job);
-    let answer = s.answer;
-    match answer {
-        Answer::Job {
-            link: _,
-            copied,
-            length: _,
-        } => {
-            taken(row, answer, first(job, copied), first(&signal, s.octets));
-            s.table
-        }
-        _ => {
-            answered(row, answer, b"");
-            s.table
-        }
-    }
-}
-
-// The number that a query answers.
-fn number(s: Served) -> u16 {
-    let a = s.answer;
-    match a {
-        Answer::Number(n) => n,
-        _ => 0,
-    }
+    let p = played::take(t, slot, room, job, row);
+    printed_row(p, row)
 }
 
 // `U`
 fn queries(t: Table, slot: u16, row: &mut [u8]) {
-    let s = asking::spsm(t, slot_of(slot));
-    let mtu = number(asking::mtu(t, slot_of(slot)));
-    let mps = number(asking::mps(t, slot_of(slot)));
-    let peer_mtu = number(asking::peer_mtu(t, slot_of(slot)));
-    let peer_mps = number(asking::peer_mps(t, slot_of(slot)));
-    let answer = s.answer;
-    match answer {
-        Answer::Number(_) => answered_more(row, answer, b"", &[mtu, mps, peer_mtu, peer_mps]),
-        _ => answered(row, answer, b""),
-    }
+    let spsm = asking::spsm(t, slot_of(slot));
+    let mtu = asking::mtu(t, slot_of(slot));
+    let mps = asking::mps(t, slot_of(slot));
+    let peer_mtu = asking::peer_mtu(t, slot_of(slot));
+    let peer_mps = asking::peer_mps(t, slot_of(slot));
+    let a = spsm.answer;
+    let b = mtu.answer;
+    let c = mps.answer;
+    let d = peer_mtu.answer;
+    let e = peer_mps.answer;
+    queried(row, a, b, c, d, e)
 }
 
 // Where slot s's part of the room begins, and how long it is; 0 for sizes that no table has.
@@ -327,7 +201,7 @@ pub fn call(
         }
         Command::Send { slot, job } => {
             let n = spelled(line, job, octets);
-            send(t, slot, first(octets, n), frames, row)
+            send(t, slot, first(octets, n), room, frames, row)
         }
         Command::Receive { slot, size } => {
             let n = least(size as usize, octets.len());

@@ -1,53 +1,48 @@
-// Rows, printed. Each is written at the start of `row` and goes out at its newline.
-use answers::write_answer;
-use answers::write_columns;
+// Rows, printed: each was written at the start of `row` by a proved function, and goes out here.
 use channel::Answer;
 use channel::Table;
-use hex::write_hex;
-use octets::least;
-use rows::write_character;
-use rows::write_text;
+use played::Played;
+use printed::first;
 
-// The first `n` octets of `s`, or as many as there are.
-pub fn first(s: &[u8], n: usize) -> &[u8] {
-    let k = least(n, s.len());
-    &s[..k]
-}
-
-fn print(row: &mut [u8], at: usize) {
-    let n = write_character(row, at, 10);
+// The first `n` octets of `row` go out.
+fn print(row: &[u8], n: usize) {
     io::write_all(libc::STDOUT_FILENO, first(row, n));
 }
 
 // The row of a line that asks for nothing.
 pub fn bad(row: &mut [u8]) {
-    let n = write_text(row, 0, b"? -");
+    let n = printed::bad(row);
     print(row, n);
 }
 
 // The row of an answer, with the octets that were written.
 pub fn answered(row: &mut [u8], a: Answer, octets: &[u8]) {
-    let n = write_answer(row, 0, a, octets);
+    let n = printed::answered(row, a, octets);
     print(row, n);
 }
 
-// The same with numbers behind it.
-pub fn answered_more(row: &mut [u8], a: Answer, octets: &[u8], more: &[u16]) {
-    let n = write_answer(row, 0, a, octets);
-    let m = write_columns(row, n, more);
-    print(row, m);
-}
-
-// A taken job: its octets, the lengths, the credit signal.
-pub fn taken(row: &mut [u8], a: Answer, job: &[u8], signal: &[u8]) {
-    let n = write_answer(row, 0, a, job);
-    let space = write_character(row, n, 32);
-    let m = write_hex(row, space, signal);
-    print(row, m);
+// The row of a played call. The table after it.
+pub fn printed_row(p: Played, row: &[u8]) -> Table {
+    print(row, p.octets);
+    let table = p.table;
+    table
 }
 
 // The rows of a view.
 pub fn viewed(row: &mut [u8], t: Table) {
     let n = view::write_view(row, 0, t);
-    io::write_all(libc::STDOUT_FILENO, first(row, n));
+    print(row, n);
+}
+
+// The row of the five queries.
+pub fn queried(
+    row: &mut [u8],
+    spsm: Answer,
+    mtu: Answer,
+    mps: Answer,
+    peer_mtu: Answer,
+    peer_mps: Answer,
+) {
+    let n = printed::queried(row, spsm, mtu, mps, peer_mtu, peer_mps);
+    print(row, n);
 }

@@ -140,11 +140,11 @@ same-length-11 c = search needs
 same-length-12 : tie.Need-same-length-12
 same-length-12 c = search needs
 
-returns-5 : tie.Need-returns-5
-returns-5 c = search needs
-
 same-length-13 : tie.Need-same-length-13
 same-length-13 c = search needs
+
+returns-5 : tie.Need-returns-5
+returns-5 c = search needs
 
 same-length-14 : tie.Need-same-length-14
 same-length-14 c = search needs
@@ -152,35 +152,38 @@ same-length-14 c = search needs
 same-length-15 : tie.Need-same-length-15
 same-length-15 c = search needs
 
-returns-6 : tie.Need-returns-6
-returns-6 c = search needs
-
 same-length-16 : tie.Need-same-length-16
 same-length-16 c = search needs
 
-returns-7 : tie.Need-returns-7
-returns-7 c = search needs
+returns-6 : tie.Need-returns-6
+returns-6 c = search needs
 
 same-length-17 : tie.Need-same-length-17
 same-length-17 c = search needs
 
-returns-8 : tie.Need-returns-8
-returns-8 c = search needs
+returns-7 : tie.Need-returns-7
+returns-7 c = search needs
 
 same-length-18 : tie.Need-same-length-18
 same-length-18 c = search needs
 
+returns-8 : tie.Need-returns-8
+returns-8 c = search needs
+
 same-length-19 : tie.Need-same-length-19
 same-length-19 c = search needs
-
-returns-9 : tie.Need-returns-9
-returns-9 c = search needs
 
 same-length-20 : tie.Need-same-length-20
 same-length-20 c = search needs
 
+returns-9 : tie.Need-returns-9
+returns-9 c = search needs
+
 same-length-21 : tie.Need-same-length-21
 same-length-21 c = search needs
+
+same-length-22 : tie.Need-same-length-22
+same-length-22 c = search needs
 
 returns-10 : tie.Need-returns-10
 returns-10 c = search needs
@@ -234,18 +237,19 @@ call-spec =
     same-length-10
     same-length-11
     same-length-12
-    returns-5
     same-length-13
+    returns-5
     same-length-14
     same-length-15
-    returns-6
     same-length-16
-    returns-7
+    returns-6
     same-length-17
-    returns-8
+    returns-7
     same-length-18
+    returns-8
     same-length-19
-    returns-9
     same-length-20
+    returns-9
     same-length-21
+    same-length-22
     returns-10)

@@ -72,7 +72,7 @@ fn one_signal(
     room: &mut [u8],
     row: &mut [u8],
 ) -> Table {
-    let p = played::signal(t, link, listening, central, pdu, room, row);
+    let p = played_frames::signal(t, link, listening, central, pdu, room, row);
     printed_row(p, row)
 }
 
@@ -101,19 +101,19 @@ fn every_signal(
 
 // `F`
 fn frame(t: Table, link: u16, cid: u16, payload: &[u8], room: &mut [u8], row: &mut [u8]) -> Table {
-    let p = played::frame(t, link, cid, payload, room, row);
+    let p = played_frames::frame(t, link, cid, payload, room, row);
     printed_row(p, row)
 }
 
 // `K`
 fn send(t: Table, slot: u16, job: &[u8], room: &[u8], frames: &mut [u8], row: &mut [u8]) -> Table {
-    let p = played::send(t, slot, job, room, frames, row);
+    let p = played_frames::send(t, slot, job, room, frames, row);
     printed_row(p, row)
 }
 
 // `B`
 fn take(t: Table, slot: u16, room: &mut [u8], job: &mut [u8], row: &mut [u8]) -> Table {
-    let p = played::take(t, slot, room, job, row);
+    let p = played_frames::take(t, slot, room, job, row);
     printed_row(p, row)
 }
 

@@ -1,11 +1,9 @@
 // A call and its row (docs/CHANRUN.md): the call is made on the table and the lent room, and its row is written at the start of a lent `row`. What
-// each comes to is defined in specs/Played.antt; it rests on the calls and on `printed`.
+// each comes to is defined in specs/Played.antt; it rests on `called` and `printed`. Signals, frames and jobs are in `played_frames`.
 ghost use mathlib.Core.Path.{_≡_};
 ghost use lib.ListN.{length, take};
-ghost use Rattle.played.specs.Played.{Plays, plainOf, openedOf, signalOf, frameOf, sendOf, takeOf, sizeOf, spelledOf};
+ghost use Rattle.played.specs.Played.{Plays, plainOf, openedOf, sizeOf, spelledOf};
 use called::called;
-use called::slot_of;
-use channel::Cid;
 use channel::Table;
 use commands::Command;
 use hex::HexRead;
@@ -38,74 +36,6 @@ pub fn opened(t: Table, c: Command, room: &mut [u8], row: &mut [u8]) -> Played
     let s = called(t, c, room, &mut signal);
     let answer = s.answer;
     let octets = printed::opened(row, answer);
-    let table = s.table;
-    Played { table, octets }
-}
-
-// `S`: one signal of the PDU.
-pub fn signal(
-    t: Table,
-    link: u16,
-    listening: bool,
-    central: bool,
-    pdu: &[u8],
-    room: &mut [u8],
-    row: &mut [u8],
-) -> Played
-    ensures { λ r. ⌜ Plays (signalOf t (now (room .entry)) link listening central (now (pdu .entry))) (now (row .entry)) r (now (room .exit)) (now (row .exit)) ⌝ }
-{
-    let mut signal = [0u8; 18];
-    let s = signals::signal(t, room, &mut signal, link, listening, central, pdu);
-    let answer = s.answer;
-    let octets = printed::answered(row, answer, first(&signal, s.octets));
-    let table = s.table;
-    Played { table, octets }
-}
-
-// `F`
-pub fn frame(
-    t: Table,
-    link: u16,
-    cid: u16,
-    payload: &[u8],
-    room: &mut [u8],
-    row: &mut [u8],
-) -> Played
-    ensures { λ r. ⌜ Plays (frameOf t (now (room .entry)) link cid (now (payload .entry))) (now (row .entry)) r (now (room .exit)) (now (row .exit)) ⌝ }
-{
-    let s = dispatching::dispatch(t, room, link, Cid(cid), payload);
-    let answer = s.answer;
-    let octets = printed::told(row, answer);
-    let table = s.table;
-    Played { table, octets }
-}
-
-// `K`
-pub fn send(
-    t: Table,
-    slot: u16,
-    job: &[u8],
-    room: &[u8],
-    frames: &mut [u8],
-    row: &mut [u8],
-) -> Played
-    ensures { λ r. ⌜ Plays (sendOf t (now (room .entry)) (now (frames .entry)) slot (now (job .entry))) (now (row .entry)) r (now (room .entry)) (now (row .exit)) ⌝ }
-{
-    let s = sending::send(t, slot_of(slot), job, frames);
-    let answer = s.answer;
-    let octets = printed::answered(row, answer, first(frames, s.octets));
-    let table = s.table;
-    Played { table, octets }
-}
-
-// `B`
-pub fn take(t: Table, slot: u16, room: &mut [u8], job: &mut [u8], row: &mut [u8]) -> Played
-    ensures { λ r. ⌜ Plays (takeOf t (now (room .entry)) (now (job .entry)) slot) (now (row .entry)) r (now (room .exit)) (now (row .exit)) ⌝ }
-{
-    let mut signal = [0u8; 18];
-    let s = receiving::receive(t, room, &mut signal, slot_of(slot), job);
-    let answer = s.answer;
-    let octets = printed::taken(row, answer, job, first(&signal, s.octets));
     let table = s.table;
     Played { table, octets }
 }

@@ -1,10 +1,10 @@
--- `played::frame` meets its contract: the row is read off the call's end (by-end).
+-- `played_frames::frame` meets its contract: the row is read off the call's end (by-end).
 use mathlib.Core.Path.{refl}
 use Rattle.played.specs.Played.{withNone}
 use Rattle.played.specs.PlayedLaws.{by-end}
 use borrow.Author.Needs.{needs}
-use Rattle.played.proofs.frame.Statement.{statement}
-use Rattle.played.proofs.frame.Tie as tie
+use Rattle.played_frames.proofs.frame.Statement.{statement}
+use Rattle.played_frames.proofs.frame.Tie as tie
 
 dispatch-requires : tie.Need-dispatch-requires
 dispatch-requires c κs = search needs

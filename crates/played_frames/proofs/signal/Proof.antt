@@ -1,10 +1,10 @@
--- `played::signal` meets its contract: the row is read off the call's end (by-end).
+-- `played_frames::signal` meets its contract: the row is read off the call's end (by-end).
 use mathlib.Core.Path.{refl}
 use Rattle.played.specs.Played.{withOctets}
 use Rattle.played.specs.PlayedLaws.{by-end}
 use borrow.Author.Needs.{needs}
-use Rattle.played.proofs.signal.Statement.{statement}
-use Rattle.played.proofs.signal.Tie as tie
+use Rattle.played_frames.proofs.signal.Statement.{statement}
+use Rattle.played_frames.proofs.signal.Tie as tie
 
 slice-aggregate-signal : tie.Need-slice-aggregate-signal
 slice-aggregate-signal c = search needs

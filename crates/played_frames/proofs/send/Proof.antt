@@ -1,10 +1,10 @@
--- `played::send` meets its contract: the row is read off the call's end (by-end).
+-- `played_frames::send` meets its contract: the row is read off the call's end (by-end).
 use mathlib.Core.Path.{refl}
 use Rattle.played.specs.Played.{withFrames}
 use Rattle.played.specs.PlayedLaws.{by-end}
 use borrow.Author.Needs.{needs}
-use Rattle.played.proofs.send.Statement.{statement}
-use Rattle.played.proofs.send.Tie as tie
+use Rattle.played_frames.proofs.send.Statement.{statement}
+use Rattle.played_frames.proofs.send.Tie as tie
 
 slot-of-requires : tie.Need-slot-of-requires
 slot-of-requires c κs = search needs

@@ -1,10 +1,10 @@
--- `played::take` meets its contract: the row is read off the call's end (by-end).
+-- `played_frames::take` meets its contract: the row is read off the call's end (by-end).
 use mathlib.Core.Path.{refl}
 use Rattle.played.specs.Played.{withJob}
 use Rattle.played.specs.PlayedLaws.{by-end}
 use borrow.Author.Needs.{needs}
-use Rattle.played.proofs.take.Statement.{statement}
-use Rattle.played.proofs.take.Tie as tie
+use Rattle.played_frames.proofs.take.Statement.{statement}
+use Rattle.played_frames.proofs.take.Tie as tie
 
 slice-aggregate-receive : tie.Need-slice-aggregate-receive
 slice-aggregate-receive c = search needs

@@ -1,0 +1,76 @@
+// Signals, frames and jobs, each call with its row (docs/CHANRUN.md): `S`, one signal of the PDU, `F`, `K` and `B`. What each comes to is defined in
+// the specs of `played`; it rests on the calls and on `printed`.
+ghost use Rattle.played.specs.Played.{Plays, signalOf, frameOf, sendOf, takeOf};
+use called::slot_of;
+use channel::Cid;
+use channel::Table;
+use played::Played;
+use printed::first;
+
+// `S`: one signal of the PDU.
+pub fn signal(
+    t: Table,
+    link: u16,
+    listening: bool,
+    central: bool,
+    pdu: &[u8],
+    room: &mut [u8],
+    row: &mut [u8],
+) -> Played
+    ensures { λ r. ⌜ Plays (signalOf t (now (room .entry)) link listening central (now (pdu .entry))) (now (row .entry)) r (now (room .exit)) (now (row .exit)) ⌝ }
+{
+    let mut signal = [0u8; 18];
+    let s = signals::signal(t, room, &mut signal, link, listening, central, pdu);
+    let answer = s.answer;
+    let octets = printed::answered(row, answer, first(&signal, s.octets));
+    let table = s.table;
+    Played { table, octets }
+}
+
+// `F`
+pub fn frame(
+    t: Table,
+    link: u16,
+    cid: u16,
+    payload: &[u8],
+    room: &mut [u8],
+    row: &mut [u8],
+) -> Played
+    ensures { λ r. ⌜ Plays (frameOf t (now (room .entry)) link cid (now (payload .entry))) (now (row .entry)) r (now (room .exit)) (now (row .exit)) ⌝ }
+{
+    let s = dispatching::dispatch(t, room, link, Cid(cid), payload);
+    let answer = s.answer;
+    let octets = printed::told(row, answer);
+    let table = s.table;
+    Played { table, octets }
+}
+
+// `K`
+pub fn send(
+    t: Table,
+    slot: u16,
+    job: &[u8],
+    room: &[u8],
+    frames: &mut [u8],
+    row: &mut [u8],
+) -> Played
+    ensures { λ r. ⌜ Plays (sendOf t (now (room .entry)) (now (frames .entry)) slot (now (job .entry))) (now (row .entry)) r (now (room .entry)) (now (row .exit)) ⌝ }
+{
+    let s = sending::send(t, slot_of(slot), job, frames);
+    let answer = s.answer;
+    let octets = printed::answered(row, answer, first(frames, s.octets));
+    let table = s.table;
+    Played { table, octets }
+}
+
+// `B`
+pub fn take(t: Table, slot: u16, room: &mut [u8], job: &mut [u8], row: &mut [u8]) -> Played
+    ensures { λ r. ⌜ Plays (takeOf t (now (room .entry)) (now (job .entry)) slot) (now (row .entry)) r (now (room .exit)) (now (row .exit)) ⌝ }
+{
+    let mut signal = [0u8; 18];
+    let s = receiving::receive(t, room, &mut signal, slot_of(slot), job);
+    let answer = s.answer;
+    let octets = printed::taken(row, answer, job, first(&signal, s.octets));
+    let table = s.table;
+    Played { table, octets }
+}

@@ -19,7 +19,8 @@ use Rattle.definition.specs.Pending.{nextPending, rejectAllPending, acceptPendi
 use Rattle.definition.specs.Signals.{signalled}
 use Rattle.definition.specs.Calls.{Call, frame, sends, down, Request, register, signals, pends, rejectsAll, accepts, rejects, drops, creates, opens, gives, holds, releases, leaves, leavesCid, announces, takes, attends, asks, sendsSignal, jobs, serve, decide}
 use Rattle.definition.specs.Ending.{servedOf, endOf}
-use Rattle.dispatching.specs.Framed.{headOf, frameIn}
+use Rattle.admitting.specs.Admitted.{headOf}
+use Rattle.dispatching.specs.Framed.{frameIn}
 use Rattle.rejecting.specs.Numbered.{notCode, rejectRead, rejectNumbered}
 use Rattle.layout.specs.Layout.{read}
 use Rattle.edge.specs.Edge.{onTable, alone, flag, configOf}

@@ -26,7 +26,8 @@ use Rattle.definition.specs.Calls.{Call, frame, sends, down, plain, Request, re
 use Rattle.definition.specs.Ending.{End, end, gave, endOf, end-still}
 use Rattle.layout.specs.declared.Decoded.{Decoded}
 use Rattle.layout.specs.Layout.{read}
-use Rattle.answer_octets.specs.Answers.{codeOf, tells, answerOctets}
+use Rattle.answer_told.specs.Tells.{codeOf}
+use Rattle.answer_octets.specs.Answers.{tells, answerOctets}
 use Rattle.edge.specs.Edge.{Edge, edge, lifted, onTable}
 
 -- ---- the gate is shut

@@ -2,18 +2,11 @@
 ghost use mathlib.Core.Path.{_≡_};
 ghost use Rattle.definition.specs.Asking.{noSlots};
 ghost use Rattle.played.specs.Played.{sizeOf};
-use super::output::answered;
 use super::output::bad;
+use super::output::print;
 use super::output::printed_row;
-use super::output::queried;
 use super::output::viewed;
-use called::slot_of;
-use channel::Answer;
-use channel::DEPTH;
-use channel::PACKET_MOST;
-use channel::SLOTS;
 use channel::Table;
-use codes::Refusal;
 use commands::Command;
 use octets::least;
 use played::size_of;
@@ -36,17 +29,10 @@ pub fn no_table() -> Table
     making::blank(0, 0, 0)
 }
 
-// `T`: a room that `room` cannot hold is refused by 1.
+// `T`
 pub fn make(n: u16, d: u16, m: u16, room: &mut [u8], row: &mut [u8]) -> Table {
-    let size = size_of(n as usize, d as usize, m as usize);
-    if room.len() < size {
-        answered(row, Answer::Refused(Refusal::BadTable), b"");
-        return no_table();
-    }
-    let made = making::make(n, d, m, &mut room[..size]);
-    let answer = made.answer;
-    answered(row, answer, b"");
-    made.table
+    let p = played_table::made(n, d, m, room, row);
+    printed_row(p, row)
 }
 
 // ---- the calls
@@ -119,55 +105,14 @@ fn take(t: Table, slot: u16, room: &mut [u8], job: &mut [u8], row: &mut [u8]) ->
 
 // `U`
 fn queries(t: Table, slot: u16, row: &mut [u8]) {
-    let spsm = asking::spsm(t, slot_of(slot));
-    let mtu = asking::mtu(t, slot_of(slot));
-    let mps = asking::mps(t, slot_of(slot));
-    let peer_mtu = asking::peer_mtu(t, slot_of(slot));
-    let peer_mps = asking::peer_mps(t, slot_of(slot));
-    let a = spsm.answer;
-    let b = mtu.answer;
-    let c = mps.answer;
-    let d = peer_mtu.answer;
-    let e = peer_mps.answer;
-    queried(row, a, b, c, d, e)
+    let n = played_table::queried(t, slot, row);
+    print(row, n)
 }
 
-// Where slot s's part of the room begins, and how long it is; 0 for sizes that no table has.
-fn part_at(d: usize, m: usize, s: usize) -> usize {
-    if DEPTH < d {
-        return 0;
-    }
-    if PACKET_MOST < m {
-        return 0;
-    }
-    if SLOTS <= s {
-        return 0;
-    }
-    room::part_at(d, m, s)
-}
-
-fn part_size(d: usize, m: usize) -> usize {
-    if DEPTH < d {
-        return 0;
-    }
-    if PACKET_MOST < m {
-        return 0;
-    }
-    gate::part_size(d, m)
-}
-
-// `M`: the slot's part of the room. A table of no slots has none.
+// `M`
 fn shown(t: Table, slot: u16, room: &[u8], row: &mut [u8]) {
-    if t.n == 0 {
-        return answered(row, Answer::Refused(Refusal::BadTable), b"");
-    }
-    let s = slot as usize;
-    if t.n <= s {
-        return answered(row, Answer::Refused(Refusal::BadSlot), b"");
-    }
-    let from = least(part_at(t.d, t.m, s), room.len());
-    let to = from + least(part_size(t.d, t.m), room.len() - from);
-    answered(row, Answer::Done, &room[from..to])
+    let n = played_table::shown(t, slot, room, row);
+    print(row, n)
 }
 
 // Every call but a making.

@@ -1,23 +1,16 @@
 // Rows, printed: each was written at the start of `row` by a proved function, and goes out here.
-use channel::Answer;
 use channel::Table;
 use played::Played;
 use printed::first;
 
 // The first `n` octets of `row` go out.
-fn print(row: &[u8], n: usize) {
+pub fn print(row: &[u8], n: usize) {
     io::write_all(libc::STDOUT_FILENO, first(row, n));
 }
 
 // The row of a line that asks for nothing.
 pub fn bad(row: &mut [u8]) {
     let n = printed::bad(row);
-    print(row, n);
-}
-
-// The row of an answer, with the octets that were written.
-pub fn answered(row: &mut [u8], a: Answer, octets: &[u8]) {
-    let n = printed::answered(row, a, octets);
     print(row, n);
 }
 
@@ -31,18 +24,5 @@ pub fn printed_row(p: Played, row: &[u8]) -> Table {
 // The rows of a view.
 pub fn viewed(row: &mut [u8], t: Table) {
     let n = view::write_view(row, 0, t);
-    print(row, n);
-}
-
-// The row of the five queries.
-pub fn queried(
-    row: &mut [u8],
-    spsm: Answer,
-    mtu: Answer,
-    mps: Answer,
-    peer_mtu: Answer,
-    peer_mps: Answer,
-) {
-    let n = printed::queried(row, spsm, mtu, mps, peer_mtu, peer_mps);
     print(row, n);
 }

@@ -1,0 +1,3 @@
+-- The lines that ask for the table itself, and their rows.
+pub mod PlayedTable
+pub mod PlayedTableLaws

@@ -1,0 +1,101 @@
+// The lines that ask for the table itself, each with its row (docs/CHANRUN.md): `T` makes one, `U` asks a slot's numbers, `M` shows a slot's part of
+// the room. What each comes to is defined in specs/PlayedTable.antt; it rests on the calls, on `played` and on `printed`.
+ghost use mathlib.Core.Path.{_≡_};
+ghost use Rattle.rows.specs.Rows.{Writes};
+ghost use Rattle.definition.specs.Asking.{spsm, mtu, mps, peerMtu, peerMps};
+ghost use Rattle.played.specs.Played.{Plays};
+ghost use Rattle.played_table.specs.PlayedTable.{toldOf, madeOf, queriesOf, partOf};
+use called::slot_of;
+use channel::Answer;
+use channel::Table;
+use codes::Refusal;
+use played::Played;
+use words::Word;
+
+// ---- `T`
+
+// A room that `room` cannot hold is refused by 1.
+pub fn made(n: u16, d: u16, m: u16, room: &mut [u8], row: &mut [u8]) -> Played
+    ensures { λ r. ⌜ Plays (madeOf n d m (now (room .entry))) (now (row .entry)) r (now (room .exit)) (now (row .exit)) ⌝ }
+{
+    let size = played::size_of(n as usize, d as usize, m as usize);
+    if room.len() < size {
+        let octets = printed::told(row, Answer::Refused(Refusal::BadTable));
+        let table = making::blank(0, 0, 0);
+        return Played { table, octets };
+    }
+    let s = making::make(n, d, m, &mut room[..size]);
+    let answer = s.answer;
+    let octets = printed::told(row, answer);
+    let table = s.table;
+    Played { table, octets }
+}
+
+// ---- `U`
+
+fn spsm_of(t: Table, slot: u16) -> Answer
+    ensures { λ r. ⌜ r ≡ toldOf (spsm t) slot ⌝ }
+{
+    let s = asking::spsm(t, slot_of(slot));
+    s.answer
+}
+
+fn mtu_of(t: Table, slot: u16) -> Answer
+    ensures { λ r. ⌜ r ≡ toldOf (mtu t) slot ⌝ }
+{
+    let s = asking::mtu(t, slot_of(slot));
+    s.answer
+}
+
+fn mps_of(t: Table, slot: u16) -> Answer
+    ensures { λ r. ⌜ r ≡ toldOf (mps t) slot ⌝ }
+{
+    let s = asking::mps(t, slot_of(slot));
+    s.answer
+}
+
+fn peer_mtu_of(t: Table, slot: u16) -> Answer
+    ensures { λ r. ⌜ r ≡ toldOf (peerMtu t) slot ⌝ }
+{
+    let s = asking::peer_mtu(t, slot_of(slot));
+    s.answer
+}
+
+fn peer_mps_of(t: Table, slot: u16) -> Answer
+    ensures { λ r. ⌜ r ≡ toldOf (peerMps t) slot ⌝ }
+{
+    let s = asking::peer_mps(t, slot_of(slot));
+    s.answer
+}
+
+pub fn queried(t: Table, slot: u16, row: &mut [u8]) -> usize
+    ensures { λ r. ⌜ Writes (now (row .entry)) 0 (queriesOf t slot) r (now (row .exit)) ⌝ }
+{
+    let a = spsm_of(t, slot);
+    let b = mtu_of(t, slot);
+    let c = mps_of(t, slot);
+    let d = peer_mtu_of(t, slot);
+    let e = peer_mps_of(t, slot);
+    printed::queried(row, a, b, c, d, e)
+}
+
+// ---- `M`
+
+pub fn shown(t: Table, slot: u16, room: &[u8], row: &mut [u8]) -> usize
+    ensures { λ r. ⌜ Writes (now (row .entry)) 0 (partOf t slot (now (room .entry))) r (now (row .exit)) ⌝ }
+{
+    let s = slot as usize;
+    if gate::sizes_fit(t.n, t.d, t.m) {
+        if t.n <= s {
+            return printed::told(row, Answer::Refused(Refusal::BadSlot));
+        }
+        let at = room::part_at(t.d, t.m, s);
+        let end = at + gate::part_size(t.d, t.m);
+        return printed::answered(
+            row,
+            Answer::Done,
+            words::text(room, Word { start: at, end }),
+        );
+    }
+    printed::told(row, Answer::Refused(Refusal::BadTable))
+}

@@ -1,11 +1,12 @@
 // The calls: each command's call is played by a proved function and its rows are printed. `room` is the table's room, no longer and no shorter.
 ghost use mathlib.Core.Path.{_≡_};
+ghost use lib.Seq.{sets};
 ghost use Rattle.definition.specs.Asking.{noSlots};
+ghost use Rattle.printed.specs.Printed.{badText};
 ghost use Rattle.played.specs.Played.{sizeOf};
-use super::output::bad;
+ghost use Rattle.played_table.specs.PlayedTable.{madeOf};
 use super::output::print;
 use super::output::printed_row;
-use super::output::viewed;
 use channel::Table;
 use commands::Command;
 use octets::least;
@@ -30,12 +31,22 @@ pub fn no_table() -> Table
 }
 
 // `T`
-pub fn make(n: u16, d: u16, m: u16, room: &mut [u8], row: &mut [u8]) -> Table {
+pub fn make(n: u16, d: u16, m: u16, room: &mut [u8], row: &mut [u8]) -> Table
+    ensures { λ r. ⌜ (r ≡ madeOf n d m (now (room .entry)) .table) × (now (room .exit) ≡ madeOf n d m (now (room .entry)) .room) ⌝ }
+{
     let p = played_table::made(n, d, m, room, row);
     printed_row(p, row)
 }
 
 // ---- the calls
+
+// A line that asks for nothing.
+pub fn bad(row: &mut [u8])
+    ensures { λ _. ⌜ now (row .exit) ≡ sets (now (row .entry)) 0 badText ⌝ }
+{
+    let n = printed::bad(row);
+    print(row, n);
+}
 
 fn plain(t: Table, c: Command, room: &mut [u8], row: &mut [u8]) -> Table {
     let p = played::plain(t, c, room, row);
@@ -113,6 +124,12 @@ fn queries(t: Table, slot: u16, row: &mut [u8]) {
 fn shown(t: Table, slot: u16, room: &[u8], row: &mut [u8]) {
     let n = played_table::shown(t, slot, room, row);
     print(row, n)
+}
+
+// `V`
+fn viewed(row: &mut [u8], t: Table) {
+    let n = view::write_view(row, 0, t);
+    print(row, n);
 }
 
 // Every call but a making.

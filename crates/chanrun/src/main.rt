@@ -83,7 +83,7 @@ fn one_turn(
             again: true,
         },
         Found::Long => {
-            output::bad(row);
+            calls::bad(row);
             Left {
                 table: t,
                 held,

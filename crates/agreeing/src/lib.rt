@@ -30,7 +30,7 @@ pub fn agree(t: Table, signal: &mut [u8], s: usize, x: Slot, c: L2capChannelConf
     let y = settings::accepted(x, mps, mtu, account);
     let res = settings::response(s, mtu, mps, credits);
     let id = state::identifier_of(k);
-    forms::alter_and_tell(
+    endings::alter_and_tell(
         t,
         signal,
         s,

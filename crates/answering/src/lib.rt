@@ -34,10 +34,10 @@ fn on_answer(t: Table, s: usize, res: LeCreditConnRes) -> Served
             credits: res.credits,
         };
         let y = slot::in_state(slot::with_peer(x, peer), ChannelState::Connected);
-        return forms::alter(t, s, y, Answer::Done);
+        return endings::alter(t, s, y, Answer::Done);
     }
     let y = slot::in_state(x, ChannelState::ConnectFailed(result));
-    forms::alter(t, s, y, Answer::Refused(Refusal::ConnectError(result)))
+    endings::alter(t, s, y, Answer::Refused(Refusal::ConnectError(result)))
 }
 
 // Code 0x15: to the lowest attempt of this link with that identifier; where there is none, all attempts of this link are given up.
@@ -57,7 +57,7 @@ pub fn on_conn_res(
         LeCreditConnResRead::Is(res) => {
             let s = slots::find(t, Want::AttemptBy { link, id });
             if t.n <= s {
-                return forms::free_all(
+                return endings::free_all(
                     t,
                     room,
                     Want::AttemptOf(link),

@@ -37,7 +37,7 @@ pub fn reject_all_pending(t: Table, room: &mut [u8], signal: &mut [u8], link: u1
             let id = state::identifier_of(k);
             let i = slots::index_at(s);
             let res = LeCreditConnRes::reject(LeCreditConnResultCode::NoResources);
-            forms::free_and_tell(
+            endings::free_and_tell(
                 t,
                 room,
                 signal,

@@ -78,7 +78,7 @@ pub fn on_conn_req(
                 return rejects::refuse(t, out, id, LeCreditConnResultCode::NoResources);
             }
             let x = asked(link, id, req);
-            forms::alter(t, s, x, Answer::Done)
+            endings::alter(t, s, x, Answer::Done)
         }
     }
 }

@@ -46,7 +46,7 @@ pub fn on_credits(
             let x = slots::slot_at(t, s);
             let sum = total(x.peer.credits, ind.credits);
             if 65535 < sum {
-                return forms::leave(
+                return endings::leave(
                     t,
                     room,
                     s,
@@ -56,7 +56,7 @@ pub fn on_credits(
                 );
             }
             let y = slot::with_peer_credits(x, sum as u16);
-            forms::alter(t, s, y, Answer::Done)
+            endings::alter(t, s, y, Answer::Done)
         }
     }
 }

@@ -29,7 +29,7 @@ pub fn respond(t: Table, room: &mut [u8], signal: &mut [u8], s: usize, x: Slot) 
     let id = state::identifier_of(k);
     let i = slots::index_at(s);
     let res = response(s, x.peer.cid);
-    forms::free_and_tell(
+    endings::free_and_tell(
         t,
         room,
         signal,
@@ -54,7 +54,7 @@ pub fn request(t: Table, signal: &mut [u8], s: usize, x: Slot) -> Served
     let y = slot::in_state(x, ChannelState::Disconnecting(true));
     let i = slots::index_at(s);
     let req = asked(s, x.peer.cid);
-    forms::alter_and_tell(
+    endings::alter_and_tell(
         u,
         signal,
         s,

@@ -38,9 +38,9 @@ pub fn drop_pending(t: Table, room: &mut [u8], slot: ChannelIndex) -> Served
             }
             let y = slot::with_hold(x, hold - 1);
             if state::is_peer_connecting(k) {
-                return forms::free(t, room, s, y, Answer::Done);
+                return endings::free(t, room, s, y, Answer::Done);
             }
-            forms::alter(t, s, y, Answer::Done)
+            endings::alter(t, s, y, Answer::Done)
         }
     }
 }

@@ -32,7 +32,7 @@ pub fn give_up(t: Table, room: &mut [u8], slot: ChannelIndex) -> Served
             if state::is_connecting(k)
                 | (state::is_connect_failed(k) | (state::is_connected(k) & (x.hold == 0)))
             {
-                return forms::free(t, room, s, x, Answer::Done);
+                return endings::free(t, room, s, x, Answer::Done);
             }
             slots::refused(t, Refusal::NotFound)
         }

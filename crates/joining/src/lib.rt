@@ -41,7 +41,7 @@ pub fn join(t: Table, room: &mut [u8], s: usize, x: Slot, payload: &[u8]) -> Ser
     );
     match step {
         Joined::Refused(r) => {
-            forms::leave(
+            endings::leave(
                 t,
                 room,
                 s,

@@ -20,7 +20,7 @@ pub fn disconnecting(t: Table, room: &mut [u8], s: usize) -> Served
     let x = slots::slot_at(t, s);
     let k = x.state;
     if state::is_connected(k) {
-        return forms::leave(
+        return endings::leave(
             t,
             room,
             s,

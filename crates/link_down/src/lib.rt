@@ -23,6 +23,6 @@ pub fn disconnected(t: Table, room: &mut [u8], link: u16) -> Served
         Given::Nothing,
     ) {
         Verdict::Stop(r) => slots::refused(t, r),
-        Verdict::Pass => forms::free_all(t, room, Want::OfLink(link), Answer::Done),
+        Verdict::Pass => endings::free_all(t, room, Want::OfLink(link), Answer::Done),
     }
 }

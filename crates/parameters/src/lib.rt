@@ -39,7 +39,7 @@ pub fn on_parameters(t: Table, out: &mut [u8], id: u8, read: ConnParamUpdateReqR
                 );
             }
             let res = ConnParamUpdateRes { result: 1 };
-            forms::tell(t, out, Answer::Done, id, Signal::ConnParamUpdateRes(res))
+            endings::tell(t, out, Answer::Done, id, Signal::ConnParamUpdateRes(res))
         }
     }
 }

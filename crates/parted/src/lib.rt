@@ -40,7 +40,7 @@ pub fn on_disconnection_res(
             if !(state::is_disconnecting(k) & (x.link == link)) {
                 return slots::done(t);
             }
-            forms::free(t, room, s, x, Answer::Done)
+            endings::free(t, room, s, x, Answer::Done)
         }
     }
 }

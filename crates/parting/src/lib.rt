@@ -40,7 +40,7 @@ pub fn on_disconnection_req(
             if !slot::of_link(x, link) {
                 return rejects::reject(t, out, Answer::Done, id, 2);
             }
-            forms::leave(
+            endings::leave(
                 t,
                 room,
                 s,

@@ -21,14 +21,14 @@ pub fn polled(t: Table, room: &mut [u8], s: usize, x: Slot, up: bool) -> Served
 {
     let k = x.state;
     if !up {
-        return forms::free(t, room, s, x, Answer::Refused(Refusal::Disconnected));
+        return endings::free(t, room, s, x, Answer::Refused(Refusal::Disconnected));
     }
     if state::is_peer_disconnecting(k) | state::is_disconnecting(k) {
-        return forms::free(t, room, s, x, Answer::Refused(Refusal::Disconnected));
+        return endings::free(t, room, s, x, Answer::Refused(Refusal::Disconnected));
     }
     if state::is_connect_failed(k) {
         let e = state::failure_of(k);
-        return forms::free(t, room, s, x, Answer::Refused(Refusal::ConnectError(e)));
+        return endings::free(t, room, s, x, Answer::Refused(Refusal::ConnectError(e)));
     }
     if !state::is_connected(k) {
         return slots::done(t);
@@ -36,5 +36,5 @@ pub fn polled(t: Table, room: &mut [u8], s: usize, x: Slot, up: bool) -> Served
     if x.hold != 0 {
         return slots::refused(t, Refusal::Held);
     }
-    forms::alter(t, s, slot::with_hold(x, 1), Answer::Opened)
+    endings::alter(t, s, slot::with_hold(x, 1), Answer::Opened)
 }

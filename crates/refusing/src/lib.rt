@@ -48,7 +48,7 @@ pub fn reject_pending(
             let id = state::identifier_of(k);
             let y = slot::with_hold(x, hold - 1);
             let res = LeCreditConnRes::reject(result);
-            forms::free_and_tell(
+            endings::free_and_tell(
                 t,
                 room,
                 signal,

@@ -26,7 +26,7 @@ pub fn reject(t: Table, out: &mut [u8], a: Answer, id: u8, reason: u16) -> Serve
     ensures { λ r. ⌜ ((t₀ : TableOf) (room job : List ℕ) → end r room (now (out .exit)) job ≡ endOf t₀ [] room (now (out .entry)) job (still t a (rejectReply id reason))) ⌝ }
 {
     let res = CommandRejectRes { reason };
-    forms::tell(t, out, a, id, Signal::CommandRejectRes(res))
+    endings::tell(t, out, a, id, Signal::CommandRejectRes(res))
 }
 
 // A body that can't be read.
@@ -43,5 +43,5 @@ pub fn refuse(t: Table, out: &mut [u8], id: u8, result: LeCreditConnResultCode) 
     ensures { λ r. ⌜ ((t₀ : TableOf) (room job : List ℕ) → end r room (now (out .exit)) job ≡ endOf t₀ [] room (now (out .entry)) job (still t Done (refusedResponse id result))) ⌝ }
 {
     let res = LeCreditConnRes::reject(result);
-    forms::tell(t, out, Answer::Done, id, Signal::LeCreditConnRes(res))
+    endings::tell(t, out, Answer::Done, id, Signal::LeCreditConnRes(res))
 }

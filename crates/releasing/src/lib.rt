@@ -35,7 +35,7 @@ pub fn dec_ref(t: Table, room: &mut [u8], slot: ChannelIndex) -> Served
             let k = x.state;
             if state::is_connected(k) & (hold == 1) {
                 let y = slot::with_hold(x, 0);
-                return forms::leave(
+                return endings::leave(
                     t,
                     room,
                     s,
@@ -44,7 +44,7 @@ pub fn dec_ref(t: Table, room: &mut [u8], slot: ChannelIndex) -> Served
                     Answer::Done,
                 );
             }
-            forms::alter(t, s, slot::with_hold(x, hold - 1), Answer::Done)
+            endings::alter(t, s, slot::with_hold(x, hold - 1), Answer::Done)
         }
     }
 }

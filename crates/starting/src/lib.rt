@@ -37,7 +37,7 @@ pub fn start(
     let y = settings::attempted(id, link, spsm, mps, mtu, account);
     let req = settings::request(s, spsm, mtu, mps, credits);
     let i = slots::index_at(s);
-    forms::alter_and_tell(
+    endings::alter_and_tell(
         u,
         signal,
         s,

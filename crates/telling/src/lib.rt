@@ -27,7 +27,7 @@ pub fn send_signal(t: Table, signal: &mut [u8], link: u16, form: Signal) -> Serv
         Verdict::Pass => {
             let u = slots::spent(t);
             let id = slots::next_id(t);
-            forms::tell(u, signal, Answer::Done, id, form)
+            endings::tell(u, signal, Answer::Done, id, form)
         }
     }
 }

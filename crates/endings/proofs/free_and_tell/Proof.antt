@@ -1,12 +1,12 @@
--- `forms::free_and_tell` meets its contract: the freed slot, its wiped part and the signal are the end of `freeing` (moves-in-telling).
+-- `endings::free_and_tell` meets its contract: the freed slot, its wiped part and the signal are the end of `freeing` (moves-in-telling).
 use mathlib.Core.List.{[], _∷_}
 use Rattle.definition.specs.Mem.{wipe}
 use Rattle.definition.specs.Table.{freed}
 use Rattle.room.specs.Placed.{placed}
-use Rattle.forms.specs.Forms.{moves-in-telling}
+use Rattle.endings.specs.Endings.{moves-in-telling}
 use borrow.Author.Needs.{needs}
-use Rattle.forms.proofs.free_and_tell.Statement.{statement}
-use Rattle.forms.proofs.free_and_tell.Tie as tie
+use Rattle.endings.proofs.free_and_tell.Statement.{statement}
+use Rattle.endings.proofs.free_and_tell.Tie as tie
 
 wipe-part-requires : tie.Need-wipe-part-requires
 wipe-part-requires c κs =

@@ -1,8 +1,8 @@
--- `forms::alter_and_tell` meets its contract: the slot's change and the written signal are the end of `change` (alters-telling).
-use Rattle.forms.specs.Forms.{alters-telling}
+-- `endings::alter_and_tell` meets its contract: the slot's change and the written signal are the end of `change` (alters-telling).
+use Rattle.endings.specs.Endings.{alters-telling}
 use borrow.Author.Needs.{needs}
-use Rattle.forms.proofs.alter_and_tell.Statement.{statement}
-use Rattle.forms.proofs.alter_and_tell.Tie as tie
+use Rattle.endings.proofs.alter_and_tell.Statement.{statement}
+use Rattle.endings.proofs.alter_and_tell.Tie as tie
 
 reply-requires : tie.Need-reply-requires
 reply-requires c κs = search needs

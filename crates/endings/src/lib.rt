@@ -1,4 +1,4 @@
-// The forms that outcomes have, in code: a reply alone, a slot changed, a slot freed, a slot that leaves Connected, all slots of a search
+// The endings of a call, in code, one for each form that outcomes have: a reply alone, a slot changed, a slot freed, a slot that leaves Connected, all slots of a search
 // freed. Every call ends in one of them, so that freeing and leaving Connected are written once. Each contract is the end of the
 // definition's form, whatever other memory the call was lent.
 ghost use mathlib.Core.Path.{_≡_};

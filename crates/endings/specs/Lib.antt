@@ -1,2 +1,2 @@
 -- How each form's code comes to the definition's end.
-pub mod Forms
+pub mod Endings

@@ -1,9 +1,9 @@
--- `forms::free_all` meets its contract: the freed slots and their wiped parts are the end of `sweep` (sweeps).
+-- `endings::free_all` meets its contract: the freed slots and their wiped parts are the end of `sweep` (sweeps).
 use Rattle.slot.specs.Want.{wanted}
-use Rattle.forms.specs.Forms.{sweeps}
+use Rattle.endings.specs.Endings.{sweeps}
 use borrow.Author.Needs.{needs}
-use Rattle.forms.proofs.free_all.Statement.{statement}
-use Rattle.forms.proofs.free_all.Tie as tie
+use Rattle.endings.proofs.free_all.Statement.{statement}
+use Rattle.endings.proofs.free_all.Tie as tie
 
 wipe-all-requires : tie.Need-wipe-all-requires
 wipe-all-requires c κs = search needs

@@ -1,8 +1,8 @@
--- `forms::tell` meets its contract: what was given back and what was written are the end of `still` (tells).
-use Rattle.forms.specs.Forms.{tells}
+-- `endings::tell` meets its contract: what was given back and what was written are the end of `still` (tells).
+use Rattle.endings.specs.Endings.{tells}
 use borrow.Author.Needs.{needs}
-use Rattle.forms.proofs.tell.Statement.{statement}
-use Rattle.forms.proofs.tell.Tie as tie
+use Rattle.endings.proofs.tell.Statement.{statement}
+use Rattle.endings.proofs.tell.Tie as tie
 
 reply-requires : tie.Need-reply-requires
 reply-requires c κs = search needs

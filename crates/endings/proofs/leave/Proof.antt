@@ -1,12 +1,12 @@
--- `forms::leave` meets its contract: the slot in its next state and the zeroed assembly place are the end of `leaving` (moves-in).
+-- `endings::leave` meets its contract: the slot in its next state and the zeroed assembly place are the end of `leaving` (moves-in).
 use mathlib.Core.List.{[], _∷_}
 use Rattle.definition.specs.Mem.{put, zeros}
 use Rattle.definition.specs.Table.{placeOf, left}
 use Rattle.room.specs.Placed.{placed}
-use Rattle.forms.specs.Forms.{moves-in}
+use Rattle.endings.specs.Endings.{moves-in}
 use borrow.Author.Needs.{needs}
-use Rattle.forms.proofs.leave.Statement.{statement}
-use Rattle.forms.proofs.leave.Tie as tie
+use Rattle.endings.proofs.leave.Statement.{statement}
+use Rattle.endings.proofs.leave.Tie as tie
 
 zero-assembly-requires : tie.Need-zero-assembly-requires
 zero-assembly-requires c κs =

@@ -1,8 +1,8 @@
--- `forms::alter` meets its contract: a slot that changes without a move leaves the room (alters).
-use Rattle.forms.specs.Forms.{alters}
+-- `endings::alter` meets its contract: a slot that changes without a move leaves the room (alters).
+use Rattle.endings.specs.Endings.{alters}
 use borrow.Author.Needs.{needs}
-use Rattle.forms.proofs.alter.Statement.{statement}
-use Rattle.forms.proofs.alter.Tie as tie
+use Rattle.endings.proofs.alter.Statement.{statement}
+use Rattle.endings.proofs.alter.Tie as tie
 
 changed-requires : tie.Need-changed-requires
 changed-requires c κs = search needs

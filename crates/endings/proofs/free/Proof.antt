@@ -1,12 +1,12 @@
--- `forms::free` meets its contract: the freed slot and its wiped part are the end of `freeing` (moves-in).
+-- `endings::free` meets its contract: the freed slot and its wiped part are the end of `freeing` (moves-in).
 use mathlib.Core.List.{[], _∷_}
 use Rattle.definition.specs.Mem.{wipe}
 use Rattle.definition.specs.Table.{freed}
 use Rattle.room.specs.Placed.{placed}
-use Rattle.forms.specs.Forms.{moves-in}
+use Rattle.endings.specs.Endings.{moves-in}
 use borrow.Author.Needs.{needs}
-use Rattle.forms.proofs.free.Statement.{statement}
-use Rattle.forms.proofs.free.Tie as tie
+use Rattle.endings.proofs.free.Statement.{statement}
+use Rattle.endings.proofs.free.Tie as tie
 
 wipe-part-requires : tie.Need-wipe-part-requires
 wipe-part-requires c κs =

@@ -1,0 +1,2 @@
+-- Every command with the row that it prints.
+pub mod Playing

@@ -1,0 +1,67 @@
+// Every command but `T` and `S` with the row that it prints (docs/CHANRUN.md): which play of `played`, `played_frames` and `played_table` it is. Defined in
+// specs/Playing.antt, case by case. `room` is the table's room, no longer and no shorter; `octets` holds a word's octets or a job, `frames` frames.
+ghost use Rattle.played.specs.Played.{Plays};
+ghost use Rattle.playing.specs.Playing.{playOf};
+use channel::Table;
+use commands::Command;
+use octets::least;
+use played::Played;
+use played::spelled;
+use printed::first;
+
+pub fn play(
+    t: Table,
+    c: Command,
+    line: &[u8],
+    room: &mut [u8],
+    octets: &mut [u8],
+    frames: &mut [u8],
+    row: &mut [u8],
+) -> Played
+    ensures { λ r. ⌜ Plays (playOf t (now (room .entry)) (now (line .entry)) (now (octets .entry)) (now (frames .entry)) c) (now (row .entry)) r (now (room .exit)) (now (row .exit)) ⌝ }
+{
+    match c {
+        Command::Bad => {
+            let n = printed::bad(row);
+            Played {
+                table: t,
+                octets: n,
+            }
+        }
+        Command::Opened { .. } => played::opened(t, c, room, row),
+        Command::Dispatch { link, cid, payload } => {
+            let n = spelled(line, payload, octets);
+            played_frames::frame(t, link, cid, first(octets, n), room, row)
+        }
+        Command::Send { slot, job } => {
+            let n = spelled(line, job, octets);
+            played_frames::send(t, slot, first(octets, n), room, frames, row)
+        }
+        Command::Receive { slot, size } => {
+            let n = least(size as usize, octets.len());
+            played_frames::take(t, slot, room, &mut octets[..n], row)
+        }
+        Command::Queries(slot) => {
+            let n = played_table::queried(t, slot, row);
+            Played {
+                table: t,
+                octets: n,
+            }
+        }
+        Command::View => {
+            let n = view::write_view(row, 0, t);
+            Played {
+                table: t,
+                octets: n,
+            }
+        }
+        Command::Room(slot) => {
+            let n = played_table::shown(t, slot, room, row);
+            Played {
+                table: t,
+                octets: n,
+            }
+        }
+        _ => played::plain(t, c, room, row),
+    }
+}

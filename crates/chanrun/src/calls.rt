@@ -1,10 +1,13 @@
-// The calls: each command's call is played by a proved function and its rows are printed. `room` is the table's room, no longer and no shorter.
+// The lines: each command is played by a proved function and its rows are printed. What a line leaves is defined in specs/Served.antt.
 ghost use mathlib.Core.Path.{_≡_};
 ghost use lib.Seq.{sets};
 ghost use Rattle.definition.specs.Asking.{noSlots};
 ghost use Rattle.printed.specs.Printed.{badText};
-ghost use Rattle.played.specs.Played.{sizeOf};
+ghost use Rattle.script.specs.Script.{commandOf};
+ghost use Rattle.played.specs.Played.{signalOf};
 ghost use Rattle.played_table.specs.PlayedTable.{madeOf};
+ghost use Rattle.playing.specs.Playing.{playOf};
+ghost use Rattle.chanrun.specs.Served.{Leaves, left, signalsOf, lineOf};
 use super::output::print;
 use super::output::printed_row;
 use channel::Table;
@@ -13,13 +16,6 @@ use octets::least;
 use played::size_of;
 use played::spelled;
 use printed::first;
-
-// The octets of a table's room.
-pub fn room_size(t: Table) -> usize
-    ensures { λ r. ⌜ r ≡ sizeOf (t .n) (t .d) (t .m) ⌝ }
-{
-    size_of(t.n, t.d, t.m)
-}
 
 // ---- making
 
@@ -31,14 +27,14 @@ pub fn no_table() -> Table
 }
 
 // `T`
-pub fn make(n: u16, d: u16, m: u16, room: &mut [u8], row: &mut [u8]) -> Table
-    ensures { λ r. ⌜ (r ≡ madeOf n d m (now (room .entry)) .table) × (now (room .exit) ≡ madeOf n d m (now (room .entry)) .room) ⌝ }
+fn make(n: u16, d: u16, m: u16, room: &mut [u8], row: &mut [u8]) -> Table
+    ensures { λ r. ⌜ Leaves (left (madeOf n d m (now (room .entry)))) r (now (room .exit)) ⌝ }
 {
     let p = played_table::made(n, d, m, room, row);
     printed_row(p, row)
 }
 
-// ---- the calls
+// ---- the rows
 
 // A line that asks for nothing.
 pub fn bad(row: &mut [u8])
@@ -46,17 +42,6 @@ pub fn bad(row: &mut [u8])
 {
     let n = printed::bad(row);
     print(row, n);
-}
-
-fn plain(t: Table, c: Command, room: &mut [u8], row: &mut [u8]) -> Table {
-    let p = played::plain(t, c, room, row);
-    printed_row(p, row)
-}
-
-// `O`
-fn opened(t: Table, slot: u16, link: u16, up: bool, room: &mut [u8], row: &mut [u8]) -> Table {
-    let p = played::opened(t, Command::Opened { slot, link, up }, room, row);
-    printed_row(p, row)
 }
 
 // One signal of a PDU, and its row.
@@ -68,12 +53,14 @@ fn one_signal(
     pdu: &[u8],
     room: &mut [u8],
     row: &mut [u8],
-) -> Table {
+) -> Table
+    ensures { λ r. ⌜ Leaves (left (signalOf t (now (room .entry)) link listening central (now (pdu .entry)))) r (now (room .exit)) ⌝ }
+{
     let p = played_frames::signal(t, link, listening, central, pdu, room, row);
     printed_row(p, row)
 }
 
-// `S`: a row a signal, one row for empty input. Each signal has a header, so that the PDU's octets bound the turns.
+// `S`: a row a signal, one row for empty input.
 fn every_signal(
     t: Table,
     link: u16,
@@ -82,58 +69,22 @@ fn every_signal(
     pdu: &[u8],
     room: &mut [u8],
     row: &mut [u8],
-) -> Table {
+) -> Table
+    ensures { λ r. ⌜ Leaves (signalsOf link listening central t (now (room .entry)) (now (pdu .entry))) r (now (room .exit)) ⌝ }
+{
     let mut u = one_signal(t, link, listening, central, pdu, room, row);
     let mut rest = remaining::rest(pdu);
-    let mut turns = pdu.len();
-    while 0 < turns && 0 < rest.len() {
+    while 0 < rest.len() {
         let next = one_signal(u, link, listening, central, rest, room, row);
         u = next;
         let tail = remaining::rest(rest);
         rest = tail;
-        turns -= 1;
     }
     u
 }
 
-// `F`
-fn frame(t: Table, link: u16, cid: u16, payload: &[u8], room: &mut [u8], row: &mut [u8]) -> Table {
-    let p = played_frames::frame(t, link, cid, payload, room, row);
-    printed_row(p, row)
-}
-
-// `K`
-fn send(t: Table, slot: u16, job: &[u8], room: &[u8], frames: &mut [u8], row: &mut [u8]) -> Table {
-    let p = played_frames::send(t, slot, job, room, frames, row);
-    printed_row(p, row)
-}
-
-// `B`
-fn take(t: Table, slot: u16, room: &mut [u8], job: &mut [u8], row: &mut [u8]) -> Table {
-    let p = played_frames::take(t, slot, room, job, row);
-    printed_row(p, row)
-}
-
-// `U`
-fn queries(t: Table, slot: u16, row: &mut [u8]) {
-    let n = played_table::queried(t, slot, row);
-    print(row, n)
-}
-
-// `M`
-fn shown(t: Table, slot: u16, room: &[u8], row: &mut [u8]) {
-    let n = played_table::shown(t, slot, room, row);
-    print(row, n)
-}
-
-// `V`
-fn viewed(row: &mut [u8], t: Table) {
-    let n = view::write_view(row, 0, t);
-    print(row, n);
-}
-
-// Every call but a making.
-pub fn call(
+// Every other command, and its row.
+fn one_row(
     t: Table,
     c: Command,
     line: &[u8],
@@ -141,46 +92,47 @@ pub fn call(
     octets: &mut [u8],
     frames: &mut [u8],
     row: &mut [u8],
-) -> Table {
-    match c {
-        Command::Bad => {
-            bad(row);
-            t
-        }
-        Command::Signal {
+) -> Table
+    ensures { λ r. ⌜ Leaves (left (playOf t (now (room .entry)) (now (line .entry)) (now (octets .entry)) (now (frames .entry)) c)) r (now (room .exit)) ⌝ }
+{
+    let p = playing::play(t, c, line, room, octets, frames, row);
+    printed_row(p, row)
+}
+
+// ---- a line
+
+// One line: its call is made and its rows are printed. The table after it.
+pub fn serve(
+    t: Table,
+    line: &[u8],
+    room: &mut [u8],
+    octets: &mut [u8],
+    frames: &mut [u8],
+    row: &mut [u8],
+) -> Table
+    ensures { λ r. ⌜ Leaves (lineOf t (now (line .entry)) (now (room .entry)) (now (octets .entry)) (now (frames .entry)) (commandOf (now (line .entry)))) r (now (room .exit)) ⌝ }
+{
+    let c = script::read_command(line);
+    if let Command::Make { n, d, m } = c {
+        return make(n, d, m, room, row);
+    }
+    let size = least(size_of(t.n, t.d, t.m), room.len());
+    if let Command::Signal {
+        link,
+        listening,
+        central,
+        pdu,
+    } = c {
+        let n = spelled(line, pdu, octets);
+        return every_signal(
+            t,
             link,
             listening,
             central,
-            pdu,
-        } => {
-            let n = spelled(line, pdu, octets);
-            every_signal(t, link, listening, central, first(octets, n), room, row)
-        }
-        Command::Opened { slot, link, up } => opened(t, slot, link, up, room, row),
-        Command::Dispatch { link, cid, payload } => {
-            let n = spelled(line, payload, octets);
-            frame(t, link, cid, first(octets, n), room, row)
-        }
-        Command::Send { slot, job } => {
-            let n = spelled(line, job, octets);
-            send(t, slot, first(octets, n), room, frames, row)
-        }
-        Command::Receive { slot, size } => {
-            let n = least(size as usize, octets.len());
-            take(t, slot, room, &mut octets[..n], row)
-        }
-        Command::Queries(slot) => {
-            queries(t, slot, row);
-            t
-        }
-        Command::View => {
-            viewed(row, t);
-            t
-        }
-        Command::Room(slot) => {
-            shown(t, slot, room, row);
-            t
-        }
-        _ => plain(t, c, room, row),
+            first(octets, n),
+            &mut room[..size],
+            row,
+        );
     }
+    one_row(t, c, line, &mut room[..size], octets, frames, row)
 }

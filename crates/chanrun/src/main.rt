@@ -4,7 +4,6 @@ mod calls;
 mod output;
 
 use channel::Table;
-use commands::Command;
 use lines::Found;
 use lines::Held;
 use octets::least;
@@ -23,23 +22,6 @@ const FRAMES: usize = 76935;
 
 // The longest row: the frames in hex, the answer and a column.
 const ROW: usize = 160000;
-
-// One line: its call is made and its rows are printed. The table after it.
-fn serve(
-    t: Table,
-    line: &[u8],
-    room: &mut [u8],
-    octets: &mut [u8],
-    frames: &mut [u8],
-    row: &mut [u8],
-) -> Table {
-    let c = script::read_command(line);
-    if let Command::Make { n, d, m } = c {
-        return calls::make(n, d, m, room, row);
-    }
-    let size = least(calls::room_size(t), room.len());
-    calls::call(t, c, line, &mut room[..size], octets, frames, row)
-}
 
 // Reads behind what is held: how many octets came, 0 at the end of the input.
 fn read_more(input: &mut [u8], at: usize) -> usize {
@@ -70,7 +52,7 @@ fn one_turn(
     let found = next.found;
     match found {
         Found::Line(w) => {
-            let table = serve(t, words::text(input, w), room, octets, frames, row);
+            let table = calls::serve(t, words::text(input, w), room, octets, frames, row);
             Left {
                 table,
                 held,
@@ -123,7 +105,7 @@ fn last(
 ) -> Table {
     let found = lines::last_line(h);
     match found {
-        Found::Line(w) => serve(t, words::text(input, w), room, octets, frames, row),
+        Found::Line(w) => calls::serve(t, words::text(input, w), room, octets, frames, row),
         Found::Passed => t,
         Found::Long => t,
         Found::More => t,

@@ -17,7 +17,8 @@ same-length-2 : tie.Need-same-length-2
 same-length-2 c = search needs
 
 returns : tie.Need-returns
-returns c = (c .printed-row .ensures ∙ c .before .before .before .before .before .before .made .ensures .table, c .before .before .before .before .before .before .made .ensures .room)
+returns c =
+    record { table = c .printed-row .ensures ∙ c .before .before .before .before .before .before .made .ensures .table; room = c .before .before .before .before .before .before .made .ensures .room }
 
 pub make-spec : {M : Type 1} → statement M
 make-spec =

@@ -1,0 +1,3 @@
+-- What a line of a script leaves.
+pub mod Served
+pub mod ServedLaws

@@ -1,0 +1,96 @@
+-- What a line of a script leaves (docs/CHANRUN.md): the table, and all of the room that the program holds, of which the table's own is the start. The rows
+-- that it prints are those of the plays.
+use mathlib.Core.Path.{_≡_}
+use mathlib.Core.Bool.{Bool}
+use mathlib.Core.List.{List, _++_}
+use Prim.Native.Nat.{ℕ, min}
+use lib.Dec.{ltb}
+use lib.ListN.{length, take, drop}
+use Rattle.lists.specs.Choose.{choose}
+use Rattle.lists.specs.Fuel.{whole}
+use Rattle.headers.specs.Headers.{restOf}
+use Rattle.channel.specs.declared.Table.{Table}
+use Rattle.commands.specs.declared.Command.{Command}
+use Rattle.commands.specs.declared.Command.the-variants as Command
+use Rattle.played.specs.Played.{Play, signalOf, sizeOf, spelledOf}
+use Rattle.played_table.specs.PlayedTable.{madeOf}
+use Rattle.playing.specs.Playing.{playOf}
+
+pub record After : Type 0 where
+  pub table : Table
+  pub room : List ℕ
+
+abbrev pub after : Table → (room : List ℕ) → After
+after t room = record { table = t; room = room }
+
+abbrev pub left : Play → After
+left p = after (p .table) (p .room)
+
+-- what a function gives back and leaves
+pub record Leaves (a : After) (u : Table) (room′ : List ℕ) : Type 0 where
+  pub table : u ≡ a .table
+  pub room : room′ ≡ a .room
+
+-- ---- `S`: "one row a signal": the first signal, then each of those that stand after it
+
+module _ (link : ℕ) (listening central : Bool) where
+  abbrev pub oneSignal : After → (pdu : List ℕ) → After
+  oneSignal a pdu = left (signalOf (a .table) (a .room) link listening central pdu)
+
+  -- one turn: nothing left is the end
+  abbrev pub signalsBy : (List ℕ → After → After) → (pdu : List ℕ) → After → After
+  signalsBy go pdu a = choose (ltb 0 (length pdu)) (go (restOf pdu) (oneSignal a pdu)) a
+
+  unfoldable pub signalsAfter : (pdu : List ℕ) → After → After
+  signalsAfter = whole (λ a. a) signalsBy
+
+  -- empty input has a row too
+  abbrev pub signalsOf : Table → (room pdu : List ℕ) → After
+  signalsOf t room pdu = signalsAfter (restOf pdu) (oneSignal (after t room) pdu)
+
+-- ---- a line, by its command
+
+-- the octets of the table's room, as many as the program holds
+abbrev pub held : Table → (room : List ℕ) → ℕ
+held t room = min (sizeOf (t .n) (t .d) (t .m)) (length room)
+
+-- what stands behind the table's room stays
+abbrev pub before : (rest : List ℕ) → After → After
+before rest a = after (a .table) (a .room ++ rest)
+
+module _ (t : Table) (line room octets frames : List ℕ) where
+  -- on the table's own room
+  abbrev within : (List ℕ → After) → After
+  within f = before (drop (held t room) room) (f (take (held t room) room))
+
+  abbrev pub played : Command → After
+  played c = within (λ own. left (playOf t own line octets frames c))
+
+  unfoldable pub lineOf : Command → After
+  lineOf Command.Bad = played Command.Bad
+  lineOf (Command.Make n d m) = left (madeOf n d m room)
+  lineOf (Command.RegisterSpsm spsm) = played (Command.RegisterSpsm spsm)
+  lineOf (Command.Signal link listening central pdu) = within (λ own. signalsOf link listening central t own (spelledOf (length octets) line pdu))
+  lineOf (Command.NextPending link up) = played (Command.NextPending link up)
+  lineOf (Command.RejectAllPending link) = played (Command.RejectAllPending link)
+  lineOf (Command.AcceptPending slot config) = played (Command.AcceptPending slot config)
+  lineOf (Command.RejectPending slot result) = played (Command.RejectPending slot result)
+  lineOf (Command.DropPending slot) = played (Command.DropPending slot)
+  lineOf (Command.Create link spsm config) = played (Command.Create link spsm config)
+  lineOf (Command.Opened slot link up) = played (Command.Opened slot link up)
+  lineOf (Command.GiveUp slot) = played (Command.GiveUp slot)
+  lineOf (Command.IncRef slot) = played (Command.IncRef slot)
+  lineOf (Command.DecRef slot) = played (Command.DecRef slot)
+  lineOf (Command.Disconnect slot) = played (Command.Disconnect slot)
+  lineOf (Command.DisconnectByCid cid) = played (Command.DisconnectByCid cid)
+  lineOf (Command.Disconnected link) = played (Command.Disconnected link)
+  lineOf Command.NextDisconnect = played Command.NextDisconnect
+  lineOf (Command.Dispatch link cid payload) = played (Command.Dispatch link cid payload)
+  lineOf (Command.Send slot job) = played (Command.Send slot job)
+  lineOf (Command.Receive slot size) = played (Command.Receive slot size)
+  lineOf Command.Attention = played Command.Attention
+  lineOf (Command.Queries slot) = played (Command.Queries slot)
+  lineOf (Command.SendConnParamUpdateReq link least most latency timeout) = played (Command.SendConnParamUpdateReq link least most latency timeout)
+  lineOf (Command.SendConnParamUpdateRes link result) = played (Command.SendConnParamUpdateRes link result)
+  lineOf Command.View = played Command.View
+  lineOf (Command.Room slot) = played (Command.Room slot)

@@ -10,6 +10,10 @@ use Rattle.lists.specs.Choose.{choose}
 use Rattle.lists.specs.Fuel.{whole}
 use Rattle.headers.specs.Headers.{restOf}
 use Rattle.channel.specs.declared.Table.{Table}
+use Rattle.words.specs.Words.{textOf}
+use Rattle.lines.specs.declared.Found.{Found}
+use Rattle.lines.specs.declared.Found.the-variants as Found
+use Rattle.script.specs.Script.{commandOf}
 use Rattle.commands.specs.declared.Command.{Command}
 use Rattle.commands.specs.declared.Command.the-variants as Command
 use Rattle.played.specs.Played.{Play, signalOf, sizeOf, spelledOf}
@@ -94,3 +98,11 @@ module _ (t : Table) (line room octets frames : List ℕ) where
   lineOf (Command.SendConnParamUpdateRes link result) = played (Command.SendConnParamUpdateRes link result)
   lineOf Command.View = played Command.View
   lineOf (Command.Room slot) = played (Command.Room slot)
+
+-- ---- what was found in the input: a line, or one that is too long, whose row is `? -`; else there is nothing to serve
+module _ (t : Table) (input room octets frames : List ℕ) where
+  unfoldable pub foundOf : Found → After
+  foundOf (Found.Line w) = lineOf t (textOf input w) room octets frames (commandOf (textOf input w))
+  foundOf Found.Passed = after t room
+  foundOf Found.Long = after t room
+  foundOf Found.More = after t room

@@ -7,11 +7,12 @@ ghost use Rattle.script.specs.Script.{commandOf};
 ghost use Rattle.played.specs.Played.{signalOf};
 ghost use Rattle.played_table.specs.PlayedTable.{madeOf};
 ghost use Rattle.playing.specs.Playing.{playOf};
-ghost use Rattle.chanrun.specs.Served.{Leaves, left, signalsOf, lineOf};
+ghost use Rattle.chanrun.specs.Served.{Leaves, left, signalsOf, lineOf, foundOf};
 use super::output::print;
 use super::output::printed_row;
 use channel::Table;
 use commands::Command;
+use lines::Found;
 use octets::least;
 use played::size_of;
 use played::spelled;
@@ -37,7 +38,7 @@ fn make(n: u16, d: u16, m: u16, room: &mut [u8], row: &mut [u8]) -> Table
 // ---- the rows
 
 // A line that asks for nothing.
-pub fn bad(row: &mut [u8])
+fn bad(row: &mut [u8])
     ensures { λ _. ⌜ now (row .exit) ≡ sets (now (row .entry)) 0 badText ⌝ }
 {
     let n = printed::bad(row);
@@ -102,7 +103,7 @@ fn one_row(
 // ---- a line
 
 // One line: its call is made and its rows are printed. The table after it.
-pub fn serve(
+fn serve(
     t: Table,
     line: &[u8],
     room: &mut [u8],
@@ -135,4 +136,27 @@ pub fn serve(
         );
     }
     one_row(t, c, line, &mut room[..size], octets, frames, row)
+}
+
+// What was found in the input: a line is served, and one that is too long gets its row.
+pub fn serve_found(
+    t: Table,
+    found: Found,
+    input: &[u8],
+    room: &mut [u8],
+    octets: &mut [u8],
+    frames: &mut [u8],
+    row: &mut [u8],
+) -> Table
+    ensures { λ r. ⌜ Leaves (foundOf t (now (input .entry)) (now (room .entry)) (now (octets .entry)) (now (frames .entry)) found) r (now (room .exit)) ⌝ }
+{
+    match found {
+        Found::Line(w) => serve(t, words::text(input, w), room, octets, frames, row),
+        Found::Passed => t,
+        Found::Long => {
+            bad(row);
+            t
+        }
+        Found::More => t,
+    }
 }

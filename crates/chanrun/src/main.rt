@@ -3,7 +3,6 @@
 mod calls;
 mod output;
 
-use channel::Table;
 use lines::Found;
 use lines::Held;
 use octets::least;
@@ -30,85 +29,40 @@ fn read_more(input: &mut [u8], at: usize) -> usize {
     io::count(got, input)
 }
 
-// What a turn leaves, and whether there is another.
-struct Left {
-    table: Table,
+// What the input has next, and whether there is more to come.
+struct Fetched {
+    found: Found,
     held: Held,
     again: bool,
 }
 
-// One turn: the next line is served, or more is read. Where the input has ended, a last line without its newline is.
-fn one_turn(
-    t: Table,
-    h: Held,
-    input: &mut [u8],
-    room: &mut [u8],
-    octets: &mut [u8],
-    frames: &mut [u8],
-    row: &mut [u8],
-) -> Left {
+// The next of what is held, or more is read. Where the input has ended, a last line without its newline.
+fn fetch(input: &mut [u8], h: Held) -> Fetched {
     let next = lines::next_line(input, h);
     let held = next.held;
     let found = next.found;
-    match found {
-        Found::Line(w) => {
-            let table = calls::serve(t, words::text(input, w), room, octets, frames, row);
-            Left {
-                table,
-                held,
-                again: true,
-            }
+    if let Found::More = found {
+        let ready = lines::ready(input, held);
+        let n = read_more(input, ready.end);
+        if n == 0 {
+            let last = lines::last_line(ready);
+            return Fetched {
+                found: last,
+                held: ready,
+                again: false,
+            };
         }
-        Found::Passed => Left {
-            table: t,
-            held,
+        let grown = lines::grown(input.len(), ready, n);
+        return Fetched {
+            found: Found::Passed,
+            held: grown,
             again: true,
-        },
-        Found::Long => {
-            calls::bad(row);
-            Left {
-                table: t,
-                held,
-                again: true,
-            }
-        }
-        Found::More => {
-            let ready = lines::ready(input, held);
-            let n = read_more(input, ready.end);
-            if n == 0 {
-                let table = last(t, ready, input, room, octets, frames, row);
-                return Left {
-                    table,
-                    held: ready,
-                    again: false,
-                };
-            }
-            let grown = lines::grown(input.len(), ready, n);
-            Left {
-                table: t,
-                held: grown,
-                again: true,
-            }
-        }
+        };
     }
-}
-
-// What is held where the input ends.
-fn last(
-    t: Table,
-    h: Held,
-    input: &[u8],
-    room: &mut [u8],
-    octets: &mut [u8],
-    frames: &mut [u8],
-    row: &mut [u8],
-) -> Table {
-    let found = lines::last_line(h);
-    match found {
-        Found::Line(w) => calls::serve(t, words::text(input, w), room, octets, frames, row),
-        Found::Passed => t,
-        Found::Long => t,
-        Found::More => t,
+    Fetched {
+        found,
+        held,
+        again: true,
     }
 }
 
@@ -118,11 +72,12 @@ fn run(input: &mut [u8], room: &mut [u8], octets: &mut [u8], frames: &mut [u8], 
     let mut held = lines::none();
     let mut turns = u64::MAX;
     while 0 < turns {
-        let next = one_turn(t, held, input, room, octets, frames, row);
+        let next = fetch(input, held);
+        let found = next.found;
+        let table = calls::serve_found(t, found, input, room, octets, frames, row);
         if !next.again {
             return;
         }
-        let table = next.table;
         let h = next.held;
         t = table;
         held = h;

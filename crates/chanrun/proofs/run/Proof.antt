@@ -26,8 +26,11 @@ none-requires c κs = search needs
 loop-holds : tie.Need-loop-holds Inv-loop μ-loop
 loop-holds c = search needs
 
-one-turn-requires : tie.Need-one-turn-requires Inv-loop μ-loop
-one-turn-requires c κs = search needs
+fetch-requires : tie.Need-fetch-requires Inv-loop μ-loop
+fetch-requires c κs = search needs
+
+serve-found-requires : tie.Need-serve-found-requires Inv-loop μ-loop
+serve-found-requires c κs = search needs
 
 same-length : tie.Need-same-length Inv-loop μ-loop
 same-length c = search needs
@@ -83,7 +86,8 @@ run-spec =
     no-table-requires
     none-requires
     loop-holds
-    one-turn-requires
+    fetch-requires
+    serve-found-requires
     same-length
     same-length-2
     same-length-3

@@ -2,3 +2,5 @@
 pub mod Layout
 pub mod Spelled
 pub mod Rows
+pub mod Columns
+pub mod Back

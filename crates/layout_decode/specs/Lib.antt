@@ -1,4 +1,3 @@
--- The tests by which whole tables are known, against the definition of reading; and that a table has one spelling.
-pub mod Columns
+-- The tests by which whole tables are known, against the definition of reading.
+pub mod Loops
 pub mod Whole
-pub mod Back

@@ -7,7 +7,7 @@ use native.Mathlib.Omega.{arith}
 use lib.Dec.{eqb}
 use lib.ListN.{length, getD, take, drop, replicate, length-take, length-drop, take-append-drop}
 use lib.Seq.{take-add, getD-take, getD-drop, length-take-le}
-use borrow.Author.Tests.{eqb-true, eq-eqb}
+use borrow.Author.Tests.{eqb-true}
 use Rattle.lists.specs.Choose.{choose}
 use Rattle.lists.specs.Both.{and-left, and-right}
 use Rattle.octets.specs.Octets.{part, u16At}
@@ -21,7 +21,9 @@ use Rattle.layout.specs.declared.Decoded.{Decoded}
 use Rattle.layout.specs.Layout.{layoutNumber, headOctets, spsmOctets, columnCount, tableOctets, row, tabulate, head, columns, spell, cell, slotIn, taken, same, read}
 use Rattle.layout.specs.Spelled.{rowSpelled, allBelow, headSpelled, rowsSpelled}
 use Rattle.layout.specs.Rows.{row-passes, row-forth}
-use Rattle.layout_decode.specs.Columns.{tabulate-length, tabulate-at, tabulated, all-below, all-each, columnOctet, column-octet, spell-length, cell-at}
+use Rattle.layout.specs.Columns.{tabulate-length, tabulate-at, tabulated, columnOctet, column-octet, spell-length, cell-at}
+use Rattle.layout.specs.Back.{same-refl, same-eq}
+use Rattle.layout_decode.specs.Loops.{all-below, all-each}
 
 abbrev pub spelled : List ℕ → Bool
 spelled o = headSpelled o && rowsSpelled o
@@ -29,23 +31,6 @@ spelled o = headSpelled o && rowsSpelled o
 -- what stands for octets that are no spelling
 abbrev pub notRead : Decoded
 notRead = record { ok = false; table = noSlots }
-
--- ---- same
-
-pub same-refl : (xs : List ℕ) → same xs xs ≡ true
-unfolding same
-same-refl [] = refl
-same-refl (x ∷ xs) = rw (eq-eqb x x refl, same-refl xs)
-
-pub same-eq : (xs ys : List ℕ) → same xs ys ≡ true → xs ≡ ys
-unfolding same
-same-eq [] [] e = refl
-same-eq [] (y ∷ ys) e = absurd (false≢true e)
-same-eq (x ∷ xs) [] e = absurd (false≢true e)
-same-eq (x ∷ xs) (y ∷ ys) e =
-    let a = eqb-true x y (and-left (eqb x y) (same xs ys) e) in
-    let b = same-eq xs ys (and-right (eqb x y) (same xs ys) e) in
-    rw (a, b)
 
 false-unless : (b : Bool) → (b ≡ true → ⊥) → b ≡ false
 false-unless true h = absurd (h refl)

@@ -1,3 +1,2 @@
--- Every slot's row written, and the head before them: the spelling of the table, from which it is read back.
+-- Every slot's row written, and the head before them: the spelling of the table.
 pub mod Whole
-pub mod Back

@@ -16,33 +16,13 @@ use Rattle.channel.specs.Limits.{slotsMost}
 use Rattle.channel.specs.declared.Slot.{Slot}
 use Rattle.channel.specs.declared.Table.{Table}
 use Rattle.layout.specs.Layout.{layoutNumber, spsmOctets, headOctets, columnCount, tableOctets, cell, row, tabulate, head, columns, spell}
+use Rattle.layout.specs.Columns.{columns-length, column-at}
 use Rattle.layout_local.specs.Puts.{puts}
 use Rattle.layout_write.specs.Cells.{place, putRows, puts-length, rows-length, rows-other, rows-same}
 
--- ---- an element of a tabulated list
-
-pub tabulate-length : {A : Type 0} (f : ℕ → A) (n : ℕ) → length (tabulate f n) ≡ n
-unfolding tabulate
-tabulate-length f zero = refl
-tabulate-length f (suc n) = ap suc (tabulate-length (λ k. f (suc k)) n)
-
-pub tabulate-at : {A : Type 0} (f : ℕ → A) (n k : ℕ) (d : A) → k < n → getD (tabulate f n) k d ≡ f k
-unfolding tabulate
-tabulate-at f zero k d h = absurd (omega arith)
-tabulate-at f (suc n) zero d h = refl
-tabulate-at f (suc n) (suc k) d h = tabulate-at (λ j. f (suc j)) n k d (omega arith)
-
-pub columns-length : (xs : List Slot) → length (columns xs) ≡ slotsMost * columnCount
-unfolding columns
-columns-length xs = tabulate-length (λ k. getD (getD (map row xs) (k % slotsMost) []) (k / slotsMost) 0) (slotsMost * columnCount)
-
-pub columns-at : (xs : List Slot) (k : ℕ) → k < slotsMost * columnCount → getD (columns xs) k 0 ≡ getD (getD (map row xs) (k % slotsMost) []) (k / slotsMost) 0
-unfolding columns
-columns-at xs k h = tabulate-at (λ j. getD (getD (map row xs) (j % slotsMost) []) (j / slotsMost) 0) (slotsMost * columnCount) k 0 h
-
 -- ---- all rows
 
-pub below-or : {P : Type 0} (a b : ℕ) → (a < b → P) → (b ≤ a → P) → P
+below-or : {P : Type 0} (a b : ℕ) → (a < b → P) → (b ≤ a → P) → P
 below-or {P} a b f g = go (ltb a b) refl
   where
     go : (t : Bool) → ltb a b ≡ t → P
@@ -61,7 +41,7 @@ module _ (o : List ℕ) (xs : List Slot) (fits : tableOctets ≤ length o) (all 
       let c = k / slotsMost in
       let e : headOctets + k ≡ place j c = omega arith in
       let r : cell (putRows o 0 xs) (0 + j) c ≡ getD (getD (map row xs) j []) c 0 = rows-same o 0 xs j c fits (omega arith) (omega arith) (omega arith) in
-      rw e (rw zero-add at r) ∙ sym (columns-at xs k h)
+      rw e (rw zero-add at r) ∙ sym (column-at xs k h)
 
   rows-at : (k : ℕ) → getD (putRows o 0 xs) k 0 ≡ getD (sets o headOctets (columns xs)) k 0
   rows-at k =

@@ -6,7 +6,7 @@ use lib.Dec.{eqb}
 use lib.ListN.{getD}
 use borrow.Author.Needs.{needs}
 use Rattle.layout.specs.Spelled.{headSpelled}
-use Rattle.layout_decode.specs.Columns.{Held, held-none, held-more}
+use Rattle.layout_decode.specs.Loops.{Held, held-none, held-more}
 use Rattle.layout_decode.proofs.head_spelled.Statement.{statement}
 use Rattle.layout_decode.proofs.head_spelled.Tie as tie
 

@@ -6,7 +6,7 @@ use borrow.Author.Needs.{needs}
 use Rattle.channel.specs.Limits.{slotsMost}
 use Rattle.layout.specs.Layout.{cell}
 use Rattle.layout.specs.Spelled.{rowSpelled, rowsSpelled}
-use Rattle.layout_decode.specs.Columns.{Held, held-none, held-more}
+use Rattle.layout_decode.specs.Loops.{Held, held-none, held-more}
 use Rattle.layout_decode.proofs.rows_spelled.Statement.{statement}
 use Rattle.layout_decode.proofs.rows_spelled.Tie as tie
 

@@ -5,7 +5,7 @@ use native.Mathlib.Omega.{arith}
 use borrow.Author.Needs.{needs}
 use Rattle.channel.specs.Limits.{slotsMost}
 use Rattle.layout.specs.Layout.{cell, slotIn, taken}
-use Rattle.layout_decode.specs.Columns.{Filled, filled-none, filled-more, filled-all}
+use Rattle.layout_decode.specs.Loops.{Filled, filled-none, filled-more, filled-all}
 use Rattle.layout_decode.proofs.slots_in.Statement.{statement}
 use Rattle.layout_decode.proofs.slots_in.Tie as tie
 

@@ -5,7 +5,7 @@ use lib.ListN.{replicate}
 use Rattle.octets.specs.Octets.{part}
 use Rattle.octets.specs.Sets.{part-length}
 use Rattle.layout.specs.Layout.{taken}
-use Rattle.layout_decode.specs.Columns.{sets-whole}
+use Rattle.layout_decode.specs.Loops.{sets-whole}
 use borrow.Author.Needs.{needs}
 use Rattle.layout_decode.proofs.spsms_in.Statement.{statement}
 use Rattle.layout_decode.proofs.spsms_in.Tie as tie

@@ -1,23 +1,45 @@
 -- A table is read back from its spelling, and it has one.
 use mathlib.Core.Path.{_≡_, refl, sym, ap, _∙_}
 use mathlib.Core.Bool.{Bool, true, false, false≢true}
-use mathlib.Core.List.{List}
-use Prim.Native.Nat.{ℕ, _/_, _%_, _<_}
+use mathlib.Core.List.{List, [], _∷_}
+use Prim.Native.Nat.{ℕ, _/_, _%_, _<_, _≤_}
 use native.Mathlib.Omega.{arith}
-use lib.ListN.{length, getD}
-use lib.Seq.{take-at}
+use lib.Dec.{eqb}
+use lib.ListN.{length, getD, take}
+use lib.Seq.{sets, take-at}
+use borrow.Author.Tests.{eqb-true, eq-eqb, le-ltb}
 use Rattle.lists.specs.Choose.{choose}
+use Rattle.lists.specs.Both.{and-left, and-right}
 use Rattle.octets.specs.Octets.{part, u16At}
 use Rattle.octets.specs.Numbers.{le16-back}
+use Rattle.octets.specs.Sets.{part-same}
 use Rattle.channel.specs.Limits.{slotsMost, depthMost}
 use Rattle.channel.specs.declared.Slot.{Slot}
 use Rattle.channel.specs.declared.Table.{Table}
 use Rattle.definition.specs.Table.{fresh}
 use Rattle.layout.specs.declared.Decoded.{Decoded}
-use Rattle.layout.specs.Layout.{spsmOctets, columnCount, row, tabulate, head, columns, spell, cell, slotIn, taken, same, read}
+use Rattle.layout.specs.Layout.{spsmOctets, columnCount, tableOctets, row, tabulate, head, columns, spell, cell, slotIn, taken, same, read, written}
 use Rattle.layout.specs.Rows.{row-length, row-back}
-use Rattle.layout_decode.specs.Columns.{tabulated, cell-at}
-use Rattle.layout_decode.specs.Whole.{same-refl, same-eq}
+use Rattle.layout.specs.Columns.{tabulated, spell-length, cell-at}
+
+-- ---- same
+
+pub same-refl : (xs : List ℕ) → same xs xs ≡ true
+unfolding same
+same-refl [] = refl
+same-refl (x ∷ xs) = rw (eq-eqb x x refl, same-refl xs)
+
+pub same-eq : (xs ys : List ℕ) → same xs ys ≡ true → xs ≡ ys
+unfolding same
+same-eq [] [] e = refl
+same-eq [] (y ∷ ys) e = absurd (false≢true e)
+same-eq (x ∷ xs) [] e = absurd (false≢true e)
+same-eq (x ∷ xs) (y ∷ ys) e =
+    let a = eqb-true x y (and-left (eqb x y) (same xs ys) e) in
+    let b = same-eq xs ys (and-right (eqb x y) (same xs ys) e) in
+    rw (a, b)
+
+-- ---- a table and its spelling
 
 -- The arrays have their lengths, and N, D and M fit their octets, as they do in every table that is made.
 pub record Sized (t : Table) : Type 0 where
@@ -71,6 +93,14 @@ module _ (t : Table) (w : Sized t) where
   pub read-back : read (spell t) ≡ record { ok = true; table = t }
   unfolding read choose
   read-back = rw (taken-back, same-refl (spell t))
+
+  -- where it fits, it is read back from what it was written to
+  pub read-written : (o : List ℕ) → tableOctets ≤ length o → read (take tableOctets (written o t)) ≡ record { ok = true; table = t }
+  unfolding written choose
+  read-written o h =
+      let long : length (spell t) ≡ tableOctets = spell-length t ∙ omega (arith, w .spsms) in
+      let p : take tableOctets (sets o 0 (spell t)) ≡ spell t = rw long at (part-same 0 o 0 (spell t) (omega (arith, long))) in
+      rw (le-ltb (length o) tableOctets h, p) read-back
 
 -- octets that are read as a table are its spelling
 pub one-spelling : (o : List ℕ) (t : Table) → read o ≡ record { ok = true; table = t } → o ≡ spell t

@@ -5,8 +5,8 @@ use borrow.Author.Needs.{needs}
 use Rattle.printed.proofs.opened.Statement.{statement}
 use Rattle.printed.proofs.opened.Tie as tie
 
-is-done-requires : tie.Need-is-done-requires
-is-done-requires c κs = search needs
+sorted-requires : tie.Need-sorted-requires
+sorted-requires c κs = search needs
 
 slice-aggregate-told-more : tie.Need-slice-aggregate-told-more
 slice-aggregate-told-more c = search needs
@@ -22,20 +22,20 @@ same-length c = search needs
 
 returns : tie.Need-returns
 unfolding openedText choose
-returns c = rw (← c .before .before .before .before .before .before .is-done .ensures, c .before .before .before .before .before .if1 .taken) (c .before .before .told-more .ensures)
+returns c = rw (← c .before .before .before .before .before .before .sorted .ensures, c .before .before .before .before .before .if1 .taken) (c .before .before .told-more .ensures)
 
 same-length-2 : tie.Need-same-length-2
 same-length-2 c = search needs
 
 returns-2 : tie.Need-returns-2
 unfolding openedText choose
-returns-2 c = rw (← c .before .before .before .before .before .is-done .ensures, c .before .before .before .before .if1 .left) (c .before .before .told .ensures)
+returns-2 c = rw (← c .before .before .before .before .before .sorted .ensures, c .before .before .before .before .if1 .left) (c .before .before .told .ensures)
 
 pub opened-spec : {M : Type 1} → statement M
 opened-spec =
     tie.close
     (tie.spec
-    is-done-requires
+    sorted-requires
     slice-aggregate-told-more
     told-more-requires
     told-requires

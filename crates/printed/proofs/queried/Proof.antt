@@ -5,20 +5,20 @@ use borrow.Author.Needs.{needs}
 use Rattle.printed.proofs.queried.Statement.{statement}
 use Rattle.printed.proofs.queried.Tie as tie
 
-is-number-requires : tie.Need-is-number-requires
-is-number-requires c κs = search needs
+sorted-requires : tie.Need-sorted-requires
+sorted-requires c κs = search needs
 
-number-requires : tie.Need-number-requires
-number-requires c κs = search needs
+sorted-requires-2 : tie.Need-sorted-requires-2
+sorted-requires-2 c κs = search needs
 
-number-requires-2 : tie.Need-number-requires-2
-number-requires-2 c κs = search needs
+sorted-requires-3 : tie.Need-sorted-requires-3
+sorted-requires-3 c κs = search needs
 
-number-requires-3 : tie.Need-number-requires-3
-number-requires-3 c κs = search needs
+sorted-requires-4 : tie.Need-sorted-requires-4
+sorted-requires-4 c κs = search needs
 
-number-requires-4 : tie.Need-number-requires-4
-number-requires-4 c κs = search needs
+sorted-requires-5 : tie.Need-sorted-requires-5
+sorted-requires-5 c κs = search needs
 
 slice-aggregate-told-more : tie.Need-slice-aggregate-told-more
 slice-aggregate-told-more c = search needs
@@ -34,24 +34,24 @@ same-length c = search needs
 
 returns : tie.Need-returns
 unfolding queriesText choose
-returns c = rw (← c .before .before .before .before .before .before .before .before .before .before .is-number .ensures, c .before .before .before .before .before .before .before .before .before .if1 .taken, ← c .before .before .before .before .before .before .before .number .ensures, ← c .before .before .before .before .before .before .number2 .ensures, ← c .before .before .before .before .before .number3 .ensures, ← c .before .before .before .before .number4 .ensures) (c .before .before .told-more .ensures)
+returns c = rw (← c .before .before .before .before .before .before .before .before .before .before .sorted .ensures, c .before .before .before .before .before .before .before .before .before .if1 .taken, ← c .before .before .before .before .before .before .before .sorted2 .ensures, ← c .before .before .before .before .before .before .sorted3 .ensures, ← c .before .before .before .before .before .sorted4 .ensures, ← c .before .before .before .before .sorted5 .ensures) (c .before .before .told-more .ensures)
 
 same-length-2 : tie.Need-same-length-2
 same-length-2 c = search needs
 
 returns-2 : tie.Need-returns-2
 unfolding queriesText choose
-returns-2 c = rw (← c .before .before .before .before .before .is-number .ensures, c .before .before .before .before .if1 .left) (c .before .before .told .ensures)
+returns-2 c = rw (← c .before .before .before .before .before .sorted .ensures, c .before .before .before .before .if1 .left) (c .before .before .told .ensures)
 
 pub queried-spec : {M : Type 1} → statement M
 queried-spec =
     tie.close
     (tie.spec
-    is-number-requires
-    number-requires
-    number-requires-2
-    number-requires-3
-    number-requires-4
+    sorted-requires
+    sorted-requires-2
+    sorted-requires-3
+    sorted-requires-4
+    sorted-requires-5
     slice-aggregate-told-more
     told-more-requires
     told-requires

@@ -1,8 +1,8 @@
--- `printed::told_more` meets its contract: its pieces follow one another (writes-append).
+-- `plain_rows::told_more` meets its contract: its pieces follow one another (writes-append).
 use Rattle.rows.specs.Rows.{writes-append}
 use borrow.Author.Needs.{needs}
-use Rattle.printed.proofs.told_more.Statement.{statement}
-use Rattle.printed.proofs.told_more.Tie as tie
+use Rattle.plain_rows.proofs.told_more.Statement.{statement}
+use Rattle.plain_rows.proofs.told_more.Tie as tie
 
 slice-aggregate-write-answer : tie.Need-slice-aggregate-write-answer
 slice-aggregate-write-answer c = search needs

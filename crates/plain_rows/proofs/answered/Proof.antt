@@ -1,8 +1,8 @@
--- `printed::answered` meets its contract: its pieces follow one another (writes-append).
+-- `plain_rows::answered` meets its contract: its pieces follow one another (writes-append).
 use Rattle.rows.specs.Rows.{writes-append}
 use borrow.Author.Needs.{needs}
-use Rattle.printed.proofs.answered.Statement.{statement}
-use Rattle.printed.proofs.answered.Tie as tie
+use Rattle.plain_rows.proofs.answered.Statement.{statement}
+use Rattle.plain_rows.proofs.answered.Tie as tie
 
 write-answer-requires : tie.Need-write-answer-requires
 write-answer-requires c κs = search needs

@@ -1,11 +1,11 @@
--- `printed::first` meets its contract: it cuts within the slice (take-least).
+-- `plain_rows::first` meets its contract: it cuts within the slice (take-least).
 use mathlib.Core.Path.{ap, _∙_}
 use native.Mathlib.Omega.{arith}
 use lib.ListN.{take, length-take}
 use Rattle.octets.specs.Sets.{take-least}
 use borrow.Author.Needs.{needs}
-use Rattle.printed.proofs.first.Statement.{statement}
-use Rattle.printed.proofs.first.Tie as tie
+use Rattle.plain_rows.proofs.first.Statement.{statement}
+use Rattle.plain_rows.proofs.first.Tie as tie
 
 least-requires : tie.Need-least-requires
 least-requires c κs = search needs

@@ -1,0 +1,2 @@
+-- The call that a command asks for.
+pub mod Called

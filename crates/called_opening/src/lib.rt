@@ -1,0 +1,40 @@
+// The calls that commands of pending connections and of attempts ask for, and the registering of an SPSM (docs/CHANRUN.md). Which these are, and
+// which call each is, stands in specs/Called.antt; it rests on the calls.
+ghost use mathlib.Core.Path.{_≡_};
+ghost use mathlib.Core.List.{[]};
+ghost use Rattle.definition.specs.Ending.{end};
+ghost use Rattle.called_opening.specs.Called.{slotNumber, endOpening};
+use channel::ChannelIndex;
+use channel::Served;
+use channel::Table;
+use commands::Command;
+use octets::least;
+
+// A slot's number. One that is no octet is past every table, as 255 is.
+pub fn slot_of(n: u16) -> ChannelIndex
+    ensures { λ r. ⌜ r .0 ≡ slotNumber n ⌝ }
+{
+    ChannelIndex(least(n as usize, 255) as u8)
+}
+
+// Every other command does nothing here.
+pub fn called_opening(t: Table, c: Command, room: &mut [u8], signal: &mut [u8]) -> Served
+    ensures { λ r. ⌜ end r (now (room .exit)) (now (signal .exit)) [] ≡ endOpening t (now (room .entry)) (now (signal .entry)) c ⌝ }
+{
+    match c {
+        Command::RegisterSpsm(spsm) => registering::register_spsm(t, spsm),
+        Command::NextPending { link, up } => pending::next_pending(t, link, up),
+        Command::RejectAllPending(link) => clearing::reject_all_pending(t, room, signal, link),
+        Command::AcceptPending { slot, config } => {
+            accepting::accept_pending(t, signal, slot_of(slot), config)
+        }
+        Command::RejectPending { slot, result } => {
+            rejecting::reject_pending(t, room, signal, slot_of(slot), result)
+        }
+        Command::DropPending(slot) => dropping::drop_pending(t, room, slot_of(slot)),
+        Command::Create { link, spsm, config } => creating::create(t, signal, link, spsm, config),
+        Command::Opened { slot, link, up } => opening::opened(t, room, slot_of(slot), link, up),
+        Command::GiveUp(slot) => giving_up::give_up(t, room, slot_of(slot)),
+        _ => slots::done(t),
+    }
+}

@@ -1,0 +1,2 @@
+-- The plain rows of a call.
+pub mod PlainRows

@@ -5,11 +5,11 @@ ghost use mathlib.Core.List.{[]};
 ghost use Rattle.definition.specs.Ending.{end};
 ghost use Rattle.called.specs.Called.{endCalled};
 use called_opening::called_opening;
-pub use called_opening::slot_of;
 use channel::Cid;
 use channel::Served;
 use channel::Table;
 use commands::Command;
+use commands::slot_of;
 
 pub fn called(t: Table, c: Command, room: &mut [u8], signal: &mut [u8]) -> Served
     ensures { λ r. ⌜ end r (now (room .exit)) (now (signal .exit)) [] ≡ endCalled t (now (room .entry)) (now (signal .entry)) c ⌝ }

@@ -1,7 +1,7 @@
 -- The call that a command asks for (docs/CHANRUN.md): the calls that are lent the room, a signal buffer, both or neither, and nothing else.
 use mathlib.Core.Bool.{Bool, true, false}
 use mathlib.Core.List.{List, []}
-use Prim.Native.Nat.{ℕ, min}
+use Prim.Native.Nat.{ℕ}
 use lib.ListN.{length}
 use Rattle.lists.specs.Choose.{choose}
 use Rattle.channel.specs.declared.Served.{Served}
@@ -15,10 +15,7 @@ use Rattle.definition.specs.Pending.{nextPending, rejectAllPending, acceptPendi
 use Rattle.rejecting.specs.Numbered.{rejectNumbered}
 use Rattle.commands.specs.declared.Command.{Command}
 use Rattle.commands.specs.declared.Command.the-variants as Command
-
--- A slot's number. One that is no octet is past every table, as 255 is.
-abbrev pub slotNumber : ℕ → ℕ
-slotNumber n = min n 255
+use Rattle.commands.specs.Commands.{slotNumber}
 
 -- What a call is not lent stays as it was.
 abbrev pub lentRoom : (signal : List ℕ) → End → End

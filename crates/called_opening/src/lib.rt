@@ -3,19 +3,11 @@
 ghost use mathlib.Core.Path.{_≡_};
 ghost use mathlib.Core.List.{[]};
 ghost use Rattle.definition.specs.Ending.{end};
-ghost use Rattle.called_opening.specs.Called.{slotNumber, endOpening};
-use channel::ChannelIndex;
+ghost use Rattle.called_opening.specs.Called.{endOpening};
 use channel::Served;
 use channel::Table;
 use commands::Command;
-use octets::least;
-
-// A slot's number. One that is no octet is past every table, as 255 is.
-pub fn slot_of(n: u16) -> ChannelIndex
-    ensures { λ r. ⌜ r .0 ≡ slotNumber n ⌝ }
-{
-    ChannelIndex(least(n as usize, 255) as u8)
-}
+use commands::slot_of;
 
 // Every other command does nothing here.
 pub fn called_opening(t: Table, c: Command, room: &mut [u8], signal: &mut [u8]) -> Served

@@ -16,7 +16,8 @@ use Rattle.lines.specs.declared.Found.the-variants as Found
 use Rattle.script.specs.Script.{commandOf}
 use Rattle.commands.specs.declared.Command.{Command}
 use Rattle.commands.specs.declared.Command.the-variants as Command
-use Rattle.played.specs.Played.{Play, signalOf, sizeOf, spelledOf}
+use Rattle.plays.specs.Plays.{Play, sizeOf, spelledOf}
+use Rattle.played_frames.specs.PlayedFrames.{signalOf}
 use Rattle.played_table.specs.PlayedTable.{madeOf}
 use Rattle.playing.specs.Playing.{playOf}
 

@@ -17,7 +17,8 @@ use Rattle.commands.proofs.Command.{the-type}
 use Rattle.commands.specs.declared.Command.{Command}
 use Rattle.commands.specs.declared.Command.the-variants as Command
 use Rattle.words.specs.declared.Word.{Word}
-use Rattle.played.specs.Played.{signalOf, sizeOf, spelledOf}
+use Rattle.plays.specs.Plays.{sizeOf, spelledOf}
+use Rattle.played_frames.specs.PlayedFrames.{signalOf}
 use Rattle.played_table.specs.PlayedTable.{madeOf}
 use Rattle.playing.specs.Playing.{playOf}
 use Rattle.chanrun.specs.Served.{After, after, left, oneSignal, signalsBy, signalsAfter, signalsOf, Leaves, held, lineOf, played}

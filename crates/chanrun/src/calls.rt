@@ -4,7 +4,7 @@ ghost use lib.Seq.{sets};
 ghost use Rattle.definition.specs.Asking.{noSlots};
 ghost use Rattle.printed.specs.Printed.{badText};
 ghost use Rattle.script.specs.Script.{commandOf};
-ghost use Rattle.played.specs.Played.{signalOf};
+ghost use Rattle.played_frames.specs.PlayedFrames.{signalOf};
 ghost use Rattle.played_table.specs.PlayedTable.{madeOf};
 ghost use Rattle.playing.specs.Playing.{playOf};
 ghost use Rattle.chanrun.specs.Served.{Leaves, left, signalsOf, lineOf, foundOf};
@@ -14,8 +14,8 @@ use channel::Table;
 use commands::Command;
 use lines::Found;
 use octets::least;
-use played::size_of;
-use played::spelled;
+use plays::size_of;
+use plays::spelled;
 use printed::first;
 
 // ---- making

@@ -1,7 +1,7 @@
 // Rows, printed: each was written at the start of `row` by a proved function, and goes out here.
 ghost use mathlib.Core.Path.{_≡_};
 use channel::Table;
-use played::Played;
+use plays::Played;
 use printed::first;
 
 // The first `n` octets of `row` go out: all that there is to say of it is outside the program.

@@ -1,7 +1,7 @@
 -- The table of calls (docs/CHANRUN.md), by the number of words of a line: a letter, then what the call is given. A letter that no call of that many
 -- words has, and a word that is not of the call's kind, make the line bad. `last` is where the last word stands: octets are read from there.
 use mathlib.Core.List.{List}
-use Prim.Native.Nat.{ℕ}
+use Prim.Native.Nat.{ℕ, min}
 use lib.Dec.{eqb}
 use Rattle.lists.specs.Choose.{choose}
 use Rattle.hex_words.specs.HexWords.{isHexWord}
@@ -9,6 +9,10 @@ use Rattle.words.specs.declared.Word.{Word}
 use Rattle.commands.specs.declared.Command.{Command}
 use Rattle.plain_fields.specs.PlainFields.{isNumber, numberOf, isFlag, flagOf}
 use Rattle.commands.specs.declared.Command.the-variants as Command
+
+-- The slot that a command names. A number that is no octet is past every table, as 255 is.
+abbrev pub slotNumber : ℕ → ℕ
+slotNumber n = min n 255
 
 unfoldable pub oneWord : (c : ℕ) → Command
 oneWord c =

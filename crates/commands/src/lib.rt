@@ -1,15 +1,17 @@
 // The calls of a script (docs/CHANRUN.md), and those of at most three words, by the number of words of their line: the letter, then what the call
 // is given; the longer ones are in `long_commands`. The table of these calls is specs/Commands.antt, which every function here follows test by
 // test. It rests on `words`, `plain_fields` and `hex_words`.
+use channel::ChannelIndex;
 use channel::L2capChannelConfig;
 use hex_words::hex_ok;
+use octets::least;
 use plain_fields::flag_of;
 use plain_fields::is_flag;
 use plain_fields::is_number;
 use plain_fields::number_of;
 use words::Word;
 ghost use mathlib.Core.Path.{_≡_};
-ghost use Rattle.commands.specs.Commands.{oneWord, withNumber, twoWords, withNumbers, threeWords};
+ghost use Rattle.commands.specs.Commands.{slotNumber, oneWord, withNumber, twoWords, withNumbers, threeWords};
 
 // A call, with the words of its line as values. Octets are left where they stand: as the place of their word in the line.
 pub enum Command {
@@ -112,6 +114,13 @@ pub enum Command {
     View,
     // M
     Room(u16),
+}
+
+// The slot that a command names. A number that is no octet is past every table, as 255 is.
+pub fn slot_of(n: u16) -> ChannelIndex
+    ensures { λ r. ⌜ r .0 ≡ slotNumber n ⌝ }
+{
+    ChannelIndex(least(n as usize, 255) as u8)
 }
 
 pub fn one_word(c: u8) -> Command

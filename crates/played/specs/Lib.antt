@@ -1,3 +1,2 @@
--- A call and its row.
+-- The calls that `called` makes, each with its row.
 pub mod Played
-pub mod PlayedLaws

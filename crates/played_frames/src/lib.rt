@@ -1,10 +1,11 @@
 // Signals, frames and jobs, each call with its row (docs/CHANRUN.md): `S`, one signal of the PDU, `F`, `K` and `B`. What each comes to is defined in
-// the specs of `played`; it rests on the calls and on `printed`.
-ghost use Rattle.played.specs.Played.{Plays, signalOf, frameOf, sendOf, takeOf};
-use called::slot_of;
+// specs/PlayedFrames.antt; it rests on the calls and on `printed`.
+ghost use Rattle.plays.specs.Plays.{Plays};
+ghost use Rattle.played_frames.specs.PlayedFrames.{signalOf, frameOf, sendOf, takeOf};
 use channel::Cid;
 use channel::Table;
-use played::Played;
+use commands::slot_of;
+use plays::Played;
 use printed::first;
 
 // `S`: one signal of the PDU.

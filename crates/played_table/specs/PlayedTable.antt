@@ -14,9 +14,9 @@ use Rattle.definition.specs.Outcome.{Outcome}
 use Rattle.definition.specs.Asking.{make, noSlots, spsm, mtu, mps, peerMtu, peerMps}
 use Rattle.definition.specs.Ending.{End, servedOf}
 use Rattle.making.specs.Made.{endMade}
-use Rattle.called.specs.Called.{slotNumber}
+use Rattle.commands.specs.Commands.{slotNumber}
 use Rattle.printed.specs.Printed.{rowText, queriesText}
-use Rattle.played.specs.Played.{Play, play, sizeOf}
+use Rattle.plays.specs.Plays.{Play, play, sizeOf}
 
 -- ---- `T`: "Room of the required size, zeroed; a size above 65,536 is answered by 1". The table's room is the start of what is lent.
 

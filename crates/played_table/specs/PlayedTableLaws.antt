@@ -19,9 +19,9 @@ use Rattle.definition.specs.Ending.{End, end}
 use Rattle.gate.specs.Sizes.{partWidth}
 use Rattle.making.specs.Made.{endMade}
 use Rattle.printed.specs.Printed.{rowText}
-use Rattle.played.specs.declared.Played.{Played}
-use Rattle.played.specs.Played.{Play, play, Plays, sizeOf}
-use Rattle.played.specs.PlayedLaws.{by-end}
+use Rattle.plays.specs.declared.Played.{Played}
+use Rattle.plays.specs.Plays.{Play, play, Plays, sizeOf}
+use Rattle.plays.specs.PlaysLaws.{by-end}
 use Rattle.played_table.specs.PlayedTable.{before, madeOf, partOf}
 
 -- ---- `T`

@@ -1,15 +1,15 @@
 // The lines that ask for the table itself, each with its row (docs/CHANRUN.md): `T` makes one, `U` asks a slot's numbers, `M` shows a slot's part of
-// the room. What each comes to is defined in specs/PlayedTable.antt; it rests on the calls, on `played` and on `printed`.
+// the room. What each comes to is defined in specs/PlayedTable.antt; it rests on the calls, on `plays` and on `printed`.
 ghost use mathlib.Core.Path.{_≡_};
 ghost use Rattle.rows.specs.Rows.{Writes};
 ghost use Rattle.definition.specs.Asking.{spsm, mtu, mps, peerMtu, peerMps};
-ghost use Rattle.played.specs.Played.{Plays};
+ghost use Rattle.plays.specs.Plays.{Plays};
 ghost use Rattle.played_table.specs.PlayedTable.{toldOf, madeOf, queriesOf, partOf};
-use called::slot_of;
 use channel::Answer;
 use channel::Table;
 use codes::Refusal;
-use played::Played;
+use commands::slot_of;
+use plays::Played;
 use words::Word;
 
 // ---- `T`
@@ -18,7 +18,7 @@ use words::Word;
 pub fn made(n: u16, d: u16, m: u16, room: &mut [u8], row: &mut [u8]) -> Played
     ensures { λ r. ⌜ Plays (madeOf n d m (now (room .entry))) (now (row .entry)) r (now (room .exit)) (now (row .exit)) ⌝ }
 {
-    let size = played::size_of(n as usize, d as usize, m as usize);
+    let size = plays::size_of(n as usize, d as usize, m as usize);
     if room.len() < size {
         let octets = printed::told(row, Answer::Refused(Refusal::BadTable));
         let table = making::blank(0, 0, 0);

@@ -8,7 +8,9 @@ use Rattle.commands.specs.declared.Command.{Command}
 use Rattle.commands.specs.declared.Command.the-variants as Command
 use Rattle.printed.specs.Printed.{badText}
 use Rattle.view.specs.View.{viewText}
-use Rattle.played.specs.Played.{Play, play, plainOf, openedOf, frameOf, sendOf, takeOf, spelledOf}
+use Rattle.plays.specs.Plays.{Play, play, spelledOf}
+use Rattle.played.specs.Played.{plainOf, openedOf}
+use Rattle.played_frames.specs.PlayedFrames.{frameOf, sendOf, takeOf}
 use Rattle.played_table.specs.PlayedTable.{queriesOf, partOf}
 
 -- `line` has the command's words; `octets` and `frames` are lent, for the octets of a word or a job, and for frames.

@@ -1,12 +1,12 @@
 // Every command but `T` and `S` with the row that it prints (docs/CHANRUN.md): which play of `played`, `played_frames` and `played_table` it is. Defined in
 // specs/Playing.antt, case by case. `room` is the table's room, no longer and no shorter; `octets` holds a word's octets or a job, `frames` frames.
-ghost use Rattle.played.specs.Played.{Plays};
+ghost use Rattle.plays.specs.Plays.{Plays};
 ghost use Rattle.playing.specs.Playing.{playOf};
 use channel::Table;
 use commands::Command;
 use octets::least;
-use played::Played;
-use played::spelled;
+use plays::Played;
+use plays::spelled;
 use printed::first;
 
 pub fn play(

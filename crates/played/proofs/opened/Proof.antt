@@ -1,7 +1,7 @@
 -- `played::opened` meets its contract: the row is read off the call's end (by-end).
 use mathlib.Core.Path.{refl}
-use Rattle.played.specs.Played.{asOpened}
-use Rattle.played.specs.PlayedLaws.{by-end}
+use Rattle.plays.specs.Plays.{asOpened}
+use Rattle.plays.specs.PlaysLaws.{by-end}
 use borrow.Author.Needs.{needs}
 use Rattle.played.proofs.opened.Statement.{statement}
 use Rattle.played.proofs.opened.Tie as tie

@@ -1,7 +1,7 @@
 -- `played::plain` meets its contract: the row is read off the call's end (by-end).
 use mathlib.Core.Path.{refl}
-use Rattle.played.specs.Played.{withOctets}
-use Rattle.played.specs.PlayedLaws.{by-end}
+use Rattle.plays.specs.Plays.{withOctets}
+use Rattle.plays.specs.PlaysLaws.{by-end}
 use borrow.Author.Needs.{needs}
 use Rattle.played.proofs.plain.Statement.{statement}
 use Rattle.played.proofs.plain.Tie as tie

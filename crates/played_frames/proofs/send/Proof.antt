@@ -1,7 +1,7 @@
 -- `played_frames::send` meets its contract: the row is read off the call's end (by-end).
 use mathlib.Core.Path.{refl}
-use Rattle.played.specs.Played.{withFrames}
-use Rattle.played.specs.PlayedLaws.{by-end}
+use Rattle.plays.specs.Plays.{withFrames}
+use Rattle.plays.specs.PlaysLaws.{by-end}
 use borrow.Author.Needs.{needs}
 use Rattle.played_frames.proofs.send.Statement.{statement}
 use Rattle.played_frames.proofs.send.Tie as tie

@@ -1,7 +1,7 @@
 -- `played_frames::take` meets its contract: the row is read off the call's end (by-end).
 use mathlib.Core.Path.{refl}
-use Rattle.played.specs.Played.{withJob}
-use Rattle.played.specs.PlayedLaws.{by-end}
+use Rattle.plays.specs.Plays.{withJob}
+use Rattle.plays.specs.PlaysLaws.{by-end}
 use borrow.Author.Needs.{needs}
 use Rattle.played_frames.proofs.take.Statement.{statement}
 use Rattle.played_frames.proofs.take.Tie as tie

@@ -10,8 +10,9 @@ use Rattle.channel.specs.declared.Table.{Table}
 use Rattle.commands.proofs.Command.{the-type}
 use Rattle.commands.specs.declared.Command.{Command}
 use Rattle.commands.specs.declared.Command.the-variants as Command
-use Rattle.played.specs.declared.Played.{Played}
-use Rattle.played.specs.Played.{Play, Plays, plainOf}
+use Rattle.plays.specs.declared.Played.{Played}
+use Rattle.plays.specs.Plays.{Play, Plays}
+use Rattle.played.specs.Played.{plainOf}
 use Rattle.playing.specs.Playing.{playOf}
 use borrow.Author.Needs.{needs}
 use Rattle.playing.proofs.play.Statement.{statement}

@@ -1,9 +1,9 @@
--- `played::spelled` meets its contract: what was read of the word stands at the buffer's start.
+-- `plays::spelled` meets its contract: what was read of the word stands at the buffer's start.
 use mathlib.Core.Path.{sym, _∙_}
-use Rattle.played.specs.PlayedLaws.{read-octets, read-bad}
+use Rattle.plays.specs.PlaysLaws.{read-octets, read-bad}
 use borrow.Author.Needs.{needs}
-use Rattle.played.proofs.spelled.Statement.{statement}
-use Rattle.played.proofs.spelled.Tie as tie
+use Rattle.plays.proofs.spelled.Statement.{statement}
+use Rattle.plays.proofs.spelled.Tie as tie
 
 text-requires : tie.Need-text-requires
 text-requires c κs = search needs

@@ -13,8 +13,8 @@ use Rattle.hex.specs.Hex.{octetsOf, hexRead, hexOctets}
 use Rattle.hex.specs.declared.HexRead.{HexRead}
 use Rattle.hex.specs.declared.HexRead.the-variants as HexRead
 use Rattle.definition.specs.Ending.{End}
-use Rattle.played.specs.declared.Played.{Played}
-use Rattle.played.specs.Played.{Play, Plays}
+use Rattle.plays.specs.declared.Played.{Played}
+use Rattle.plays.specs.Plays.{Play, Plays}
 
 -- a call's end is what its contract says
 pub by-end : (f : End → Play) {x y : End} {row room′ row′ : List ℕ} {r : Played} → x ≡ y → Plays (f x) row r room′ row′ → Plays (f y) row r room′ row′

@@ -1,11 +1,11 @@
--- `played::size_of` meets its contract: sizes that fit have a room.
+-- `plays::size_of` meets its contract: sizes that fit have a room.
 use mathlib.Core.Path.{sym, _∙_}
 use Rattle.lists.specs.Choose.{choose}
 use Rattle.gate.specs.Sizes.{sizes-fit}
-use Rattle.played.specs.Played.{sizeOf}
+use Rattle.plays.specs.Plays.{sizeOf}
 use borrow.Author.Needs.{needs}
-use Rattle.played.proofs.size_of.Statement.{statement}
-use Rattle.played.proofs.size_of.Tie as tie
+use Rattle.plays.proofs.size_of.Statement.{statement}
+use Rattle.plays.proofs.size_of.Tie as tie
 
 sizes-fit-requires : tie.Need-sizes-fit-requires
 sizes-fit-requires c κs = search needs

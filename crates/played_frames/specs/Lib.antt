@@ -1,0 +1,2 @@
+-- Signals, frames and jobs, each call with its row.
+pub mod PlayedFrames

@@ -1,2 +1,2 @@
--- Holding and closing, on octets.
+-- Closing, on octets.
 pub mod Closing

@@ -26,7 +26,8 @@ use Rattle.layout.specs.Layout.{read}
 use Rattle.edge.specs.Edge.{onTable, alone, flag, configOf}
 use Rattle.edge_asking.specs.Asking.{registerSpsmEdge, spsmEdge, mtuEdge, mpsEdge, peerMtuEdge, peerMpsEdge, attentionEdge, sendConnParamUpdateReqEdge, sendConnParamUpdateResEdge}
 use Rattle.edge_opening.specs.Opening.{nextPendingEdge, acceptPendingEdge, rejectPendingEdge, rejectAllPendingEdge, dropPendingEdge, createEdge, openedEdge, giveUpEdge}
-use Rattle.edge_closing.specs.Closing.{incRefEdge, decRefEdge, disconnectEdge, disconnectByCidEdge, disconnectedEdge, nextDisconnectEdge}
+use Rattle.edge_holding.specs.Holding.{incRefEdge, decRefEdge}
+use Rattle.edge_closing.specs.Closing.{disconnectEdge, disconnectByCidEdge, disconnectedEdge, nextDisconnectEdge}
 use Rattle.edge_frames.specs.Frames.{signalEdge, dispatchEdge, sendEdge, receiveEdge}
 use Rattle.edge_laws.specs.NoTable.{shut, isRequest, isCall, serve-refuses, decide-refuses, no-slots, none-ends, leftAlone, on-none}
 

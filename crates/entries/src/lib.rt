@@ -1,5 +1,5 @@
 // The calls for C and Rust, on numbers and octets: a static library. Each entry reads the table from its 672 octets, makes the call, writes table and
-// answer back, and returns 0 or the refusal's number: the function of that name in `edge_asking`, `edge_opening`, `edge_closing` or `edge_frames`,
+// answer back, and returns 0 or the refusal's number: the function of that name in `edge_asking`, `edge_opening`, `edge_holding`, `edge_closing` or `edge_frames`,
 // whose definition is the entry's too. It is the call's own, lifted through the two layouts (Edge.antt of `edge`).
 ghost use mathlib.Core.Path.{_≡_};
 ghost use mathlib.Core.List.{[]};
@@ -8,7 +8,8 @@ ghost use Rattle.headers.specs.Headers.{restOf};
 ghost use Rattle.edge.specs.Edge.{edge};
 ghost use Rattle.edge_asking.specs.Asking.{makeEdge, registerSpsmEdge, spsmEdge, mtuEdge, mpsEdge, peerMtuEdge, peerMpsEdge, attentionEdge, sendConnParamUpdateReqEdge, sendConnParamUpdateResEdge};
 ghost use Rattle.edge_opening.specs.Opening.{nextPendingEdge, acceptPendingEdge, rejectPendingEdge, rejectAllPendingEdge, dropPendingEdge, createEdge, openedEdge, giveUpEdge};
-ghost use Rattle.edge_closing.specs.Closing.{incRefEdge, decRefEdge, disconnectEdge, disconnectByCidEdge, disconnectedEdge, nextDisconnectEdge};
+ghost use Rattle.edge_holding.specs.Holding.{incRefEdge, decRefEdge};
+ghost use Rattle.edge_closing.specs.Closing.{disconnectEdge, disconnectByCidEdge, disconnectedEdge, nextDisconnectEdge};
 ghost use Rattle.edge_frames.specs.Frames.{signalEdge, dispatchEdge, sendEdge, receiveEdge};
 
 // Makes a table of n slots, depth d and packets of m octets, and zeroes its room. Table octets of another length are refused by 1.
@@ -95,7 +96,7 @@ pub extern "C" fn l2cap_next_pending(table: &mut [u8], answer: &mut [u8], link: 
 pub extern "C" fn l2cap_inc_ref(table: &mut [u8], answer: &mut [u8], slot: u8) -> u32
     ensures { λ r. ⌜ edge r (now (table .exit)) (now (answer .exit)) [] [] [] ≡ incRefEdge (now (table .entry)) (now (answer .entry)) slot ⌝ }
 {
-    edge_closing::inc_ref(table, answer, slot)
+    edge_holding::inc_ref(table, answer, slot)
 }
 
 // Writes a request for connection parameters.
@@ -228,7 +229,7 @@ pub extern "C" fn l2cap_dec_ref(
 ) -> u32
     ensures { λ r. ⌜ edge r (now (table .exit)) (now (answer .exit)) (now (room .exit)) [] [] ≡ decRefEdge (now (table .entry)) (now (answer .entry)) (now (room .entry)) slot ⌝ }
 {
-    edge_closing::dec_ref(table, answer, room, slot)
+    edge_holding::dec_ref(table, answer, room, slot)
 }
 
 // Disconnects a slot.

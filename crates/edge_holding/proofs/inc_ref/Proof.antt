@@ -2,8 +2,8 @@
 use mathlib.Core.Path.{ap}
 use Rattle.edge.specs.Edge.{on-table, alone}
 use borrow.Author.Needs.{needs}
-use Rattle.edge_closing.proofs.inc_ref.Statement.{statement}
-use Rattle.edge_closing.proofs.inc_ref.Tie as tie
+use Rattle.edge_holding.proofs.inc_ref.Statement.{statement}
+use Rattle.edge_holding.proofs.inc_ref.Tie as tie
 
 decode-requires : tie.Need-decode-requires
 decode-requires c κs = search needs

@@ -1,8 +1,8 @@
 -- `edge_closing::dec_ref` meets its contract: the call's own, on the table that the octets spell.
 use Rattle.edge.specs.Edge.{on-table}
 use borrow.Author.Needs.{needs}
-use Rattle.edge_closing.proofs.dec_ref.Statement.{statement}
-use Rattle.edge_closing.proofs.dec_ref.Tie as tie
+use Rattle.edge_holding.proofs.dec_ref.Statement.{statement}
+use Rattle.edge_holding.proofs.dec_ref.Tie as tie
 
 decode-requires : tie.Need-decode-requires
 decode-requires c κs = search needs

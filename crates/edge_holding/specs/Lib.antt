@@ -1,0 +1,2 @@
+-- Holding, on octets.
+pub mod Holding

@@ -1,14 +1,8 @@
 -- What a line of a script leaves (docs/CHANRUN.md): the table, and all of the room that the program holds, of which the table's own is the start. The rows
 -- that it prints are those of the plays.
-use mathlib.Core.Path.{_≡_}
-use mathlib.Core.Bool.{Bool}
 use mathlib.Core.List.{List, _++_}
 use Prim.Native.Nat.{ℕ, min}
-use lib.Dec.{ltb}
 use lib.ListN.{length, take, drop}
-use Rattle.lists.specs.Choose.{choose}
-use Rattle.lists.specs.Fuel.{whole}
-use Rattle.headers.specs.Headers.{restOf}
 use Rattle.channel.specs.declared.Table.{Table}
 use Rattle.words.specs.Words.{textOf}
 use Rattle.lines.specs.declared.Found.{Found}
@@ -16,42 +10,10 @@ use Rattle.lines.specs.declared.Found.the-variants as Found
 use Rattle.script.specs.Script.{commandOf}
 use Rattle.commands.specs.declared.Command.{Command}
 use Rattle.commands.specs.declared.Command.the-variants as Command
-use Rattle.plays.specs.Plays.{Play, sizeOf, spelledOf}
-use Rattle.played_frames.specs.PlayedFrames.{signalOf}
+use Rattle.plays.specs.Plays.{sizeOf, spelledOf}
+use Rattle.signalled.specs.Signalled.{After, after, left, signalsOf}
 use Rattle.played_table.specs.PlayedTable.{madeOf}
 use Rattle.playing.specs.Playing.{playOf}
-
-pub record After : Type 0 where
-  pub table : Table
-  pub room : List ℕ
-
-abbrev pub after : Table → (room : List ℕ) → After
-after t room = record { table = t; room = room }
-
-abbrev pub left : Play → After
-left p = after (p .table) (p .room)
-
--- what a function gives back and leaves
-pub record Leaves (a : After) (u : Table) (room′ : List ℕ) : Type 0 where
-  pub table : u ≡ a .table
-  pub room : room′ ≡ a .room
-
--- ---- `S`: "one row a signal": the first signal, then each of those that stand after it
-
-module _ (link : ℕ) (listening central : Bool) where
-  abbrev pub oneSignal : After → (pdu : List ℕ) → After
-  oneSignal a pdu = left (signalOf (a .table) (a .room) link listening central pdu)
-
-  -- one turn: nothing left is the end
-  abbrev pub signalsBy : (List ℕ → After → After) → (pdu : List ℕ) → After → After
-  signalsBy go pdu a = choose (ltb 0 (length pdu)) (go (restOf pdu) (oneSignal a pdu)) a
-
-  unfoldable pub signalsAfter : (pdu : List ℕ) → After → After
-  signalsAfter = whole (λ a. a) signalsBy
-
-  -- empty input has a row too
-  abbrev pub signalsOf : Table → (room pdu : List ℕ) → After
-  signalsOf t room pdu = signalsAfter (restOf pdu) (oneSignal (after t room) pdu)
 
 -- ---- a line, by its command
 

@@ -4,19 +4,20 @@ ghost use lib.Seq.{sets};
 ghost use Rattle.definition.specs.Asking.{noSlots};
 ghost use Rattle.printed.specs.Printed.{badText};
 ghost use Rattle.script.specs.Script.{commandOf};
-ghost use Rattle.played_frames.specs.PlayedFrames.{signalOf};
 ghost use Rattle.played_table.specs.PlayedTable.{madeOf};
 ghost use Rattle.playing.specs.Playing.{playOf};
-ghost use Rattle.chanrun.specs.Served.{Leaves, left, signalsOf, lineOf, foundOf};
-use super::output::print;
-use super::output::printed_row;
+ghost use Rattle.signalled.specs.Signalled.{Leaves, left};
+ghost use Rattle.chanrun.specs.Served.{lineOf, foundOf};
 use channel::Table;
 use commands::Command;
 use lines::Found;
 use octets::least;
+use output::printed_row;
+use plays::Played;
 use plays::size_of;
 use plays::spelled;
 use printed::first;
+use signalled::every_signal;
 
 // ---- making
 
@@ -38,50 +39,15 @@ fn make(n: u16, d: u16, m: u16, room: &mut [u8], row: &mut [u8]) -> Table
 // ---- the rows
 
 // A line that asks for nothing.
-fn bad(row: &mut [u8])
-    ensures { λ _. ⌜ now (row .exit) ≡ sets (now (row .entry)) 0 badText ⌝ }
+fn bad(t: Table, row: &mut [u8]) -> Table
+    ensures { λ r. ⌜ (r ≡ t) × (now (row .exit) ≡ sets (now (row .entry)) 0 badText) ⌝ }
 {
     let n = printed::bad(row);
-    print(row, n);
-}
-
-// One signal of a PDU, and its row.
-fn one_signal(
-    t: Table,
-    link: u16,
-    listening: bool,
-    central: bool,
-    pdu: &[u8],
-    room: &mut [u8],
-    row: &mut [u8],
-) -> Table
-    ensures { λ r. ⌜ Leaves (left (signalOf t (now (room .entry)) link listening central (now (pdu .entry)))) r (now (room .exit)) ⌝ }
-{
-    let p = played_frames::signal(t, link, listening, central, pdu, room, row);
+    let p = Played {
+        table: t,
+        octets: n,
+    };
     printed_row(p, row)
-}
-
-// `S`: a row a signal, one row for empty input.
-fn every_signal(
-    t: Table,
-    link: u16,
-    listening: bool,
-    central: bool,
-    pdu: &[u8],
-    room: &mut [u8],
-    row: &mut [u8],
-) -> Table
-    ensures { λ r. ⌜ Leaves (signalsOf link listening central t (now (room .entry)) (now (pdu .entry))) r (now (room .exit)) ⌝ }
-{
-    let mut u = one_signal(t, link, listening, central, pdu, room, row);
-    let mut rest = remaining::rest(pdu);
-    while 0 < rest.len() {
-        let next = one_signal(u, link, listening, central, rest, room, row);
-        u = next;
-        let tail = remaining::rest(rest);
-        rest = tail;
-    }
-    u
 }
 
 // Every other command, and its row.
@@ -153,10 +119,7 @@ pub fn serve_found(
     match found {
         Found::Line(w) => serve(t, words::text(input, w), room, octets, frames, row),
         Found::Passed => t,
-        Found::Long => {
-            bad(row);
-            t
-        }
+        Found::Long => bad(t, row),
         Found::More => t,
     }
 }

@@ -1,7 +1,6 @@
 // chanrun (document 01, module 5): reads calls from standard input, a line each, and prints the rows of each (docs/CHANRUN.md). Lines and words are
 // read, and rows written, by proved functions on slices; what is here moves octets between those, the calls and the two descriptors.
 mod calls;
-mod output;
 
 use lines::Found;
 use lines::Held;

@@ -1,4 +1,4 @@
--- `edge_closing::dec_ref` meets its contract: the call's own, on the table that the octets spell.
+-- `edge_holding::dec_ref` meets its contract: the call's own, on the table that the octets spell.
 use Rattle.edge.specs.Edge.{on-table}
 use borrow.Author.Needs.{needs}
 use Rattle.edge_holding.proofs.dec_ref.Statement.{statement}

@@ -1,4 +1,4 @@
--- `edge_closing::inc_ref` meets its contract: the call's own, on the table that the octets spell.
+-- `edge_holding::inc_ref` meets its contract: the call's own, on the table that the octets spell.
 use mathlib.Core.Path.{ap}
 use Rattle.edge.specs.Edge.{on-table, alone}
 use borrow.Author.Needs.{needs}

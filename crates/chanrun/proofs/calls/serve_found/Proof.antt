@@ -51,7 +51,7 @@ same-length-5 c = search needs
 
 returns-3 : tie.Need-returns-3
 unfolding foundOf
-returns-3 c = rw (c .before .before .before .before .enum-told2 .given .1) (record { table = refl; room = refl })
+returns-3 c = rw (c .before .before .before .before .enum-told2 .given .1) (record { table = c .before .before .bad .ensures .0; room = refl })
 
 returns-4 : tie.Need-returns-4
 unfolding foundOf

@@ -1,12 +1,12 @@
--- `chanrun::calls::every_signal` meets its contract: each turn serves the first of what is left (next-turn), which is shorter, until nothing is (all-turns).
+-- `signalled::every_signal` meets its contract: each turn serves the first of what is left (next-turn), which is shorter, until nothing is (all-turns).
 use mathlib.Core.Path.{_≡_, refl}
 use lib.ListN.{length}
 use Rattle.signal_laws.specs.Headers.{rest-shorter}
-use Rattle.chanrun.specs.Served.{after, signalsAfter}
-use Rattle.chanrun.specs.ServedLaws.{next-turn, all-turns}
+use Rattle.signalled.specs.Signalled.{after, signalsAfter}
+use Rattle.signalled.specs.Turns.{next-turn, all-turns}
 use borrow.Author.Needs.{needs}
-use Rattle.chanrun.proofs.calls.every_signal.Statement.{statement}
-use Rattle.chanrun.proofs.calls.every_signal.Tie as tie
+use Rattle.signalled.proofs.every_signal.Statement.{statement}
+use Rattle.signalled.proofs.every_signal.Tie as tie
 
 abbrev Inv-loop : tie.InvT-loop
 Inv-loop link listening central pdu room₀ row₀ u₀ rest₀ room row u rest =

@@ -5,7 +5,7 @@ use plays::Played;
 use printed::first;
 
 // The first `n` octets of `row` go out: all that there is to say of it is outside the program.
-pub fn print(row: &[u8], n: usize) {
+fn print(row: &[u8], n: usize) {
     io::write_all(libc::STDOUT_FILENO, first(row, n));
 }
 

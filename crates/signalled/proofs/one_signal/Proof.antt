@@ -1,8 +1,8 @@
--- `chanrun::calls::one_signal` meets its contract: table and room are those of the played signal.
+-- `signalled::one_signal` meets its contract: table and room are those of the played signal.
 use mathlib.Core.Path.{_∙_}
 use borrow.Author.Needs.{needs}
-use Rattle.chanrun.proofs.calls.one_signal.Statement.{statement}
-use Rattle.chanrun.proofs.calls.one_signal.Tie as tie
+use Rattle.signalled.proofs.one_signal.Statement.{statement}
+use Rattle.signalled.proofs.one_signal.Tie as tie
 
 signal-requires : tie.Need-signal-requires
 signal-requires c κs = search needs

@@ -1,0 +1,3 @@
+-- `S` of a script.
+pub mod Signalled
+pub mod Turns

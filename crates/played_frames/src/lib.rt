@@ -1,12 +1,15 @@
 // Signals, frames and jobs, each call with its row (docs/CHANRUN.md): `S`, one signal of the PDU, `F`, `K` and `B`. What each comes to is defined in
 // specs/PlayedFrames.antt; it rests on the calls and on `printed`.
-ghost use Rattle.plays.specs.Plays.{Plays};
+ghost use lib.ListN.{length};
+ghost use Rattle.plays.specs.Plays.{Plays, spelledOf};
 ghost use Rattle.played_frames.specs.PlayedFrames.{signalOf, frameOf, sendOf, takeOf};
 use channel::Cid;
 use channel::Table;
 use commands::slot_of;
 use plays::Played;
+use plays::spelled;
 use printed::first;
+use words::Word;
 
 // `S`: one signal of the PDU.
 pub fn signal(
@@ -28,36 +31,42 @@ pub fn signal(
     Played { table, octets }
 }
 
-// `F`
+// `F`: the payload is a word of the line, spelled out in `octets`.
 pub fn frame(
     t: Table,
     link: u16,
     cid: u16,
-    payload: &[u8],
+    line: &[u8],
+    payload: Word,
+    octets: &mut [u8],
     room: &mut [u8],
     row: &mut [u8],
 ) -> Played
-    ensures { λ r. ⌜ Plays (frameOf t (now (room .entry)) link cid (now (payload .entry))) (now (row .entry)) r (now (room .exit)) (now (row .exit)) ⌝ }
+    ensures { λ r. ⌜ Plays (frameOf t (now (room .entry)) link cid (spelledOf (length (now (octets .entry))) (now (line .entry)) payload)) (now (row .entry)) r (now (room .exit)) (now (row .exit)) ⌝ }
 {
-    let s = dispatching::dispatch(t, room, link, Cid(cid), payload);
+    let n = spelled(line, payload, octets);
+    let s = dispatching::dispatch(t, room, link, Cid(cid), first(octets, n));
     let answer = s.answer;
     let octets = printed::told(row, answer);
     let table = s.table;
     Played { table, octets }
 }
 
-// `K`
+// `K`: the job is a word of the line, spelled out in `octets`.
 pub fn send(
     t: Table,
     slot: u16,
-    job: &[u8],
+    line: &[u8],
+    job: Word,
+    octets: &mut [u8],
     room: &[u8],
     frames: &mut [u8],
     row: &mut [u8],
 ) -> Played
-    ensures { λ r. ⌜ Plays (sendOf t (now (room .entry)) (now (frames .entry)) slot (now (job .entry))) (now (row .entry)) r (now (room .entry)) (now (row .exit)) ⌝ }
+    ensures { λ r. ⌜ Plays (sendOf t (now (room .entry)) (now (frames .entry)) slot (spelledOf (length (now (octets .entry))) (now (line .entry)) job)) (now (row .entry)) r (now (room .entry)) (now (row .exit)) ⌝ }
 {
-    let s = sending::send(t, slot_of(slot), job, frames);
+    let n = spelled(line, job, octets);
+    let s = sending::send(t, slot_of(slot), first(octets, n), frames);
     let answer = s.answer;
     let octets = printed::answered(row, answer, first(frames, s.octets));
     let table = s.table;

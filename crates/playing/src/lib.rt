@@ -6,8 +6,6 @@ use channel::Table;
 use commands::Command;
 use octets::least;
 use plays::Played;
-use plays::spelled;
-use printed::first;
 
 pub fn play(
     t: Table,
@@ -30,12 +28,10 @@ pub fn play(
         }
         Command::Opened { .. } => played::opened(t, c, room, row),
         Command::Dispatch { link, cid, payload } => {
-            let n = spelled(line, payload, octets);
-            played_frames::frame(t, link, cid, first(octets, n), room, row)
+            played_frames::frame(t, link, cid, line, payload, octets, room, row)
         }
         Command::Send { slot, job } => {
-            let n = spelled(line, job, octets);
-            played_frames::send(t, slot, first(octets, n), room, frames, row)
+            played_frames::send(t, slot, line, job, octets, room, frames, row)
         }
         Command::Receive { slot, size } => {
             let n = least(size as usize, octets.len());

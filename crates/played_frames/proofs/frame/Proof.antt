@@ -1,10 +1,16 @@
--- `played_frames::frame` meets its contract: the row is read off the call's end (by-end).
+-- `played_frames::frame` meets its contract: the payload is what its word spells, and the row is read off the call's end (by-end).
 use mathlib.Core.Path.{refl}
 use Rattle.plays.specs.Plays.{withNone}
 use Rattle.plays.specs.PlaysLaws.{by-end}
 use borrow.Author.Needs.{needs}
 use Rattle.played_frames.proofs.frame.Statement.{statement}
 use Rattle.played_frames.proofs.frame.Tie as tie
+
+spelled-requires : tie.Need-spelled-requires
+spelled-requires c κs = search needs
+
+first-requires : tie.Need-first-requires
+first-requires c κs = search needs
 
 dispatch-requires : tie.Need-dispatch-requires
 dispatch-requires c κs = search needs
@@ -18,8 +24,23 @@ same-length c = search needs
 same-length-2 : tie.Need-same-length-2
 same-length-2 c = search needs
 
+same-length-3 : tie.Need-same-length-3
+same-length-3 c = search needs
+
 returns : tie.Need-returns
-returns c = by-end withNone (c .before .before .before .before .before .before .before .dispatch .ensures) (record { table = refl; room = refl; text = c .before .before .before .told .ensures })
+returns c =
+    rw (← c .before .before .before .before .before .before .before .before .before .before .before .before .before .spelled .ensures, ← c .before .before .before .before .before .before .before .before .first .ensures)
+    (by-end withNone (c .before .before .before .before .before .before .before .dispatch .ensures) (record { table = refl; room = refl; text = c .before .before .before .told .ensures }))
 
 pub frame-spec : {M : Type 1} → statement M
-frame-spec = tie.close (tie.spec dispatch-requires told-requires same-length same-length-2 returns)
+frame-spec =
+    tie.close
+    (tie.spec
+    spelled-requires
+    first-requires
+    dispatch-requires
+    told-requires
+    same-length
+    same-length-2
+    same-length-3
+    returns)

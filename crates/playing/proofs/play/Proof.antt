@@ -70,23 +70,11 @@ opened-requires c κs = search needs
 enum-known-c : tie.Need-enum-known-c
 enum-known-c c = search needs
 
-spelled-requires : tie.Need-spelled-requires
-spelled-requires c κs = search needs
-
-first-requires : tie.Need-first-requires
-first-requires c κs = search needs
-
 frame-requires : tie.Need-frame-requires
 frame-requires c κs = search needs
 
 enum-known-c-2 : tie.Need-enum-known-c-2
 enum-known-c-2 c = search needs
-
-spelled-requires-2 : tie.Need-spelled-requires-2
-spelled-requires-2 c κs = search needs
-
-first-requires-2 : tie.Need-first-requires-2
-first-requires-2 c κs = search needs
 
 send-requires : tie.Need-send-requires
 send-requires c κs = search needs
@@ -158,7 +146,7 @@ same-length-6 c = search needs
 
 returns-3 : tie.Need-returns-3
 unfolding playOf
-returns-3 c = rw (c .before .before .before .before .before .before .before .before .before .before .before .before .before .before .c .given .1) (rw (← c .before .before .before .before .before .before .before .before .before .before .before .spelled .ensures, ← c .before .before .before .before .before .before .before .first .ensures) (c .before .before .before .before .frame .ensures))
+returns-3 c = rw (c .before .before .before .before .before .before .before .before .before .before .before .c .given .1) (c .before .before .before .before .before .before .frame .ensures)
 
 same-length-7 : tie.Need-same-length-7
 same-length-7 c = search needs
@@ -174,7 +162,7 @@ same-length-10 c = search needs
 
 returns-4 : tie.Need-returns-4
 unfolding playOf
-returns-4 c = rw (c .before .before .before .before .before .before .before .before .before .before .before .before .before .before .before .c2 .given .1) (rw (← c .before .before .before .before .before .before .before .before .before .before .before .before .spelled2 .ensures, ← c .before .before .before .before .before .before .before .before .first2 .ensures) (c .before .before .before .before .send .ensures))
+returns-4 c = rw (c .before .before .before .before .before .before .before .before .before .before .before .before .c2 .given .1) (c .before .before .before .before .before .before .send .ensures)
 
 same-length-11 : tie.Need-same-length-11
 same-length-11 c = search needs
@@ -231,12 +219,8 @@ play-spec =
     enum-told-2
     opened-requires
     enum-known-c
-    spelled-requires
-    first-requires
     frame-requires
     enum-known-c-2
-    spelled-requires-2
-    first-requires-2
     send-requires
     enum-known-c-3
     cast-least

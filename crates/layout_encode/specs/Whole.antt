@@ -1,21 +1,20 @@
 -- All rows written are the columns, whatever stood there before; with the head before them they are the spelling of the table.
-use mathlib.Core.Path.{_≡_, refl, sym, ap, _∙_}
+use mathlib.Core.Path.{_≡_, refl, sym, _∙_}
 use mathlib.Core.Bool.{Bool, true, false}
-use mathlib.Core.List.{List, [], _∷_, _++_, map}
-use Prim.Native.Nat.{ℕ, zero, suc, _+_, _-_, _*_, _/_, _%_, _≤_, _<_}
+use mathlib.Core.List.{List, [], map}
+use Prim.Native.Nat.{ℕ, suc, _+_, _-_, _*_, _/_, _%_, _≤_, _<_}
 use native.Mathlib.Nat.{zero-add}
 use native.Mathlib.Numerals.{add-one}
 use native.Mathlib.Omega.{arith}
 use lib.Dec.{ltb}
-use lib.ListN.{length, getD, drop, replicate}
-use lib.Seq.{sets, length-sets, drop-cons, drop-length, take-all, ext-getD}
+use lib.ListN.{length, getD, drop}
+use lib.Seq.{sets, length-sets, drop-cons, drop-length, ext-getD}
 use borrow.Author.Tests.{ltb-true, ltb-false}
-use Rattle.octets.specs.Octets.{part}
 use Rattle.octets.specs.Sets.{sets-append, sets-before, sets-after, sets-inside}
 use Rattle.channel.specs.Limits.{slotsMost}
 use Rattle.channel.specs.declared.Slot.{Slot}
 use Rattle.channel.specs.declared.Table.{Table}
-use Rattle.layout.specs.Layout.{layoutNumber, spsmOctets, headOctets, columnCount, tableOctets, cell, row, tabulate, head, columns, spell}
+use Rattle.layout.specs.Layout.{spsmOctets, headOctets, columnCount, tableOctets, cell, row, head, columns, spell}
 use Rattle.layout.specs.Columns.{columns-length, column-at}
 use Rattle.layout_local.specs.Puts.{puts}
 use Rattle.layout_write.specs.Cells.{place, putRows, puts-length, rows-length, rows-other, rows-same}
@@ -63,16 +62,6 @@ module _ (o : List ℕ) (xs : List Slot) (fits : tableOctets ≤ length o) (all 
 pub head-length : (t : Table) → length (t .spsms) ≡ spsmOctets → length (head t) ≡ headOctets
 unfolding head
 head-length t e = omega arith
-
--- the SPSMs are the whole of what is copied
-pub whole-part : (l : List ℕ) → length l ≡ spsmOctets → part l 0 spsmOctets ≡ l
-whole-part l e = take-all spsmOctets l (omega arith)
-
--- the head's parts, written one after the other
-pub head-parts : (o : List ℕ) (t : Table) →
-    sets (sets (sets o 0 (layoutNumber ∷ t .n % 256 ∷ t .d % 256 ∷ t .m % 256 ∷ t .m / 256 % 256 ∷ t .identifier ∷ [])) 6 (replicate 10 0)) 16 (t .spsms) ≡ sets o 0 (head t)
-unfolding head
-head-parts o t = refl
 
 pub table-parts : (o : List ℕ) (t : Table) → tableOctets ≤ length o → length (t .slots) ≡ slotsMost → length (t .spsms) ≡ spsmOctets → putRows (sets o 0 (head t)) 0 (t .slots) ≡ sets o 0 (spell t)
 unfolding spell

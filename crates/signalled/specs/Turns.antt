@@ -7,7 +7,7 @@ use lib.Dec.{ltb}
 use lib.ListN.{length}
 use borrow.Author.Tests.{lt-ltb, le-ltb}
 use Rattle.lists.specs.Choose.{choose}
-use Rattle.lists.specs.Fuel.{whole, whole-eq}
+use Rattle.lists.specs.Fuel.{whole-eq}
 use Rattle.headers.specs.Headers.{restOf}
 use Rattle.signal_laws.specs.Headers.{rest-less}
 use Rattle.channel.specs.declared.Table.{Table}

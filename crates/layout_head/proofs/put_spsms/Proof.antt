@@ -1,11 +1,11 @@
--- `layout_encode::put_spsms` meets its contract: all of the array is copied (whole-part).
+-- `layout_head::put_spsms` meets its contract: all of the array is copied (whole-part).
 use mathlib.Core.Path.{_≡_}
 use lib.ListN.{length}
 use Rattle.layout.specs.Layout.{spsmOctets}
-use Rattle.layout_encode.specs.Whole.{whole-part}
+use Rattle.layout_head.specs.Head.{whole-part}
 use borrow.Author.Needs.{needs}
-use Rattle.layout_encode.proofs.put_spsms.Statement.{statement}
-use Rattle.layout_encode.proofs.put_spsms.Tie as tie
+use Rattle.layout_head.proofs.put_spsms.Statement.{statement}
+use Rattle.layout_head.proofs.put_spsms.Tie as tie
 
 slice-aggregate-copy-to : tie.Need-slice-aggregate-copy-to
 slice-aggregate-copy-to c = search needs

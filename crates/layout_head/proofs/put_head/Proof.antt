@@ -1,8 +1,8 @@
--- `layout_encode::put_head` meets its contract: its parts are the head (head-parts).
-use Rattle.layout_encode.specs.Whole.{head-parts}
+-- `layout_head::put_head` meets its contract: its parts are the head (head-parts).
+use Rattle.layout_head.specs.Head.{head-parts}
 use borrow.Author.Needs.{needs}
-use Rattle.layout_encode.proofs.put_head.Statement.{statement}
-use Rattle.layout_encode.proofs.put_head.Tie as tie
+use Rattle.layout_head.proofs.put_head.Statement.{statement}
+use Rattle.layout_head.proofs.put_head.Tie as tie
 
 put-sizes-requires : tie.Need-put-sizes-requires
 put-sizes-requires c κs = search needs

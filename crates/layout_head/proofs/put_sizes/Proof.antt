@@ -1,7 +1,7 @@
--- `layout_encode::put_sizes` meets its contract: its stores are the run, one after the other.
+-- `layout_head::put_sizes` meets its contract: its stores are the run, one after the other.
 use borrow.Author.Needs.{needs}
-use Rattle.layout_encode.proofs.put_sizes.Statement.{statement}
-use Rattle.layout_encode.proofs.put_sizes.Tie as tie
+use Rattle.layout_head.proofs.put_sizes.Statement.{statement}
+use Rattle.layout_head.proofs.put_sizes.Tie as tie
 
 put-requires : tie.Need-put-requires
 put-requires c κs = search needs

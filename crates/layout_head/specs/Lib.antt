@@ -1,0 +1,2 @@
+-- The head in its parts.
+pub mod Head

@@ -1,21 +1,17 @@
--- `T`, `U` and `M` of docs/CHANRUN.md, each with the row that it prints.
+-- `T` and `M` of docs/CHANRUN.md, each with the row that it prints.
 use mathlib.Core.List.{List, [], _++_}
 use Prim.Native.Nat.{ℕ, _+_, _*_}
 use lib.Dec.{leb, ltb}
 use lib.ListN.{length, take, drop}
-use Rattle.lists.specs.Choose.{choose}
 use Rattle.octets.specs.Octets.{part}
 use Rattle.codes.specs.declared.Refusal.the-variants.{BadTable, BadSlot}
-use Rattle.channel.specs.declared.Answer.{Answer}
 use Rattle.channel.specs.declared.Answer.the-variants.{Done, Refused}
 use Rattle.channel.specs.declared.Table.{Table}
 use Rattle.definition.specs.Table.{if_then_else_, sizesFit, width}
-use Rattle.definition.specs.Outcome.{Outcome}
-use Rattle.definition.specs.Asking.{make, noSlots, spsm, mtu, mps, peerMtu, peerMps}
-use Rattle.definition.specs.Ending.{End, servedOf}
+use Rattle.definition.specs.Asking.{make, noSlots}
+use Rattle.definition.specs.Ending.{End}
 use Rattle.making.specs.Made.{endMade}
-use Rattle.commands.specs.Commands.{slotNumber}
-use Rattle.printed.specs.Printed.{rowText, queriesText}
+use Rattle.printed.specs.Printed.{rowText}
 use Rattle.plays.specs.Plays.{Play, play, sizeOf}
 
 -- ---- `T`: "Room of the required size, zeroed; a size above 65,536 is answered by 1". The table's room is the start of what is lent.
@@ -28,14 +24,6 @@ unfoldable pub madeOf : (n d m : ℕ) (room : List ℕ) → Play
 madeOf n d m room =
     if ltb (length room) (sizeOf n d m) then play noSlots room (rowText (Refused BadTable) []) else
     before (drop (sizeOf n d m) room) (endMade (make n d m (take (sizeOf n d m) room)))
-
--- ---- `U`: "spsm, mtu, mps, peer mtu, peer mps"
-
-abbrev pub toldOf : (ℕ → Outcome) → (slot : ℕ) → Answer
-toldOf query slot = servedOf (query (slotNumber slot)) .answer
-
-abbrev pub queriesOf : Table → (slot : ℕ) → List ℕ
-queriesOf t slot = queriesText (toldOf (spsm t) slot) (toldOf (mtu t) slot) (toldOf (mps t) slot) (toldOf (peerMtu t) slot) (toldOf (peerMps t) slot)
 
 -- ---- `M`: the slot's part of the room. A table of no slots has none (1), and a slot past the table neither (6).
 

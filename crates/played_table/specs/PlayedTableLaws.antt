@@ -1,7 +1,7 @@
 -- How each way of a line comes to its definition: by the tests on it.
-use mathlib.Core.Path.{_≡_, refl, sym, ap, subst, _∙_}
+use mathlib.Core.Path.{_≡_, ap, subst, _∙_}
 use mathlib.Core.Bool.{Bool, true, false}
-use mathlib.Core.List.{List, [], _++_}
+use mathlib.Core.List.{List, []}
 use Prim.Native.Nat.{ℕ, _+_, _-_, _*_, _≤_, _<_}
 use native.Mathlib.Omega.{arith}
 use lib.ListN.{length, take, drop}
@@ -15,12 +15,12 @@ use Rattle.channel.specs.declared.Served.{Served}
 use Rattle.channel.specs.declared.Table.{Table}
 use Rattle.definition.specs.Table.{sizesFit}
 use Rattle.definition.specs.Asking.{make, noSlots}
-use Rattle.definition.specs.Ending.{End, end}
+use Rattle.definition.specs.Ending.{end}
 use Rattle.gate.specs.Sizes.{partWidth}
 use Rattle.making.specs.Made.{endMade}
 use Rattle.printed.specs.Printed.{rowText}
 use Rattle.plays.specs.declared.Played.{Played}
-use Rattle.plays.specs.Plays.{Play, play, Plays, sizeOf}
+use Rattle.plays.specs.Plays.{play, Plays, sizeOf}
 use Rattle.plays.specs.PlaysLaws.{by-end}
 use Rattle.played_table.specs.PlayedTable.{before, madeOf, partOf}
 

@@ -1,14 +1,10 @@
-// The lines that ask for the table itself, each with its row (docs/CHANRUN.md): `T` makes one, `U` asks a slot's numbers, `M` shows a slot's part of
-// the room. What each comes to is defined in specs/PlayedTable.antt; it rests on the calls, on `plays` and on `printed`.
-ghost use mathlib.Core.Path.{_≡_};
+// The lines that ask for the table itself, each with its row (docs/CHANRUN.md): `T` makes one, `M` shows a slot's part of the room. What each comes to is defined in specs/PlayedTable.antt; it rests on the calls, on `plays` and on `printed`.
 ghost use Rattle.rows.specs.Rows.{Writes};
-ghost use Rattle.definition.specs.Asking.{spsm, mtu, mps, peerMtu, peerMps};
 ghost use Rattle.plays.specs.Plays.{Plays};
-ghost use Rattle.played_table.specs.PlayedTable.{toldOf, madeOf, queriesOf, partOf};
+ghost use Rattle.played_table.specs.PlayedTable.{madeOf, partOf};
 use channel::Answer;
 use channel::Table;
 use codes::Refusal;
-use commands::slot_of;
 use plays::Played;
 use words::Word;
 
@@ -32,52 +28,6 @@ pub fn made(n: u16, d: u16, m: u16, room: &mut [u8], row: &mut [u8]) -> Played
 }
 
 // ---- `U`
-
-fn spsm_of(t: Table, slot: u16) -> Answer
-    ensures { λ r. ⌜ r ≡ toldOf (spsm t) slot ⌝ }
-{
-    let s = asking::spsm(t, slot_of(slot));
-    s.answer
-}
-
-fn mtu_of(t: Table, slot: u16) -> Answer
-    ensures { λ r. ⌜ r ≡ toldOf (mtu t) slot ⌝ }
-{
-    let s = asking::mtu(t, slot_of(slot));
-    s.answer
-}
-
-fn mps_of(t: Table, slot: u16) -> Answer
-    ensures { λ r. ⌜ r ≡ toldOf (mps t) slot ⌝ }
-{
-    let s = asking::mps(t, slot_of(slot));
-    s.answer
-}
-
-fn peer_mtu_of(t: Table, slot: u16) -> Answer
-    ensures { λ r. ⌜ r ≡ toldOf (peerMtu t) slot ⌝ }
-{
-    let s = asking::peer_mtu(t, slot_of(slot));
-    s.answer
-}
-
-fn peer_mps_of(t: Table, slot: u16) -> Answer
-    ensures { λ r. ⌜ r ≡ toldOf (peerMps t) slot ⌝ }
-{
-    let s = asking::peer_mps(t, slot_of(slot));
-    s.answer
-}
-
-pub fn queried(t: Table, slot: u16, row: &mut [u8]) -> usize
-    ensures { λ r. ⌜ Writes (now (row .entry)) 0 (queriesOf t slot) r (now (row .exit)) ⌝ }
-{
-    let a = spsm_of(t, slot);
-    let b = mtu_of(t, slot);
-    let c = mps_of(t, slot);
-    let d = peer_mtu_of(t, slot);
-    let e = peer_mps_of(t, slot);
-    printed::queried(row, a, b, c, d, e)
-}
 
 // ---- `M`
 

@@ -11,7 +11,8 @@ use Rattle.view.specs.View.{viewText}
 use Rattle.plays.specs.Plays.{Play, play, spelledOf}
 use Rattle.played.specs.Played.{plainOf, openedOf}
 use Rattle.played_frames.specs.PlayedFrames.{frameOf, sendOf, takeOf}
-use Rattle.played_table.specs.PlayedTable.{queriesOf, partOf}
+use Rattle.played_queries.specs.PlayedQueries.{queriesOf}
+use Rattle.played_table.specs.PlayedTable.{partOf}
 
 -- `line` has the command's words; `octets` and `frames` are lent, for the octets of a word or a job, and for frames.
 module _ (t : Table) (room line octets frames : List ℕ) where

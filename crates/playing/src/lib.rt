@@ -1,5 +1,6 @@
-// Every command but `T` and `S` with the row that it prints (docs/CHANRUN.md): which play of `played`, `played_frames` and `played_table` it is. Defined in
-// specs/Playing.antt, case by case. `room` is the table's room, no longer and no shorter; `octets` holds a word's octets or a job, `frames` frames.
+// Every command but `T` and `S` with the row that it prints (docs/CHANRUN.md): which play of `played`, `played_frames`, `played_queries` and
+// `played_table` it is. Defined in specs/Playing.antt, case by case. `room` is the table's room, no longer and no shorter; `octets` holds a
+// word's octets or a job, `frames` frames.
 ghost use Rattle.plays.specs.Plays.{Plays};
 ghost use Rattle.playing.specs.Playing.{playOf};
 use channel::Table;
@@ -38,7 +39,7 @@ pub fn play(
             played_frames::take(t, slot, room, &mut octets[..n], row)
         }
         Command::Queries(slot) => {
-            let n = played_table::queried(t, slot, row);
+            let n = played_queries::queried(t, slot, row);
             Played {
                 table: t,
                 octets: n,

@@ -1,14 +1,13 @@
 -- The line of a slot in a view (docs/CHANRUN.md, `V`): "= slot state link cid spsm mps mtu policy credits received peer_cid peer_mps peer_mtu
 -- peer_credits hold have want queued" "and then the length of each waiting job, oldest first".
 use mathlib.Core.List.{List, [], _∷_, _++_}
-use Prim.Native.Nat.{ℕ, _+_, min}
-use lib.ListN.{take}
+use Prim.Native.Nat.{ℕ, _+_}
 use Rattle.columns.specs.Columns.{columnsText}
-use Rattle.channel.specs.Limits.{cidBase, depthMost}
+use Rattle.channel.specs.Limits.{cidBase}
 use Rattle.channel.specs.declared.ChannelState.{ChannelState}
-use Rattle.channel.specs.declared.Queue.{Queue}
 use Rattle.channel.specs.declared.Slot.{Slot}
 use Rattle.view_names.specs.Names.{stateText, policyText}
+use Rattle.view_peer.specs.PeerLine.{peerText}
 
 -- `= slot state`
 unfoldable pub headText : ℕ → ChannelState → List ℕ
@@ -19,17 +18,6 @@ unfoldable pub localText : ℕ → Slot → List ℕ
 localText s x =
     ((columnsText (x .link ∷ (cidBase + s) ∷ x .spsm ∷ x .mps ∷ x .mtu ∷ []) ++ 32 ∷ []) ++ policyText (x .account .policy))
     ++ columnsText (x .account .credits ∷ x .account .received ∷ [])
-
--- `queued`, and the lengths of the waiting jobs
-unfoldable pub jobsText : Queue → List ℕ
-jobsText q = columnsText (q .count ∷ []) ++ columnsText (take (min (q .count) depthMost) (q .lens))
-
--- `peer_cid peer_mps peer_mtu peer_credits hold have want`, the jobs, and the line's end
-unfoldable pub peerText : Slot → List ℕ
-peerText x =
-    ((columnsText (x .peer .cid ∷ x .peer .mps ∷ x .peer .mtu ∷ x .peer .credits ∷ []) ++ columnsText (x .hold ∷ x .assembly .have ∷ x .assembly .want ∷ []))
-    ++ jobsText (x .queue))
-    ++ 10 ∷ []
 
 unfoldable pub slotText : ℕ → Slot → List ℕ
 slotText s x = (headText s (x .state) ++ localText s x) ++ peerText x

@@ -1,16 +1,14 @@
-// The line of one slot in a view (docs/CHANRUN.md, `V`): its state, our side of the channel, the peer's, and what waits. What is shown is
-// defined in specs/SlotLine.antt; it rests on `view_names`, `columns` and `rows`.
+// The line of one slot in a view (docs/CHANRUN.md, `V`): its state, our side of the channel, and what `view_peer` shows. It is defined in
+// specs/SlotLine.antt; it rests on `view_names`, `view_peer`, `columns` and `rows`.
 use channel::ChannelState;
-use channel::DEPTH;
-use channel::Queue;
 use channel::Slot;
 use columns::write_columns;
-use octets::least;
 use rows::write_character;
 use view_names::write_policy;
 use view_names::write_state;
+use view_peer::write_peer;
 ghost use Rattle.rows.specs.Rows.{Writes};
-ghost use Rattle.view_slot.specs.SlotLine.{headText, localText, jobsText, peerText, slotText};
+ghost use Rattle.view_slot.specs.SlotLine.{headText, localText, slotText};
 
 // The slot's number and its state.
 fn write_head(out: &mut [u8], at: usize, s: u8, state: ChannelState) -> usize
@@ -32,29 +30,6 @@ fn write_local(out: &mut [u8], at: usize, s: u8, x: Slot) -> usize
     let policy = account.policy;
     let name = write_policy(out, space, policy);
     write_columns(out, name, &[account.credits, account.received])
-}
-
-// How many jobs wait, and the length of each.
-fn write_jobs(out: &mut [u8], at: usize, q: Queue) -> usize
-    ensures { λ r. ⌜ Writes (now (out .entry)) at (jobsText q) r (now (out .exit)) ⌝ }
-{
-    let lens = q.lens;
-    let waiting = least(q.count as usize, DEPTH);
-    let count = write_columns(out, at, &[q.count as u16]);
-    write_columns(out, count, &lens[..waiting])
-}
-
-// The peer's side, what is held and what waits.
-fn write_peer(out: &mut [u8], at: usize, x: Slot) -> usize
-    ensures { λ r. ⌜ Writes (now (out .entry)) at (peerText x) r (now (out .exit)) ⌝ }
-{
-    let p = x.peer;
-    let a = x.assembly;
-    let q = x.queue;
-    let peer = write_columns(out, at, &[p.cid, p.mps, p.mtu, p.credits]);
-    let numbers = write_columns(out, peer, &[x.hold as u16, a.have, a.want]);
-    let jobs = write_jobs(out, numbers, q);
-    write_character(out, jobs, 10)
 }
 
 // The line of slot s.

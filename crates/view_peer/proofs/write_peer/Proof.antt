@@ -1,9 +1,9 @@
--- `view_slot::write_peer` meets its contract: its pieces follow one another (writes-append).
+-- `view_peer::write_peer` meets its contract: its pieces follow one another (writes-append).
 use Rattle.rows.specs.Rows.{writes-append}
-use Rattle.view_slot.specs.SlotLine.{peerText}
+use Rattle.view_peer.specs.PeerLine.{peerText}
 use borrow.Author.Needs.{needs}
-use Rattle.view_slot.proofs.write_peer.Statement.{statement}
-use Rattle.view_slot.proofs.write_peer.Tie as tie
+use Rattle.view_peer.proofs.write_peer.Statement.{statement}
+use Rattle.view_peer.proofs.write_peer.Tie as tie
 
 slice-aggregate-write-columns : tie.Need-slice-aggregate-write-columns
 slice-aggregate-write-columns c = search needs

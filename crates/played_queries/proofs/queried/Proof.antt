@@ -1,7 +1,7 @@
--- `played_table::queried` meets its contract: the row of the five answers.
+-- `played_queries::queried` meets its contract: the row of the five answers.
 use borrow.Author.Needs.{needs}
-use Rattle.played_table.proofs.queried.Statement.{statement}
-use Rattle.played_table.proofs.queried.Tie as tie
+use Rattle.played_queries.proofs.queried.Statement.{statement}
+use Rattle.played_queries.proofs.queried.Tie as tie
 
 spsm-of-requires : tie.Need-spsm-of-requires
 spsm-of-requires c κs = search needs

@@ -1,13 +1,13 @@
--- `view_slot::write_jobs` meets its contract: its pieces follow one another (writes-append), and the queue's array has DEPTH places.
+-- `view_peer::write_jobs` meets its contract: its pieces follow one another (writes-append), and the queue's array has DEPTH places.
 use mathlib.Core.Path.{_≡_}
 use native.Mathlib.Omega.{arith}
 use lib.ListN.{length, length-take}
 use Rattle.channel.specs.Limits.{depthMost}
 use Rattle.rows.specs.Rows.{writes-append}
-use Rattle.view_slot.specs.SlotLine.{jobsText}
+use Rattle.view_peer.specs.PeerLine.{jobsText}
 use borrow.Author.Needs.{needs}
-use Rattle.view_slot.proofs.write_jobs.Statement.{statement}
-use Rattle.view_slot.proofs.write_jobs.Tie as tie
+use Rattle.view_peer.proofs.write_jobs.Statement.{statement}
+use Rattle.view_peer.proofs.write_jobs.Tie as tie
 
 cast-least : tie.Need-cast-least
 cast-least c = search needs

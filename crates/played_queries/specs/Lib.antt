@@ -1,0 +1,2 @@
+-- The row of `U`.
+pub mod PlayedQueries

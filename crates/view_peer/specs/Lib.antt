@@ -1,0 +1,2 @@
+-- What the end of a slot's line shows.
+pub mod PeerLine

@@ -9,7 +9,6 @@ use Rattle.credit.specs.declared.CreditFlowPolicy.{CreditFlowPolicy}
 use Rattle.credit.specs.declared.CreditFlowPolicy.the-variants as CreditFlowPolicy
 use Rattle.channel.specs.declared.Setting.{Setting}
 use Rattle.channel.specs.declared.Setting.the-variants as Setting
-use Rattle.channel.specs.declared.L2capChannelConfig.{L2capChannelConfig}
 use Rattle.plain_fields.specs.PlainFields.{isNumber, numberOf, isOne}
 
 -- a number, or "`-` is the default"
@@ -27,10 +26,3 @@ unfoldable pub policyOf : List ℕ → CreditFlowPolicy
 policyOf w =
     choose (isOne 45 w) (CreditFlowPolicy.Every 1)
     (choose (eqb (getD w 0 0) 101) (CreditFlowPolicy.Every (numberOf (drop 1 w))) (CreditFlowPolicy.MinThreshold (numberOf (drop 1 w))))
-
--- `mtu mps policy credits`
-abbrev pub isConfig : (mtu mps policy credits : List ℕ) → Bool
-isConfig mtu mps policy credits = isSetting mtu && isSetting mps && isPolicy policy && isSetting credits
-
-abbrev pub configOf : (mtu mps policy credits : List ℕ) → L2capChannelConfig
-configOf mtu mps policy credits = record { mtu = settingOf mtu; mps = settingOf mps; policy = policyOf policy; credits = settingOf credits }

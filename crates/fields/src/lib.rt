@@ -1,6 +1,5 @@
 // The words of a configuration, one kind each, beside the plain ones (`plain_fields`): whether a word is of that kind, and what it then says. A
-// word is tested before it is asked. What each word says is defined in specs/Fields.antt; what a config says is a value of `channel`.
-use channel::L2capChannelConfig;
+// word is tested before it is asked. What each word says is defined in specs/Fields.antt.
 use channel::Setting;
 use credit::CreditFlowPolicy;
 use plain_fields::is_number;
@@ -8,7 +7,7 @@ use plain_fields::is_one;
 use plain_fields::number_of;
 ghost use mathlib.Core.Path.{_≡_};
 ghost use lib.ListN.{drop};
-ghost use Rattle.fields.specs.Fields.{isSetting, settingOf, isPolicy, policyOf, isConfig, configOf};
+ghost use Rattle.fields.specs.Fields.{isSetting, settingOf, isPolicy, policyOf};
 
 pub fn is_setting(word: &[u8]) -> bool
     ensures { λ r. ⌜ r ≡ isSetting (now (word .entry)) ⌝ }
@@ -53,25 +52,4 @@ pub fn policy_of(word: &[u8]) -> CreditFlowPolicy
         return CreditFlowPolicy::Every(n);
     }
     CreditFlowPolicy::MinThreshold(n)
-}
-
-pub fn is_config(mtu: &[u8], mps: &[u8], policy: &[u8], credits: &[u8]) -> bool
-    ensures { λ r. ⌜ r ≡ isConfig (now (mtu .entry)) (now (mps .entry)) (now (policy .entry)) (now (credits .entry)) ⌝ }
-{
-    is_setting(mtu) & is_setting(mps) & is_policy(policy) & is_setting(credits)
-}
-
-pub fn config_of(mtu: &[u8], mps: &[u8], policy: &[u8], credits: &[u8]) -> L2capChannelConfig
-    ensures { λ r. ⌜ r ≡ configOf (now (mtu .entry)) (now (mps .entry)) (now (policy .entry)) (now (credits .entry)) ⌝ }
-{
-    let a = setting_of(mtu);
-    let b = setting_of(mps);
-    let p = policy_of(policy);
-    let k = setting_of(credits);
-    L2capChannelConfig {
-        mtu: a,
-        mps: b,
-        policy: p,
-        credits: k,
-    }
 }

@@ -7,7 +7,7 @@ use Rattle.lists.specs.Choose.{choose}
 use Rattle.hex_words.specs.HexWords.{isHexWord}
 use Rattle.words.specs.declared.Word.{Word}
 use Rattle.plain_fields.specs.PlainFields.{isNumber, numberOf, isFlag, flagOf, isRole, centralOf}
-use Rattle.fields.specs.Fields.{isConfig, configOf}
+use Rattle.configs.specs.Configs.{isConfig, configOf}
 use Rattle.commands.specs.declared.Command.{Command}
 use Rattle.commands.specs.declared.Command.the-variants as Command
 

@@ -1,8 +1,8 @@
 // The calls of a script (docs/CHANRUN.md) whose line has four words or more, by their number; the shorter ones are in `commands`. The table of these
 // calls is specs/LongCommands.antt, which every function here follows test by test. It rests on `commands`, `plain_fields`, `fields` and `hex_words`.
 use commands::Command;
-use fields::config_of;
-use fields::is_config;
+use configs::config_of;
+use configs::is_config;
 use hex_words::hex_ok;
 use plain_fields::central_of;
 use plain_fields::flag_of;

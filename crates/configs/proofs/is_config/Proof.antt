@@ -1,7 +1,7 @@
--- `fields::is_config` meets its contract: by what the four calls say.
+-- `configs::is_config` meets its contract: by what the four calls say.
 use borrow.Author.Needs.{needs}
-use Rattle.fields.proofs.is_config.Statement.{statement}
-use Rattle.fields.proofs.is_config.Tie as tie
+use Rattle.configs.proofs.is_config.Statement.{statement}
+use Rattle.configs.proofs.is_config.Tie as tie
 
 is-setting-requires : tie.Need-is-setting-requires
 is-setting-requires c κs = search needs

@@ -1,7 +1,7 @@
--- `fields::config_of` meets its contract: by what the four calls say.
+-- `configs::config_of` meets its contract: by what the four calls say.
 use borrow.Author.Needs.{needs}
-use Rattle.fields.proofs.config_of.Statement.{statement}
-use Rattle.fields.proofs.config_of.Tie as tie
+use Rattle.configs.proofs.config_of.Statement.{statement}
+use Rattle.configs.proofs.config_of.Tie as tie
 
 setting-of-requires : tie.Need-setting-of-requires
 setting-of-requires c κs = search needs

@@ -1,0 +1,2 @@
+-- What the words of a configuration say.
+pub mod Configs

@@ -1,10 +1,18 @@
 -- `eight::copy_eight` meets its contract: eight stores are a run of eight.
 use native.Mathlib.Omega.{arith}
-use lib.ListN.{length-set}
+use Prim.Native.Nat.{ℕ, _+_, _<_}
+use lib.ListN.{length}
 use borrow.Author.Needs.{needs}
-use Rattle.eight.specs.Eight.{eight-stores}
+use Rattle.eight.specs.Eight.{run, run-length, run-below, eight-stores}
 use Rattle.eight.proofs.copy_eight.Statement.{statement}
 use Rattle.eight.proofs.copy_eight.Tie as tie
+
+abbrev start : tie.After-shared-slice-known8 → tie.Start
+start c = c .before .before .before .before .before .before .before .before
+
+-- the store behind the first k is within the slice
+within : (s : tie.Start) (k : ℕ) → k < 8 → s .args .at + k < length (run 0 (s .args .dst .now) (s .args .src .now) (s .args .at) (s .args .from) k)
+within s k h = run-below 0 (s .args .dst .now) (s .args .src .now) (s .args .at) (s .args .from) k (s .pre .0) h
 
 shared-slice-read-a : tie.Need-shared-slice-read-a
 shared-slice-read-a c = search needs
@@ -58,51 +66,49 @@ add-dst : tie.Need-add-dst
 add-dst c = search needs
 
 slice-write-dst-2 : tie.Need-slice-write-dst-2
-slice-write-dst-2 c = simp length-set (omega arith)
+slice-write-dst-2 c = within (start c) 1 (omega arith)
 
 add-dst-2 : tie.Need-add-dst-2
 add-dst-2 c = search needs
 
 slice-write-dst-3 : tie.Need-slice-write-dst-3
-slice-write-dst-3 c = simp length-set (omega arith)
+slice-write-dst-3 c = within (start c) 2 (omega arith)
 
 add-dst-3 : tie.Need-add-dst-3
 add-dst-3 c = search needs
 
 slice-write-dst-4 : tie.Need-slice-write-dst-4
-slice-write-dst-4 c = simp length-set (omega arith)
+slice-write-dst-4 c = within (start c) 3 (omega arith)
 
 add-dst-4 : tie.Need-add-dst-4
 add-dst-4 c = search needs
 
 slice-write-dst-5 : tie.Need-slice-write-dst-5
-slice-write-dst-5 c = simp length-set (omega arith)
+slice-write-dst-5 c = within (start c) 4 (omega arith)
 
 add-dst-5 : tie.Need-add-dst-5
 add-dst-5 c = search needs
 
 slice-write-dst-6 : tie.Need-slice-write-dst-6
-slice-write-dst-6 c = simp length-set (omega arith)
+slice-write-dst-6 c = within (start c) 5 (omega arith)
 
 add-dst-6 : tie.Need-add-dst-6
 add-dst-6 c = search needs
 
 slice-write-dst-7 : tie.Need-slice-write-dst-7
-slice-write-dst-7 c = simp length-set (omega arith)
+slice-write-dst-7 c = within (start c) 6 (omega arith)
 
 add-dst-7 : tie.Need-add-dst-7
 add-dst-7 c = search needs
 
 slice-write-dst-8 : tie.Need-slice-write-dst-8
-slice-write-dst-8 c = simp length-set (omega arith)
+slice-write-dst-8 c = within (start c) 7 (omega arith)
 
 same-length : tie.Need-same-length
-same-length c = simp length-set
+same-length c = let s = start c in run-length 0 (s .args .dst .now) (s .args .src .now) (s .args .at) (s .args .from) 8
 
 returns : tie.Need-returns
-returns c =
-    let a = c .before .before .before .before .before .before .before .before .args in
-    eight-stores 0 (a .dst .now) (a .src .now) (a .at) (a .from) (omega arith)
+returns c = let s = start c in eight-stores 0 (s .args .dst .now) (s .args .src .now) (s .args .at) (s .args .from) (s .pre .1)
 
 pub copy-eight-spec : {M : Type 1} → statement M
 copy-eight-spec =

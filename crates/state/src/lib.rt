@@ -9,12 +9,7 @@ pub fn is_disconnected(k: ChannelState) -> bool
 {
     match k {
         ChannelState::Disconnected => true,
-        ChannelState::Connecting(_) => false,
-        ChannelState::PeerConnecting(_) => false,
-        ChannelState::Connected => false,
-        ChannelState::ConnectFailed(_) => false,
-        ChannelState::PeerDisconnecting(_) => false,
-        ChannelState::Disconnecting(_) => false,
+        _ => false,
     }
 }
 
@@ -22,13 +17,8 @@ pub fn is_connecting(k: ChannelState) -> bool
     ensures { λ r. ⌜ r ≡ isConnecting k ⌝ }
 {
     match k {
-        ChannelState::Disconnected => false,
         ChannelState::Connecting(_) => true,
-        ChannelState::PeerConnecting(_) => false,
-        ChannelState::Connected => false,
-        ChannelState::ConnectFailed(_) => false,
-        ChannelState::PeerDisconnecting(_) => false,
-        ChannelState::Disconnecting(_) => false,
+        _ => false,
     }
 }
 
@@ -36,13 +26,8 @@ pub fn is_peer_connecting(k: ChannelState) -> bool
     ensures { λ r. ⌜ r ≡ isPeerConnecting k ⌝ }
 {
     match k {
-        ChannelState::Disconnected => false,
-        ChannelState::Connecting(_) => false,
         ChannelState::PeerConnecting(_) => true,
-        ChannelState::Connected => false,
-        ChannelState::ConnectFailed(_) => false,
-        ChannelState::PeerDisconnecting(_) => false,
-        ChannelState::Disconnecting(_) => false,
+        _ => false,
     }
 }
 
@@ -50,13 +35,8 @@ pub fn is_connected(k: ChannelState) -> bool
     ensures { λ r. ⌜ r ≡ isConnected k ⌝ }
 {
     match k {
-        ChannelState::Disconnected => false,
-        ChannelState::Connecting(_) => false,
-        ChannelState::PeerConnecting(_) => false,
         ChannelState::Connected => true,
-        ChannelState::ConnectFailed(_) => false,
-        ChannelState::PeerDisconnecting(_) => false,
-        ChannelState::Disconnecting(_) => false,
+        _ => false,
     }
 }
 
@@ -64,13 +44,8 @@ pub fn is_connect_failed(k: ChannelState) -> bool
     ensures { λ r. ⌜ r ≡ isConnectFailed k ⌝ }
 {
     match k {
-        ChannelState::Disconnected => false,
-        ChannelState::Connecting(_) => false,
-        ChannelState::PeerConnecting(_) => false,
-        ChannelState::Connected => false,
         ChannelState::ConnectFailed(_) => true,
-        ChannelState::PeerDisconnecting(_) => false,
-        ChannelState::Disconnecting(_) => false,
+        _ => false,
     }
 }
 
@@ -78,13 +53,8 @@ pub fn is_peer_disconnecting(k: ChannelState) -> bool
     ensures { λ r. ⌜ r ≡ isPeerDisconnecting k ⌝ }
 {
     match k {
-        ChannelState::Disconnected => false,
-        ChannelState::Connecting(_) => false,
-        ChannelState::PeerConnecting(_) => false,
-        ChannelState::Connected => false,
-        ChannelState::ConnectFailed(_) => false,
         ChannelState::PeerDisconnecting(_) => true,
-        ChannelState::Disconnecting(_) => false,
+        _ => false,
     }
 }
 
@@ -92,13 +62,8 @@ pub fn is_disconnecting(k: ChannelState) -> bool
     ensures { λ r. ⌜ r ≡ isDisconnecting k ⌝ }
 {
     match k {
-        ChannelState::Disconnected => false,
-        ChannelState::Connecting(_) => false,
-        ChannelState::PeerConnecting(_) => false,
-        ChannelState::Connected => false,
-        ChannelState::ConnectFailed(_) => false,
-        ChannelState::PeerDisconnecting(_) => false,
         ChannelState::Disconnecting(_) => true,
+        _ => false,
     }
 }
 
@@ -106,13 +71,9 @@ pub fn is_due(k: ChannelState) -> bool
     ensures { λ r. ⌜ r ≡ isDue k ⌝ }
 {
     match k {
-        ChannelState::Disconnected => false,
-        ChannelState::Connecting(_) => false,
-        ChannelState::PeerConnecting(_) => false,
-        ChannelState::Connected => false,
-        ChannelState::ConnectFailed(_) => false,
         ChannelState::PeerDisconnecting(_) => true,
         ChannelState::Disconnecting(announced) => !announced,
+        _ => false,
     }
 }
 
@@ -121,13 +82,10 @@ pub fn identifier_of(k: ChannelState) -> u8
     ensures { λ r. ⌜ r ≡ identifierOf k ⌝ }
 {
     match k {
-        ChannelState::Disconnected => 0,
         ChannelState::Connecting(id) => id,
         ChannelState::PeerConnecting(id) => id,
-        ChannelState::Connected => 0,
-        ChannelState::ConnectFailed(_) => 0,
         ChannelState::PeerDisconnecting(id) => id,
-        ChannelState::Disconnecting(_) => 0,
+        _ => 0,
     }
 }
 
@@ -136,12 +94,7 @@ pub fn failure_of(k: ChannelState) -> LeCreditConnResultCode
     ensures { λ r. ⌜ r ≡ failureOf k ⌝ }
 {
     match k {
-        ChannelState::Disconnected => LeCreditConnResultCode::Success,
-        ChannelState::Connecting(_) => LeCreditConnResultCode::Success,
-        ChannelState::PeerConnecting(_) => LeCreditConnResultCode::Success,
-        ChannelState::Connected => LeCreditConnResultCode::Success,
         ChannelState::ConnectFailed(code) => code,
-        ChannelState::PeerDisconnecting(_) => LeCreditConnResultCode::Success,
-        ChannelState::Disconnecting(_) => LeCreditConnResultCode::Success,
+        _ => LeCreditConnResultCode::Success,
     }
 }

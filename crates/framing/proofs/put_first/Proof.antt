@@ -33,8 +33,9 @@ same-length c = search needs
 
 returns : tie.Need-returns
 returns c =
-    let a = c .before .before .before .before .before .before .before .before .before .before .before .before .before .before .before .before .before .before .args in
-    cc (first-sets (a .out .now) (a .cid) (length (a .sdu .now)) (take (a .n) (a .sdu .now)), length-take-le (a .n) (a .sdu .now) (omega arith))
+    let a = c .before .before .before .before .before .before .before .before .before .before .before .before .before .before .before .before .before .before in
+    rw (c .before .before .copy-to .ensures, c .before .before .before .before .before .before .put-number3 .ensures, c .before .before .before .before .before .before .before .before .before .before .put-number2 .ensures, c .before .before .before .before .before .before .before .before .before .before .before .before .before .before .put-number .ensures)
+    (rw (length-take-le (a .args .n) (a .args .sdu .now) (a .pre .0)) at (first-sets (a .args .out .now) (a .args .cid) (length (a .args .sdu .now)) (take (a .args .n) (a .args .sdu .now))))
 
 pub put-first-spec : {M : Type 1} → statement M
 put-first-spec =

@@ -32,7 +32,8 @@ returns : tie.Need-returns
 returns c =
     let a = c .before .before .before .before .before .before .before .before .before .before .before .before .before .before .args in
     let p = part (a .sdu .now) (a .from) (a .n) in
-    cc (frame-sets (a .out .now) (a .at) (a .cid) p, part-length (a .sdu .now) (a .from) (a .n) (omega arith))
+    rw (c .before .before .copy-to .ensures, c .before .before .before .before .before .before .put-number2 .ensures, c .before .before .before .before .before .before .before .before .before .before .put-number .ensures)
+    (rw (part-length (a .sdu .now) (a .from) (a .n) (omega arith)) at (frame-sets (a .out .now) (a .at) (a .cid) p))
 
 pub put-frame-spec : {M : Type 1} → statement M
 put-frame-spec =

@@ -1,14 +1,34 @@
--- `script::read_command` meets its contract: the words that it goes through are the words of the line (place-word), and it makes the tests of
--- the definition.
-use mathlib.Core.Path.{_≡_, ap, _∙_}
-use borrow.Author.Tests.{eq-eqb, ne-eqb}
-use Rattle.lists.specs.Choose.{choose}
-use Rattle.words.specs.Words.{word, textOf, wordAfter, place}
-use Rattle.words.specs.WordLaws.{place-word}
-use Rattle.script.specs.Script.{commandOf}
+-- `script::read_command` meets its contract: the words that it goes through are the words of the line, and it makes the tests of the definition (Lines).
+use mathlib.Core.Path.{_∙_}
 use borrow.Author.Needs.{needs}
+use Rattle.script.proofs.Lines.{At, at-first, at-next, Begun, begin, no-letter, line-1, line-2, line-3, line-4, line-5, line-6, line-7, line-longer}
 use Rattle.script.proofs.read_command.Statement.{statement}
 use Rattle.script.proofs.read_command.Tie as tie
+
+-- the words, each where the code has read it
+word-0 : (c : tie.After-text) → At (c .before .before .before .before .args .line .now) 0 (c .before .word-at .result) (c .text .result .now)
+word-0 c = at-first (c .before .word-at .ensures) (c .text .ensures)
+
+word-1 : (c : tie.After-text2) → At (c .before .before .before .before .before .before .before .before .before .args .line .now) 1 (c .before .word-after .result) (c .text2 .result .now)
+word-1 c = at-next (word-0 (c .before .before .before .before .before)) (c .before .word-after .ensures) (c .text2 .ensures)
+
+word-2 : (c : tie.After-text3) → At (c .before .before .before .before .before .before .before .before .before .before .before .before .args .line .now) 2 (c .before .word-after2 .result) (c .text3 .result .now)
+word-2 c = at-next (word-1 (c .before .before .before)) (c .before .word-after2 .ensures) (c .text3 .ensures)
+
+word-3 : (c : tie.After-text4) → At (c .before .before .before .before .before .before .before .before .before .before .before .before .before .before .before .args .line .now) 3 (c .before .word-after3 .result) (c .text4 .result .now)
+word-3 c = at-next (word-2 (c .before .before .before)) (c .before .word-after3 .ensures) (c .text4 .ensures)
+
+word-4 : (c : tie.After-text5) → At (c .before .before .before .before .before .before .before .before .before .before .before .before .before .before .before .before .before .before .args .line .now) 4 (c .before .word-after4 .result) (c .text5 .result .now)
+word-4 c = at-next (word-3 (c .before .before .before)) (c .before .word-after4 .ensures) (c .text5 .ensures)
+
+word-5 : (c : tie.After-text6) → At (c .before .before .before .before .before .before .before .before .before .before .before .before .before .before .before .before .before .before .before .before .before .args .line .now) 5 (c .before .word-after5 .result) (c .text6 .result .now)
+word-5 c = at-next (word-4 (c .before .before .before)) (c .before .word-after5 .ensures) (c .text6 .ensures)
+
+word-6 : (c : tie.After-text7) → At (c .before .before .before .before .before .before .before .before .before .before .before .before .before .before .before .before .before .before .before .before .before .before .before .before .args .line .now) 6 (c .before .word-after6 .result) (c .text7 .result .now)
+word-6 c = at-next (word-5 (c .before .before .before)) (c .before .word-after6 .ensures) (c .text7 .ensures)
+
+begun : (c : tie.After-octet) → Begun (c .before .before .before .before .before .before .args .line .now) (c .before .before .before .before .count .result) (c .octet .result)
+begun c = begin (c .before .before .before .before .count .ensures) (word-0 (c .before .before)) (c .before .if1 .left) (c .octet .ensures)
 
 count-requires : tie.Need-count-requires
 count-requires c κs = search needs
@@ -20,12 +40,7 @@ text-requires : tie.Need-text-requires
 text-requires c κs = search needs
 
 returns : tie.Need-returns
-unfolding commandOf choose place
-returns c =
-    let line = c .before .before .before .before .before .args .line .now in
-    let p0 : c .before .before .word-at .result ≡ place line 0 = c .before .before .word-at .ensures in
-    let w0 : c .before .text .result .now ≡ word line 0 = c .before .text .ensures ∙ ap (textOf line) p0 ∙ place-word line 0 in
-    rw (← w0, ne-eqb _ 1 (c .if1 .taken))
+returns c = no-letter (word-0 (c .before)) (c .if1 .taken)
 
 octet-requires : tie.Need-octet-requires
 octet-requires c κs = search needs
@@ -34,12 +49,7 @@ one-word-requires : tie.Need-one-word-requires
 one-word-requires c κs = search needs
 
 returns-2 : tie.Need-returns-2
-unfolding commandOf choose place
-returns-2 c =
-    let line = c .before .before .before .before .before .before .before .before .args .line .now in
-    let p0 : c .before .before .before .before .before .word-at .result ≡ place line 0 = c .before .before .before .before .before .word-at .ensures in
-    let w0 : c .before .before .before .before .text .result .now ≡ word line 0 = c .before .before .before .before .text .ensures ∙ ap (textOf line) p0 ∙ place-word line 0 in
-    rw (← w0, eq-eqb _ 1 (c .before .before .before .if1 .left), ← c .before .before .before .before .before .before .count .ensures, eq-eqb _ 1 (c .before .if2 .taken), ← c .before .before .octet .ensures) (c .one-word .ensures)
+returns-2 c = c .one-word .ensures ∙ line-1 (begun (c .before .before)) (c .before .if2 .taken)
 
 word-after-requires : tie.Need-word-after-requires
 word-after-requires c κs = search needs
@@ -51,14 +61,7 @@ two-words-requires : tie.Need-two-words-requires
 two-words-requires c κs = search needs
 
 returns-3 : tie.Need-returns-3
-unfolding commandOf choose place
-returns-3 c =
-    let line = c .before .before .before .before .before .before .before .before .before .before .before .args .line .now in
-    let p0 : c .before .before .before .before .before .before .before .before .word-at .result ≡ place line 0 = c .before .before .before .before .before .before .before .before .word-at .ensures in
-    let p1 : c .before .before .before .word-after .result ≡ place line 1 = c .before .before .before .word-after .ensures ∙ ap (wordAfter line) p0 in
-    let w0 : c .before .before .before .before .before .before .before .text .result .now ≡ word line 0 = c .before .before .before .before .before .before .before .text .ensures ∙ ap (textOf line) p0 ∙ place-word line 0 in
-    let w1 : c .before .before .text2 .result .now ≡ word line 1 = c .before .before .text2 .ensures ∙ ap (textOf line) p1 ∙ place-word line 1 in
-    rw (← w0, eq-eqb _ 1 (c .before .before .before .before .before .before .if1 .left), ← c .before .before .before .before .before .before .before .before .before .count .ensures, ne-eqb _ 1 (c .before .before .before .before .if2 .left), eq-eqb _ 2 (c .before .if3 .taken), ← c .before .before .before .before .before .octet .ensures, ← w1) (c .two-words .ensures)
+returns-3 c = c .two-words .ensures ∙ line-2 (begun (c .before .before .before .before .before)) (c .before .if3 .taken) (word-1 (c .before .before))
 
 word-after-requires-2 : tie.Need-word-after-requires-2
 word-after-requires-2 c κs = search needs
@@ -70,16 +73,7 @@ three-words-requires : tie.Need-three-words-requires
 three-words-requires c κs = search needs
 
 returns-4 : tie.Need-returns-4
-unfolding commandOf choose place
-returns-4 c =
-    let line = c .before .before .before .before .before .before .before .before .before .before .before .before .before .before .args .line .now in
-    let p0 : c .before .before .before .before .before .before .before .before .before .before .before .word-at .result ≡ place line 0 = c .before .before .before .before .before .before .before .before .before .before .before .word-at .ensures in
-    let p1 : c .before .before .before .before .before .before .word-after .result ≡ place line 1 = c .before .before .before .before .before .before .word-after .ensures ∙ ap (wordAfter line) p0 in
-    let p2 : c .before .before .before .word-after2 .result ≡ place line 2 = c .before .before .before .word-after2 .ensures ∙ ap (wordAfter line) p1 in
-    let w0 : c .before .before .before .before .before .before .before .before .before .before .text .result .now ≡ word line 0 = c .before .before .before .before .before .before .before .before .before .before .text .ensures ∙ ap (textOf line) p0 ∙ place-word line 0 in
-    let w1 : c .before .before .before .before .before .text2 .result .now ≡ word line 1 = c .before .before .before .before .before .text2 .ensures ∙ ap (textOf line) p1 ∙ place-word line 1 in
-    let w2 : c .before .before .text3 .result .now ≡ word line 2 = c .before .before .text3 .ensures ∙ ap (textOf line) p2 ∙ place-word line 2 in
-    rw (← w0, eq-eqb _ 1 (c .before .before .before .before .before .before .before .before .before .if1 .left), ← c .before .before .before .before .before .before .before .before .before .before .before .before .count .ensures, ne-eqb _ 1 (c .before .before .before .before .before .before .before .if2 .left), ne-eqb _ 2 (c .before .before .before .before .if3 .left), eq-eqb _ 3 (c .before .if4 .taken), ← c .before .before .before .before .before .before .before .before .octet .ensures, ← w1, ← w2, ← p2) (c .three-words .ensures)
+returns-4 c = c .three-words .ensures ∙ line-3 (begun (c .before .before .before .before .before .before .before .before)) (c .before .if4 .taken) (word-1 (c .before .before .before .before .before)) (word-2 (c .before .before))
 
 word-after-requires-3 : tie.Need-word-after-requires-3
 word-after-requires-3 c κs = search needs
@@ -91,18 +85,7 @@ four-words-requires : tie.Need-four-words-requires
 four-words-requires c κs = search needs
 
 returns-5 : tie.Need-returns-5
-unfolding commandOf choose place
-returns-5 c =
-    let line = c .before .before .before .before .before .before .before .before .before .before .before .before .before .before .before .before .before .args .line .now in
-    let p0 : c .before .before .before .before .before .before .before .before .before .before .before .before .before .before .word-at .result ≡ place line 0 = c .before .before .before .before .before .before .before .before .before .before .before .before .before .before .word-at .ensures in
-    let p1 : c .before .before .before .before .before .before .before .before .before .word-after .result ≡ place line 1 = c .before .before .before .before .before .before .before .before .before .word-after .ensures ∙ ap (wordAfter line) p0 in
-    let p2 : c .before .before .before .before .before .before .word-after2 .result ≡ place line 2 = c .before .before .before .before .before .before .word-after2 .ensures ∙ ap (wordAfter line) p1 in
-    let p3 : c .before .before .before .word-after3 .result ≡ place line 3 = c .before .before .before .word-after3 .ensures ∙ ap (wordAfter line) p2 in
-    let w0 : c .before .before .before .before .before .before .before .before .before .before .before .before .before .text .result .now ≡ word line 0 = c .before .before .before .before .before .before .before .before .before .before .before .before .before .text .ensures ∙ ap (textOf line) p0 ∙ place-word line 0 in
-    let w1 : c .before .before .before .before .before .before .before .before .text2 .result .now ≡ word line 1 = c .before .before .before .before .before .before .before .before .text2 .ensures ∙ ap (textOf line) p1 ∙ place-word line 1 in
-    let w2 : c .before .before .before .before .before .text3 .result .now ≡ word line 2 = c .before .before .before .before .before .text3 .ensures ∙ ap (textOf line) p2 ∙ place-word line 2 in
-    let w3 : c .before .before .text4 .result .now ≡ word line 3 = c .before .before .text4 .ensures ∙ ap (textOf line) p3 ∙ place-word line 3 in
-    rw (← w0, eq-eqb _ 1 (c .before .before .before .before .before .before .before .before .before .before .before .before .if1 .left), ← c .before .before .before .before .before .before .before .before .before .before .before .before .before .before .before .count .ensures, ne-eqb _ 1 (c .before .before .before .before .before .before .before .before .before .before .if2 .left), ne-eqb _ 2 (c .before .before .before .before .before .before .before .if3 .left), ne-eqb _ 3 (c .before .before .before .before .if4 .left), eq-eqb _ 4 (c .before .if5 .taken), ← c .before .before .before .before .before .before .before .before .before .before .before .octet .ensures, ← w1, ← w2, ← w3, ← p3) (c .four-words .ensures)
+returns-5 c = c .four-words .ensures ∙ line-4 (begun (c .before .before .before .before .before .before .before .before .before .before .before)) (c .before .if5 .taken) (word-1 (c .before .before .before .before .before .before .before .before)) (word-2 (c .before .before .before .before .before)) (word-3 (c .before .before))
 
 word-after-requires-4 : tie.Need-word-after-requires-4
 word-after-requires-4 c κs = search needs
@@ -114,20 +97,7 @@ five-words-requires : tie.Need-five-words-requires
 five-words-requires c κs = search needs
 
 returns-6 : tie.Need-returns-6
-unfolding commandOf choose place
-returns-6 c =
-    let line = c .before .before .before .before .before .before .before .before .before .before .before .before .before .before .before .before .before .before .before .before .args .line .now in
-    let p0 : c .before .before .before .before .before .before .before .before .before .before .before .before .before .before .before .before .before .word-at .result ≡ place line 0 = c .before .before .before .before .before .before .before .before .before .before .before .before .before .before .before .before .before .word-at .ensures in
-    let p1 : c .before .before .before .before .before .before .before .before .before .before .before .before .word-after .result ≡ place line 1 = c .before .before .before .before .before .before .before .before .before .before .before .before .word-after .ensures ∙ ap (wordAfter line) p0 in
-    let p2 : c .before .before .before .before .before .before .before .before .before .word-after2 .result ≡ place line 2 = c .before .before .before .before .before .before .before .before .before .word-after2 .ensures ∙ ap (wordAfter line) p1 in
-    let p3 : c .before .before .before .before .before .before .word-after3 .result ≡ place line 3 = c .before .before .before .before .before .before .word-after3 .ensures ∙ ap (wordAfter line) p2 in
-    let p4 : c .before .before .before .word-after4 .result ≡ place line 4 = c .before .before .before .word-after4 .ensures ∙ ap (wordAfter line) p3 in
-    let w0 : c .before .before .before .before .before .before .before .before .before .before .before .before .before .before .before .before .text .result .now ≡ word line 0 = c .before .before .before .before .before .before .before .before .before .before .before .before .before .before .before .before .text .ensures ∙ ap (textOf line) p0 ∙ place-word line 0 in
-    let w1 : c .before .before .before .before .before .before .before .before .before .before .before .text2 .result .now ≡ word line 1 = c .before .before .before .before .before .before .before .before .before .before .before .text2 .ensures ∙ ap (textOf line) p1 ∙ place-word line 1 in
-    let w2 : c .before .before .before .before .before .before .before .before .text3 .result .now ≡ word line 2 = c .before .before .before .before .before .before .before .before .text3 .ensures ∙ ap (textOf line) p2 ∙ place-word line 2 in
-    let w3 : c .before .before .before .before .before .text4 .result .now ≡ word line 3 = c .before .before .before .before .before .text4 .ensures ∙ ap (textOf line) p3 ∙ place-word line 3 in
-    let w4 : c .before .before .text5 .result .now ≡ word line 4 = c .before .before .text5 .ensures ∙ ap (textOf line) p4 ∙ place-word line 4 in
-    rw (← w0, eq-eqb _ 1 (c .before .before .before .before .before .before .before .before .before .before .before .before .before .before .before .if1 .left), ← c .before .before .before .before .before .before .before .before .before .before .before .before .before .before .before .before .before .before .count .ensures, ne-eqb _ 1 (c .before .before .before .before .before .before .before .before .before .before .before .before .before .if2 .left), ne-eqb _ 2 (c .before .before .before .before .before .before .before .before .before .before .if3 .left), ne-eqb _ 3 (c .before .before .before .before .before .before .before .if4 .left), ne-eqb _ 4 (c .before .before .before .before .if5 .left), eq-eqb _ 5 (c .before .if6 .taken), ← c .before .before .before .before .before .before .before .before .before .before .before .before .before .before .octet .ensures, ← w1, ← w2, ← w3, ← w4, ← p4) (c .five-words .ensures)
+returns-6 c = c .five-words .ensures ∙ line-5 (begun (c .before .before .before .before .before .before .before .before .before .before .before .before .before .before)) (c .before .if6 .taken) (word-1 (c .before .before .before .before .before .before .before .before .before .before .before)) (word-2 (c .before .before .before .before .before .before .before .before)) (word-3 (c .before .before .before .before .before)) (word-4 (c .before .before))
 
 word-after-requires-5 : tie.Need-word-after-requires-5
 word-after-requires-5 c κs = search needs
@@ -139,22 +109,7 @@ six-words-requires : tie.Need-six-words-requires
 six-words-requires c κs = search needs
 
 returns-7 : tie.Need-returns-7
-unfolding commandOf choose place
-returns-7 c =
-    let line = c .before .before .before .before .before .before .before .before .before .before .before .before .before .before .before .before .before .before .before .before .before .before .before .args .line .now in
-    let p0 : c .before .before .before .before .before .before .before .before .before .before .before .before .before .before .before .before .before .before .before .before .word-at .result ≡ place line 0 = c .before .before .before .before .before .before .before .before .before .before .before .before .before .before .before .before .before .before .before .before .word-at .ensures in
-    let p1 : c .before .before .before .before .before .before .before .before .before .before .before .before .before .before .before .word-after .result ≡ place line 1 = c .before .before .before .before .before .before .before .before .before .before .before .before .before .before .before .word-after .ensures ∙ ap (wordAfter line) p0 in
-    let p2 : c .before .before .before .before .before .before .before .before .before .before .before .before .word-after2 .result ≡ place line 2 = c .before .before .before .before .before .before .before .before .before .before .before .before .word-after2 .ensures ∙ ap (wordAfter line) p1 in
-    let p3 : c .before .before .before .before .before .before .before .before .before .word-after3 .result ≡ place line 3 = c .before .before .before .before .before .before .before .before .before .word-after3 .ensures ∙ ap (wordAfter line) p2 in
-    let p4 : c .before .before .before .before .before .before .word-after4 .result ≡ place line 4 = c .before .before .before .before .before .before .word-after4 .ensures ∙ ap (wordAfter line) p3 in
-    let p5 : c .before .before .before .word-after5 .result ≡ place line 5 = c .before .before .before .word-after5 .ensures ∙ ap (wordAfter line) p4 in
-    let w0 : c .before .before .before .before .before .before .before .before .before .before .before .before .before .before .before .before .before .before .before .text .result .now ≡ word line 0 = c .before .before .before .before .before .before .before .before .before .before .before .before .before .before .before .before .before .before .before .text .ensures ∙ ap (textOf line) p0 ∙ place-word line 0 in
-    let w1 : c .before .before .before .before .before .before .before .before .before .before .before .before .before .before .text2 .result .now ≡ word line 1 = c .before .before .before .before .before .before .before .before .before .before .before .before .before .before .text2 .ensures ∙ ap (textOf line) p1 ∙ place-word line 1 in
-    let w2 : c .before .before .before .before .before .before .before .before .before .before .before .text3 .result .now ≡ word line 2 = c .before .before .before .before .before .before .before .before .before .before .before .text3 .ensures ∙ ap (textOf line) p2 ∙ place-word line 2 in
-    let w3 : c .before .before .before .before .before .before .before .before .text4 .result .now ≡ word line 3 = c .before .before .before .before .before .before .before .before .text4 .ensures ∙ ap (textOf line) p3 ∙ place-word line 3 in
-    let w4 : c .before .before .before .before .before .text5 .result .now ≡ word line 4 = c .before .before .before .before .before .text5 .ensures ∙ ap (textOf line) p4 ∙ place-word line 4 in
-    let w5 : c .before .before .text6 .result .now ≡ word line 5 = c .before .before .text6 .ensures ∙ ap (textOf line) p5 ∙ place-word line 5 in
-    rw (← w0, eq-eqb _ 1 (c .before .before .before .before .before .before .before .before .before .before .before .before .before .before .before .before .before .before .if1 .left), ← c .before .before .before .before .before .before .before .before .before .before .before .before .before .before .before .before .before .before .before .before .before .count .ensures, ne-eqb _ 1 (c .before .before .before .before .before .before .before .before .before .before .before .before .before .before .before .before .if2 .left), ne-eqb _ 2 (c .before .before .before .before .before .before .before .before .before .before .before .before .before .if3 .left), ne-eqb _ 3 (c .before .before .before .before .before .before .before .before .before .before .if4 .left), ne-eqb _ 4 (c .before .before .before .before .before .before .before .if5 .left), ne-eqb _ 5 (c .before .before .before .before .if6 .left), eq-eqb _ 6 (c .before .if7 .taken), ← c .before .before .before .before .before .before .before .before .before .before .before .before .before .before .before .before .before .octet .ensures, ← w1, ← w2, ← w3, ← w4, ← w5) (c .six-words .ensures)
+returns-7 c = c .six-words .ensures ∙ line-6 (begun (c .before .before .before .before .before .before .before .before .before .before .before .before .before .before .before .before .before)) (c .before .if7 .taken) (word-1 (c .before .before .before .before .before .before .before .before .before .before .before .before .before .before)) (word-2 (c .before .before .before .before .before .before .before .before .before .before .before)) (word-3 (c .before .before .before .before .before .before .before .before)) (word-4 (c .before .before .before .before .before)) (word-5 (c .before .before))
 
 word-after-requires-6 : tie.Need-word-after-requires-6
 word-after-requires-6 c κs = search needs
@@ -166,32 +121,10 @@ seven-words-requires : tie.Need-seven-words-requires
 seven-words-requires c κs = search needs
 
 returns-8 : tie.Need-returns-8
-unfolding commandOf choose place
-returns-8 c =
-    let line = c .before .before .before .before .before .before .before .before .before .before .before .before .before .before .before .before .before .before .before .before .before .before .before .before .before .before .args .line .now in
-    let p0 : c .before .before .before .before .before .before .before .before .before .before .before .before .before .before .before .before .before .before .before .before .before .before .before .word-at .result ≡ place line 0 = c .before .before .before .before .before .before .before .before .before .before .before .before .before .before .before .before .before .before .before .before .before .before .before .word-at .ensures in
-    let p1 : c .before .before .before .before .before .before .before .before .before .before .before .before .before .before .before .before .before .before .word-after .result ≡ place line 1 = c .before .before .before .before .before .before .before .before .before .before .before .before .before .before .before .before .before .before .word-after .ensures ∙ ap (wordAfter line) p0 in
-    let p2 : c .before .before .before .before .before .before .before .before .before .before .before .before .before .before .before .word-after2 .result ≡ place line 2 = c .before .before .before .before .before .before .before .before .before .before .before .before .before .before .before .word-after2 .ensures ∙ ap (wordAfter line) p1 in
-    let p3 : c .before .before .before .before .before .before .before .before .before .before .before .before .word-after3 .result ≡ place line 3 = c .before .before .before .before .before .before .before .before .before .before .before .before .word-after3 .ensures ∙ ap (wordAfter line) p2 in
-    let p4 : c .before .before .before .before .before .before .before .before .before .word-after4 .result ≡ place line 4 = c .before .before .before .before .before .before .before .before .before .word-after4 .ensures ∙ ap (wordAfter line) p3 in
-    let p5 : c .before .before .before .before .before .before .word-after5 .result ≡ place line 5 = c .before .before .before .before .before .before .word-after5 .ensures ∙ ap (wordAfter line) p4 in
-    let p6 : c .before .before .before .word-after6 .result ≡ place line 6 = c .before .before .before .word-after6 .ensures ∙ ap (wordAfter line) p5 in
-    let w0 : c .before .before .before .before .before .before .before .before .before .before .before .before .before .before .before .before .before .before .before .before .before .before .text .result .now ≡ word line 0 = c .before .before .before .before .before .before .before .before .before .before .before .before .before .before .before .before .before .before .before .before .before .before .text .ensures ∙ ap (textOf line) p0 ∙ place-word line 0 in
-    let w1 : c .before .before .before .before .before .before .before .before .before .before .before .before .before .before .before .before .before .text2 .result .now ≡ word line 1 = c .before .before .before .before .before .before .before .before .before .before .before .before .before .before .before .before .before .text2 .ensures ∙ ap (textOf line) p1 ∙ place-word line 1 in
-    let w2 : c .before .before .before .before .before .before .before .before .before .before .before .before .before .before .text3 .result .now ≡ word line 2 = c .before .before .before .before .before .before .before .before .before .before .before .before .before .before .text3 .ensures ∙ ap (textOf line) p2 ∙ place-word line 2 in
-    let w3 : c .before .before .before .before .before .before .before .before .before .before .before .text4 .result .now ≡ word line 3 = c .before .before .before .before .before .before .before .before .before .before .before .text4 .ensures ∙ ap (textOf line) p3 ∙ place-word line 3 in
-    let w4 : c .before .before .before .before .before .before .before .before .text5 .result .now ≡ word line 4 = c .before .before .before .before .before .before .before .before .text5 .ensures ∙ ap (textOf line) p4 ∙ place-word line 4 in
-    let w5 : c .before .before .before .before .before .text6 .result .now ≡ word line 5 = c .before .before .before .before .before .text6 .ensures ∙ ap (textOf line) p5 ∙ place-word line 5 in
-    let w6 : c .before .before .text7 .result .now ≡ word line 6 = c .before .before .text7 .ensures ∙ ap (textOf line) p6 ∙ place-word line 6 in
-    rw (← w0, eq-eqb _ 1 (c .before .before .before .before .before .before .before .before .before .before .before .before .before .before .before .before .before .before .before .before .before .if1 .left), ← c .before .before .before .before .before .before .before .before .before .before .before .before .before .before .before .before .before .before .before .before .before .before .before .before .count .ensures, ne-eqb _ 1 (c .before .before .before .before .before .before .before .before .before .before .before .before .before .before .before .before .before .before .before .if2 .left), ne-eqb _ 2 (c .before .before .before .before .before .before .before .before .before .before .before .before .before .before .before .before .if3 .left), ne-eqb _ 3 (c .before .before .before .before .before .before .before .before .before .before .before .before .before .if4 .left), ne-eqb _ 4 (c .before .before .before .before .before .before .before .before .before .before .if5 .left), ne-eqb _ 5 (c .before .before .before .before .before .before .before .if6 .left), ne-eqb _ 6 (c .before .before .before .before .if7 .left), eq-eqb _ 7 (c .before .if8 .taken), ← c .before .before .before .before .before .before .before .before .before .before .before .before .before .before .before .before .before .before .before .before .octet .ensures, ← w1, ← w2, ← w3, ← w4, ← w5, ← w6) (c .seven-words .ensures)
+returns-8 c = c .seven-words .ensures ∙ line-7 (begun (c .before .before .before .before .before .before .before .before .before .before .before .before .before .before .before .before .before .before .before .before)) (c .before .if8 .taken) (word-1 (c .before .before .before .before .before .before .before .before .before .before .before .before .before .before .before .before .before)) (word-2 (c .before .before .before .before .before .before .before .before .before .before .before .before .before .before)) (word-3 (c .before .before .before .before .before .before .before .before .before .before .before)) (word-4 (c .before .before .before .before .before .before .before .before)) (word-5 (c .before .before .before .before .before)) (word-6 (c .before .before))
 
 returns-9 : tie.Need-returns-9
-unfolding commandOf choose place
-returns-9 c =
-    let line = c .before .before .before .before .before .before .before .before .before .before .before .before .before .before .before .before .before .before .before .before .before .before .before .before .before .args .line .now in
-    let p0 : c .before .before .before .before .before .before .before .before .before .before .before .before .before .before .before .before .before .before .before .before .before .before .word-at .result ≡ place line 0 = c .before .before .before .before .before .before .before .before .before .before .before .before .before .before .before .before .before .before .before .before .before .before .word-at .ensures in
-    let w0 : c .before .before .before .before .before .before .before .before .before .before .before .before .before .before .before .before .before .before .before .before .before .text .result .now ≡ word line 0 = c .before .before .before .before .before .before .before .before .before .before .before .before .before .before .before .before .before .before .before .before .before .text .ensures ∙ ap (textOf line) p0 ∙ place-word line 0 in
-    rw (← w0, eq-eqb _ 1 (c .before .before .before .before .before .before .before .before .before .before .before .before .before .before .before .before .before .before .before .before .if1 .left), ← c .before .before .before .before .before .before .before .before .before .before .before .before .before .before .before .before .before .before .before .before .before .before .before .count .ensures, ne-eqb _ 1 (c .before .before .before .before .before .before .before .before .before .before .before .before .before .before .before .before .before .before .if2 .left), ne-eqb _ 2 (c .before .before .before .before .before .before .before .before .before .before .before .before .before .before .before .if3 .left), ne-eqb _ 3 (c .before .before .before .before .before .before .before .before .before .before .before .before .if4 .left), ne-eqb _ 4 (c .before .before .before .before .before .before .before .before .before .if5 .left), ne-eqb _ 5 (c .before .before .before .before .before .before .if6 .left), ne-eqb _ 6 (c .before .before .before .if7 .left), ne-eqb _ 7 (c .if8 .left))
+returns-9 c = line-longer (begun (c .before .before .before .before .before .before .before .before .before .before .before .before .before .before .before .before .before .before .before)) (c .before .before .before .before .before .before .before .before .before .before .before .before .before .before .before .before .before .before .if2 .left) (c .before .before .before .before .before .before .before .before .before .before .before .before .before .before .before .if3 .left) (c .before .before .before .before .before .before .before .before .before .before .before .before .if4 .left) (c .before .before .before .before .before .before .before .before .before .if5 .left) (c .before .before .before .before .before .before .if6 .left) (c .before .before .before .if7 .left) (c .if8 .left)
 
 pub read-command-spec : {M : Type 1} → statement M
 read-command-spec =

@@ -53,26 +53,22 @@ fn show(s: &[u8]) {
     number(c as usize);
 }
 
-// One payload on a slot's part of the room, of d + 1 places.
-fn feed(places: &mut [u8], place: usize, mtu: u16, d: usize, s: Side, payload: &[u8]) -> Side {
+// One payload on a slot's part of the room, of d + 1 places of as many octets as the MTU.
+fn feed(places: &mut [u8], mtu: u16, d: u16, s: Side, payload: &[u8]) -> Side {
     let a = s.a;
     let queued = s.queued;
+    let place = mtu as usize;
+    let beside = d as usize;
     if place < a.have as usize {
-        return s;
-    }
-    if 65535 < place {
-        return s;
-    }
-    if 4 < d {
         return s;
     }
     if 4 < queued {
         return s;
     }
-    if places.len() < (d + 1) * place {
+    if places.len() < (beside + 1) * place {
         return s;
     }
-    let step = sar_room::join_frame(places, place, mtu, 23, d, a, queued, payload);
+    let step = sar_room::join_frame(places, place, mtu, 23, beside, a, queued, payload);
     match step {
         Joined::Refused(r) => Side {
             a,
@@ -124,7 +120,7 @@ fn join_all(places: &mut [u8], mtu: u16, out: &[u8]) -> Side {
         }
         let from = at + 4;
         let to = from + n;
-        s = feed(places, mtu as usize, mtu, 1, s, &out[from..to]);
+        s = feed(places, mtu, 1, s, &out[from..to]);
         if s.answer != 0 {
             return s;
         }
@@ -191,23 +187,16 @@ fn cuts(mps: u16, from: u16, to: u16) {
 }
 
 // Cut for an MPS that no send would take, and joined all the same.
-fn small(mps: u16, l: u16, octets: usize) {
-    let mut job = [0u8; 65535];
-    let mut out = [0u8; 60];
-    let n = l as usize;
-    if 60 < octets {
-        return;
-    }
+fn small(mps: u16, l: u8, octets: u8) {
     if mps < 2 {
         return;
     }
-    if 65533 < n {
-        return;
-    }
+    let mut job = [0u8; 255];
+    let mut out = [0u8; 255];
     fill(&mut job);
-    framing::cut_job(&mut out, 0x1234, mps, &job[0..n]);
+    framing::cut_job(&mut out, 0x1234, mps, &job[0..l as usize]);
     text(b"small");
-    rejoin(l, &out[0..octets]);
+    rejoin(l as u16, &out[0..octets as usize]);
     text(b"\n");
 }
 
@@ -254,10 +243,12 @@ fn case_of(k: usize) -> Case {
     }
 }
 
-// A payload of n octets with `queued` of two places taken, in a part of three places of 8 octets, all of them marked.
-fn join(k: usize, queued: usize, n: usize) {
+// Payload i: of n octets with `queued` of two places taken, in a part of three places of 8 octets, all of them marked.
+fn join(i: usize) {
+    let queued = i / 8 % 3;
+    let n = i % 8;
     let mut places = [0xeeu8; 24];
-    let c = case_of(k);
+    let c = case_of(i / 24);
     let payload = [c.low, c.high, 97, 98, 99, 100, 101];
     let s = Side {
         a: Assembly {
@@ -267,10 +258,7 @@ fn join(k: usize, queued: usize, n: usize) {
         queued,
         answer: 0,
     };
-    if 7 < n {
-        return;
-    }
-    let r = feed(&mut places, 8, 8, 2, s, &payload[0..n]);
+    let r = feed(&mut places, 8, 2, s, &payload[0..n]);
     text(b"join");
     numbers(c.have as usize, c.want as usize, queued, n);
     show(&payload[0..n]);
@@ -283,7 +271,7 @@ fn join(k: usize, queued: usize, n: usize) {
 fn joins() {
     let mut i: usize = 0;
     while i < 192 {
-        join(i / 24, i / 8 % 3, i % 8);
+        join(i);
         i += 1;
     }
 }

@@ -15,22 +15,17 @@ returns c = search needs
 returns-2 : tie.Need-returns-2
 returns-2 c = search needs
 
+add-if3 : tie.Need-add-if3
+add-if3 c = search needs
+
+-- antt refused `mul-if3` as it was built: the module's report says why
+mul-if3 : tie.Need-mul-if3
+mul-if3 c =
+    let s = c .before .before .before .before .before .before in
+    omega (arith, mul-le-mul {n₁ = s .args .d + 1} {m₁ = s .args .mtu} {n₂ = 65536} {m₂ = 65535} (omega arith) (omega arith))
+
 returns-3 : tie.Need-returns-3
 returns-3 c = search needs
-
-returns-4 : tie.Need-returns-4
-returns-4 c = search needs
-
-add-if5 : tie.Need-add-if5
-add-if5 c = search needs
-
-mul-if5 : tie.Need-mul-if5
-mul-if5 c =
-    let x = c .before .before .before .before .before .before .before .before .args in
-    omega (arith, mul-le-mul {n₁ = x .d + 1} {m₁ = x .place} {n₂ = 5} {m₂ = 65535} (omega arith) (omega arith))
-
-returns-5 : tie.Need-returns-5
-returns-5 c = search needs
 
 join-frame-requires : tie.Need-join-frame-requires
 join-frame-requires c κs = search needs
@@ -47,8 +42,8 @@ enum-told c = search needs
 enum-told-2 : tie.Need-enum-told-2
 enum-told-2 c = search needs
 
-add-t22 : tie.Need-add-t22
-add-t22 c = search needs
+add-t23 : tie.Need-add-t23
+add-t23 c = search needs
 
 enum-known-step-2 : tie.Need-enum-known-step-2
 enum-known-step-2 c = search needs
@@ -56,27 +51,28 @@ enum-known-step-2 c = search needs
 same-length : tie.Need-same-length
 same-length c = search needs
 
-returns-6 : tie.Need-returns-6
-returns-6 c = search needs
+returns-4 : tie.Need-returns-4
+returns-4 c = search needs
 
 same-length-2 : tie.Need-same-length-2
 same-length-2 c = search needs
 
-returns-7 : tie.Need-returns-7
-returns-7 c = search needs
+returns-5 : tie.Need-returns-5
+returns-5 c = search needs
 
 same-length-3 : tie.Need-same-length-3
 same-length-3 c = search needs
 
-returns-8 : tie.Need-returns-8
-returns-8 c = search needs
+returns-6 : tie.Need-returns-6
+returns-6 c = search needs
 
 same-length-4 : tie.Need-same-length-4
 same-length-4 c = search needs
 
-returns-9 : tie.Need-returns-9
-returns-9 c = search needs
+returns-7 : tie.Need-returns-7
+returns-7 c = search needs
 
+-- antt refused `feed-spec` as it was built: the module's report says why
 pub feed-spec : {M : Type 1} → statement M
 feed-spec =
     tie.close
@@ -84,23 +80,21 @@ feed-spec =
     cast-if1
     returns
     returns-2
+    add-if3
+    mul-if3
     returns-3
-    returns-4
-    add-if5
-    mul-if5
-    returns-5
     join-frame-requires
     enum-known-step
     refusal-number-requires
     enum-told
     enum-told-2
-    add-t22
+    add-t23
     enum-known-step-2
     same-length
-    returns-6
+    returns-4
     same-length-2
-    returns-7
+    returns-5
     same-length-3
-    returns-8
+    returns-6
     same-length-4
-    returns-9)
+    returns-7)

@@ -1,1 +1,1 @@
-pub mod Others
+mod Others

@@ -23,7 +23,7 @@ module _ {A : Type 0} where
     run (suc zero) = set l at (getD xs from d)
     run (suc (suc k)) = set (run (suc k)) (at + suc k) (getD xs (from + suc k) d)
 
-    pub run-length : (k : ℕ) → length (run k) ≡ length l
+    run-length : (k : ℕ) → length (run k) ≡ length l
     run-length zero = refl
     run-length (suc zero) = length-set l at (getD xs from d)
     run-length (suc (suc k)) = length-set (run (suc k)) (at + suc k) (getD xs (from + suc k) d) ∙ run-length (suc k)

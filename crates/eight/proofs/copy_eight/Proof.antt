@@ -1,9 +1,9 @@
 -- `eight::copy_eight` meets its contract: eight stores are a run of eight.
 use native.Mathlib.Omega.{arith}
 use Prim.Native.Nat.{ℕ, _+_, _<_}
-use lib.ListN.{length}
+use lib.ListN.{length, length-set}
 use borrow.Author.Needs.{needs}
-use Rattle.eight.specs.Eight.{run, run-length, run-below, eight-stores}
+use Rattle.eight.specs.Eight.{run, run-below, eight-stores}
 use Rattle.eight.proofs.copy_eight.Statement.{statement}
 use Rattle.eight.proofs.copy_eight.Tie as tie
 
@@ -105,7 +105,7 @@ slice-write-dst-8 : tie.Need-slice-write-dst-8
 slice-write-dst-8 c = within (start c) 7 (omega arith)
 
 same-length : tie.Need-same-length
-same-length c = let s = start c in run-length 0 (s .args .dst .now) (s .args .src .now) (s .args .at) (s .args .from) 8
+same-length c = simp length-set
 
 returns : tie.Need-returns
 returns c = let s = start c in eight-stores 0 (s .args .dst .now) (s .args .src .now) (s .args .at) (s .args .from) (s .pre .1)

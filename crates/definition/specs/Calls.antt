@@ -132,11 +132,19 @@ takenFrom t (asks of s) = nobody
 takenFrom t (sendsSignal link s) = nobody
 takenFrom t (writes octets) = nobody
 
-abbrev pub handedOut : Table → Call → Holder
-handedOut t (frame link cid payload) = nobody
-handedOut t (sends s sdu out) = holder (slotAt t s)
-handedOut t (down link) = nobody
-handedOut t (plain r out job) = takenFrom t r
+-- Whose frames it writes to its output: a send alone.
+abbrev pub framesOut : Table → Call → Holder
+framesOut t (frame link cid payload) = nobody
+framesOut t (sends s sdu out) = holder (slotAt t s)
+framesOut t (down link) = nobody
+framesOut t (plain r out job) = nobody
+
+-- Whose job it writes to the job buffer: a take alone.
+abbrev pub jobOut : Table → Call → Holder
+jobOut t (frame link cid payload) = nobody
+jobOut t (sends s sdu out) = nobody
+jobOut t (down link) = nobody
+jobOut t (plain r out job) = takenFrom t r
 
 -- ---- all calls. `count` is the number of job octets, `room` the room's length, `out` and `job` those of the lent buffers.
 

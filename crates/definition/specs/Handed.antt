@@ -50,7 +50,7 @@ use Rattle.definition.specs.Closing.{incRef, decRef, disconnecting, disc
 use Rattle.definition.specs.Signals.{onReject, onDisconnectionReq, onDisconnectionRes, onParameters, onParameterResponse, onConnReq, onConnRes, onCredits, handled, checked, signalled}
 use Rattle.definition.specs.Frames.{joined, dispatch, planned, send, handing, taken, receive, laterFrames, frames, grantIn}
 use Rattle.definition.specs.Asking.{registerSpsm, attention, query, sendSignal}
-use Rattle.definition.specs.Calls.{Call, frame, sends, down, plain, Request, register, signals, pends, rejectsAll, accepts, rejects, drops, creates, opens, gives, holds, releases, leaves, leavesCid, announces, takes, attends, asks, sendsSignal, writes, bare, Holder, nobody, holder, carrier, serve, decide, takenFrom, handedOut}
+use Rattle.definition.specs.Calls.{Call, frame, sends, down, plain, Request, register, signals, pends, rejectsAll, accepts, rejects, drops, creates, opens, gives, holds, releases, leaves, leavesCid, announces, takes, attends, asks, sendsSignal, writes, bare, Holder, nobody, holder, carrier, serve, decide, takenFrom, framesOut, jobOut}
 use Rattle.definition.specs.Mem.{Fill, zeros, given, job, held}
 use Rattle.definition.specs.Forms.{Fit, pass-slot, pass-well}
 use native.Mathlib.Nat.{suc-mul, one-mul, mul-le-mul-right}
@@ -81,8 +81,8 @@ pub data OwnFills (t : Table) (c h : Holder) : List Fill → Type 0 where
   none : OwnFills t c h []
   more : {f : Fill} {fs : List Fill} → OwnFill t c h f → OwnFills t c h fs → OwnFills t c h (f ∷ fs)
 
-pub record Hands (t : Table) (c h : Holder) (o : Outcome) : Type 0 where
-  pub out : OwnFills t c h (o .out)
+pub record Hands (t : Table) (c f h : Holder) (o : Outcome) : Type 0 where
+  pub out : OwnFills t c f (o .out)
   pub tray : OwnFills t c h (o .job)
 
 -- ---- calls that write only what they worked out
@@ -274,13 +274,13 @@ module _ (t : Table) where
   quiet-fills (job from n ∷ fs) e = absurd (false≢true e)
   quiet-fills (held from n ∷ fs) e = absurd (false≢true e)
 
-  quiet-hands : {c h : Holder} {o : Outcome} → Quiet o → Hands t c h o
+  quiet-hands : {c f h : Holder} {o : Outcome} → Quiet o → Hands t c f h o
   quiet-hands {o = o} q = record { out = quiet-fills (o .out) (q .out); tray = quiet-fills (o .job) (q .tray) }
 
-  else-hands : {c h : Holder} (b : Bool) (t′ : Table) (a : Answer) {y : Outcome} → (b ≡ false → Hands t c h y) → Hands t c h (choose b (still t′ a []) y)
-  else-hands {c} {h} b t′ a f = if-cases (Hands t c h) b (λ _. record { out = none; tray = none }) f
+  else-hands : {c g h : Holder} (b : Bool) (t′ : Table) (a : Answer) {y : Outcome} → (b ≡ false → Hands t c g h y) → Hands t c g h (choose b (still t′ a []) y)
+  else-hands {c} {g} {h} b t′ a f = if-cases (Hands t c g h) b (λ _. record { out = none; tray = none }) f
 
-  pass-hands : {c h : Holder} (v : Verdict) {o : Outcome} → (v ≡ Pass → Hands t c h o) → Hands t c h (passed t v o)
+  pass-hands : {c g h : Holder} (v : Verdict) {o : Outcome} → (v ≡ Pass → Hands t c g h o) → Hands t c g h (passed t v o)
   pass-hands Pass f = f refl
   pass-hands (Stop r) f = record { out = none; tray = none }
 
@@ -295,12 +295,12 @@ module _ (t : Table) where
   unfolding frames
   frames-own cid mps l n = more worked (more (carried refl) (later-own cid mps l _ _))
 
-  planned-hands : {h : Holder} (s l : ℕ) (x : Slot) (p : Plan) → Hands t h h (planned t s x l p)
+  planned-hands : {h : Holder} (s l : ℕ) (x : Slot) (p : Plan) → Hands t h h nobody (planned t s x l p)
   unfolding planned
   planned-hands s l x (Plan.Refused r) = record { out = none; tray = none }
   planned-hands s l x (Plan.Frames n octets) = record { out = frames-own _ _ l n; tray = none }
 
-  sends-hands : {h : Holder} (s l out : ℕ) → Hands t h h (send t s l out)
+  sends-hands : {h : Holder} (s l out : ℕ) → Hands t h h nobody (send t s l out)
   unfolding send
   sends-hands s l out = pass-hands (verdict t Nothing Nothing Nothing (Is s)) λ _. else-hands _ _ _ λ _. planned-hands s l _ _
 
@@ -314,7 +314,7 @@ module _ (t : Table) where
   oldest place (suc count) (n ∷ lens) z e = leb-true n place (and-left (leb n place) _ e)
 
   handing-hands : {c : Holder} (t′ : Table) (s size : ℕ) (x : Slot) (signal : List Fill) → t′ .d ≡ t .d → t′ .m ≡ t .m → plainFills signal ≡ true
-      → s < t .n → 1 ≤ t .d → getD (x .queue .lens) 0 0 ≤ placeOf t → Hands t c (holder (slotAt t s)) (handing t′ s x size signal)
+      → s < t .n → 1 ≤ t .d → getD (x .queue .lens) 0 0 ≤ placeOf t → Hands t c nobody (holder (slotAt t s)) (handing t′ s x size signal)
   handing-hands t′ s size x signal ed em q lt one fits =
       let p : ℕ = placeOf t in
       let len : ℕ = getD (x .queue .lens) 0 0 in
@@ -323,13 +323,13 @@ module _ (t : Table) where
       record { slot = s; within = lt; whose = refl; low = omega arith; high = omega (arith, room) } in
       record { out = quiet-fills signal q; tray = rw (ed, em) (more (stored part) none) }
 
-  taken-hands : {c : Holder} (s size : ℕ) (g : Grant) → s < t .n → 1 ≤ t .d → getD (slotAt t s .queue .lens) 0 0 ≤ placeOf t → Hands t c (holder (slotAt t s)) (taken t s (slotAt t s) size g)
+  taken-hands : {c : Holder} (s size : ℕ) (g : Grant) → s < t .n → 1 ≤ t .d → getD (slotAt t s .queue .lens) 0 0 ≤ placeOf t → Hands t c nobody (holder (slotAt t s)) (taken t s (slotAt t s) size g)
   unfolding taken
   taken-hands s size Grant.Nothing lt one fits = handing-hands t s size (slotAt t s) [] refl refl refl lt one fits
   taken-hands s size (Grant.Credits n) lt one fits =
       handing-hands (spent t) s size (withAccount (granted (slotAt t s .account) n) (slotAt t s)) _ refl refl refl lt one fits
 
-  takes-hands : Fit t → {c : Holder} (room signal s size : ℕ) → Hands t c (holder (slotAt t s)) (receive t room signal s size)
+  takes-hands : Fit t → {c : Holder} (room signal s size : ℕ) → Hands t c nobody (holder (slotAt t s)) (receive t room signal s size)
   unfolding receive wellFormed slotFits
   takes-hands fit room signal s size =
       pass-hands (verdict t (Is room) (Is signal) Nothing (Is s)) λ v. else-hands _ _ _ λ _. else-hands _ _ _ λ z.
@@ -348,7 +348,7 @@ module _ (t : Table) where
 
 -- ---- all calls
 
-asked-hands : (t : Table) → Fit t → (r : Request) (room out tray : ℕ) → Hands t nobody (takenFrom t r) (serve t r room out tray)
+asked-hands : (t : Table) → Fit t → (r : Request) (room out tray : ℕ) → Hands t nobody nobody (takenFrom t r) (serve t r room out tray)
 unfolding serve
 asked-hands t fit (register spsm) room out tray = quiet-hands t (register-quiet t spsm)
 asked-hands t fit (signals link listening central pdu) room out tray = quiet-hands t (signals-quiet t room out link listening central pdu)
@@ -371,7 +371,7 @@ asked-hands t fit (asks of s) room out tray = quiet-hands t (asks-quiet t of s)
 asked-hands t fit (sendsSignal link s) room out tray = quiet-hands t (sendsSignal-quiet t out link s)
 asked-hands t fit (writes octets) room out tray = quiet-hands t (leaf refl refl)
 
-pub hands : (t : Table) → Fit t → (c : Call) (count room out tray : ℕ) → Hands t (carrier t c) (handedOut t c) (decide t (bare t c) count room out tray)
+pub hands : (t : Table) → Fit t → (c : Call) (count room out tray : ℕ) → Hands t (carrier t c) (framesOut t c) (jobOut t c) (decide t (bare t c) count room out tray)
 unfolding decide carrier bare
 hands t fit (frame link cid payload) count room out tray = quiet-hands t (frame-quiet t room link cid _ count)
 hands t fit (sends s sdu w) count room out tray = sends-hands t s count out

@@ -17,18 +17,19 @@ use Rattle.channel.specs.declared.Table.{Table}
 use Rattle.definition.specs.Table.{fresh, gap, slotAt, live, width, roomSize}
 use Rattle.definition.specs.Outcome.{Outcome}
 use Rattle.definition.specs.Asking.{Made, blank, make}
-use Rattle.definition.specs.Calls.{Window, Call, frame, sends, down, plain, jobs, bare, carrier, handedOut, decide, Holder, nobody, by, holder, isBy}
+use Rattle.definition.specs.Calls.{Window, Call, frame, sends, down, plain, jobs, bare, carrier, framesOut, jobOut, decide, Holder, nobody, by, holder, isBy}
 use Rattle.definition.specs.Numbers.{answerNumber}
 use Rattle.definition.specs.Ending.{itself}
 use Rattle.definition.specs.Run.{State, lent, outWindow, jobWindow, outcome, roomLeft, memoryLeft, after, made, run, outcomes}
 use Rattle.definition.specs.Public.{framed-bare, framed-count, sent-bare, sent-count}
 use Rattle.definition.specs.Forms.{Fit}
 use Rattle.definition.specs.Safe.{Safe, Without, safe, down-clears}
-use Rattle.definition.specs.Handed.{hands}
-use Rattle.isolation.specs.Statement.{isDown, overAfter, Exchanged, sent, framed, Alike, same, exchanged, AlikeRuns, Marks, carries, unmarked, mask, marked, marksFrom, marksOf, Isolated, Demand3}
-use Rattle.isolation.specs.Same.{Rel, nil, cons, rel-take, rel-drop, rel-map, rel-lent, rel-length, rel-parts, rel-memory}
+use Rattle.definition.specs.Mem.{Fill, fills}
+use Rattle.definition.specs.Handed.{OwnFills, none, Hands, hands}
+use Rattle.isolation.specs.Statement.{isDown, overAfter, Exchanged, sent, framed, Alike, same, exchanged, AlikeRuns, Marks, carries, unmarked, memoryMarks, signalFills, signalOf, signals, marked, marksFrom, marksOf, Isolated, Demand3}
+use Rattle.isolation.specs.Same.{Rel, nil, cons, rel-take, rel-drop, rel-map, rel-lent, rel-length, rel-parts, rel-fills, rel-memory}
 use Rattle.isolation.specs.Contained.{Off, Clean, clean-dark, length-parts, Contained, contained-step, contained-without, contained-dead, contained-clean, contained-slot}
-use Rattle.isolation.specs.Masked.{clean-stretch, memory-masked}
+use Rattle.isolation.specs.Masked.{clean-stretch, clean-nobodys, memory-masked}
 
 -- Two octets and a mark: equal unless marked.
 abbrev Agree : ℕ → ℕ → Bool → Type 0
@@ -74,10 +75,11 @@ record Common (t : Table) (c d : Call) : Type 0 where
   count : length (jobs t c) ≡ length (jobs t d)
   out : outWindow c ≡ outWindow d
   job : jobWindow c ≡ jobWindow d
+  signal : (fs : List Fill) → signalFills c fs ≡ signalFills d fs
 
 exchanged-common : {k : ℕ} {t : Table} {c d : Call} → Exchanged k t c d → Common t c d
-exchanged-common {t = t} (sent {s = s} {x = x} {y = y} {out = o} h e) = record { bare = sent-bare t s x y o; count = sent-count t s x y o e; out = refl; job = refl }
-exchanged-common {k} {t} (framed {cid = cid} {x = x} {y = y} e f) = record { bare = framed-bare t k cid x y f; count = framed-count t k cid x y e; out = refl; job = refl }
+exchanged-common {t = t} (sent {s = s} {x = x} {y = y} {out = o} h e) = record { bare = sent-bare t s x y o; count = sent-count t s x y o e; out = refl; job = refl; signal = λ _. refl }
+exchanged-common {k} {t} (framed {cid = cid} {x = x} {y = y} e f) = record { bare = framed-bare t k cid x y f; count = framed-count t k cid x y e; out = refl; job = refl; signal = λ _. refl }
 
 exchanged-carrier : {k : ℕ} {t : Table} {c d : Call} → Exchanged k t c d → carrier t c ≡ by k
 unfolding carrier
@@ -86,7 +88,7 @@ exchanged-carrier (framed e f) = refl
 
 module _ {k j over : ℕ} {t : Table} {c : Call} where
   alike-common : {d : Call} → Alike k j over t c d → Common t c d
-  alike-common same = record { bare = refl; count = refl; out = refl; job = refl }
+  alike-common same = record { bare = refl; count = refl; out = refl; job = refl; signal = λ _. refl }
   alike-common (exchanged g h) = exchanged-common h
 
   alike-jobs : {d : Call} → Alike k j over t c d → carries k j over t c ≡ false → jobs t c ≡ jobs t d
@@ -101,6 +103,13 @@ clears k t (frame link cid payload) count room out job e = absurd (false≢true 
 clears k t (sends s sdu w) count room out job e = absurd (false≢true e)
 clears k t (down link) count room out job e = rw (eqb-true k link e) (down-clears t link room)
 clears k t (plain r v w) count room out job e = absurd (false≢true e)
+
+-- a signal is nobody's
+own-signal : (t : Table) (c : Call) (o : Outcome) → Hands t (carrier t c) (framesOut t c) (jobOut t c) o → OwnFills t (carrier t c) nobody (signalFills c (o .out))
+own-signal t (frame link cid payload) o p = p .out
+own-signal t (sends s sdu w) o p = none
+own-signal t (down link) o p = p .out
+own-signal t (plain r v w) o p = p .out
 
 module _ (k j : ℕ) where
   record Kept (t : Table) (ra rb ma mb : List ℕ) (m : Marks) : Type 0 where
@@ -154,12 +163,22 @@ module _ (k j : ℕ) where
 
     -- what the call hands out is marked only where it is that link's
     handed-out : memoryLeft unmarked (map (λ _. carries k j (m .over) t c) (jobs t c)) o (outWindow c) (jobWindow c) (m .room) (m .memory)
-        ≡ memoryLeft unmarked (mask (isBy k (handedOut t c)) (map (λ _. carries k j (m .over) t c) (jobs t c))) o (outWindow c) (jobWindow c) (mask (isBy k (handedOut t c)) (m .room)) (m .memory)
+        ≡ memoryMarks o (outWindow c) (jobWindow c) (isBy k (framesOut t c)) (isBy k (jobOut t c)) (map (λ _. carries k j (m .over) t c) (jobs t c)) (m .room) (m .memory)
     handed-out =
-        memory-masked t (carrier t c) (handedOut t c) (isBy k (handedOut t c)) _ (m .room) (m .memory) o (outWindow c) (jobWindow c) (hands t (h .fit) c _ _ _ _)
-        (λ f e. clean-jobs (jobs t c) _ (ap (λ (x : Bool). eqb (m .over) j && x) (ap (isBy k) e ∙ f) ∙ and-false (eqb (m .over) j)))
-        (λ f from n p. clean-stretch k (width t) _ (live t) (m .room) (p .slot) from n (h .contained)
+        memory-masked t k (carrier t c) (framesOut t c) (jobOut t c) _ (m .room) (m .memory) o (outWindow c) (jobWindow c) (hands t (h .fit) c _ _ _ _)
+        (λ g f e. clean-jobs (jobs t c) _ (ap (λ (x : Bool). eqb (m .over) j && x) (ap (isBy k) e ∙ f) ∙ and-false (eqb (m .over) j)))
+        (λ g f from n p. clean-stretch k (width t) _ (live t) (m .room) (p .slot) from n (h .contained)
         (rw (getD-take (t .n) (t .slots) (p .slot) gap (p .within)) (ap (isBy k) (p .whose) ∙ f)) (p .low) (p .high))
+
+    signal-same : signalOf (state t ra ma) c ≡ signalOf (state t rb mb) d
+    signal-same =
+        agree-clean (rel-fills Agree itself itself unmarked (λ x _. refl) jobs-agree (h .room) (signalFills c (o .out)))
+        (clean-nobodys t (carrier t c) nobody _ (m .room)
+        (λ e. clean-jobs (jobs t c) _ (ap (λ (x : Bool). eqb (m .over) j && x) (ap (isBy k) e) ∙ and-false (eqb (m .over) j)))
+        (λ from n p. clean-stretch k (width t) _ (live t) (m .room) (p .slot) from n (h .contained)
+        (rw (getD-take (t .n) (t .slots) (p .slot) gap (p .within)) (ap (isBy k) (p .whose))) (p .low) (p .high))
+        (own-signal t c o (hands t (h .fit) c _ _ _ _)))
+        ∙ ap (λ (fs : List Fill). fills itself (jobs t d) rb fs) (alike-common e .signal (o .out) ∙ ap (λ (p : Outcome). signalFills d (p .out)) (sym agreed))
 
     kept : Kept (o .table) (after (state t ra ma) c .room) (next-b .room) (after (state t ra ma) c .memory) (next-b .memory) (marked k j (state t ra ma) m c)
     unfolding after next-b marked overAfter
@@ -184,14 +203,15 @@ module _ (k j : ℕ) where
           fit = s .fit;
         }
 
-  record Both (m : Marks) (a b : State) (x y : List Outcome) : Type 0 where
+  record Both (m : Marks) (a b : State) (x y : List Outcome) (u v : List (List ℕ)) : Type 0 where
     states : Isolated k j m a b
     called : x ≡ y
+    told : u ≡ v
 
   runs : (cs ds : List Call) (t : Table) (ra rb ma mb : List ℕ) (m : Marks) → Kept t ra rb ma mb m → AlikeRuns k j (m .over) (state t ra ma) cs ds
-      → Both (marksFrom k j (state t ra ma) m cs) (run (state t ra ma) cs) (run (state t rb mb) ds) (outcomes (state t ra ma) cs) (outcomes (state t rb mb) ds)
-  unfolding run outcomes marksFrom marked after next-b
-  runs [] [] t ra rb ma mb m h e = record { states = isolated h; called = refl }
+      → Both (marksFrom k j (state t ra ma) m cs) (run (state t ra ma) cs) (run (state t rb mb) ds) (outcomes (state t ra ma) cs) (outcomes (state t rb mb) ds) (signals (state t ra ma) cs) (signals (state t rb mb) ds)
+  unfolding run outcomes signals marksFrom marked after next-b
+  runs [] [] t ra rb ma mb m h e = record { states = isolated h; called = refl; told = refl }
   runs [] (d ∷ ds) t ra rb ma mb m h e = absurd e
   runs (c ∷ cs) [] t ra rb ma mb m h e = absurd e
   runs (c ∷ cs) (d ∷ ds) t ra rb ma mb m h e =
@@ -202,6 +222,7 @@ module _ (k j : ℕ) where
       record {
         states = subst (λ (z : State). Isolated k j (marksFrom k j a (marked k j (state t ra ma) m c) cs) (run a cs) (run z ds)) q (more .states);
         called = ap₂ (λ (x : Outcome) (xs : List Outcome). x ∷ xs) (sym (agreed t ra rb ma mb m h c d (e .0))) (more .called ∙ ap (λ (z : State). outcomes z ds) q);
+        told = ap₂ (λ (x : List ℕ) (xs : List (List ℕ)). x ∷ xs) (signal-same t ra rb ma mb m h c d (e .0)) (more .told ∙ ap (λ (z : State). signals z ds) q);
       }
 
 -- ---- from tables that were made
@@ -236,7 +257,7 @@ zeroed (x ∷ xs) (y ∷ ys) e = ap (λ (r : List ℕ). 0 ∷ r) (zeroed xs ys (
 at-end : (k j n d m : ℕ) (room₁ room₂ memory : List ℕ) → answerNumber (make n d m room₁ .answer) ≡ 0 → answerNumber (make n d m room₂ .answer) ≡ 0
     → (cs ds : List Call) → AlikeRuns k j 0 (made n d m room₁ memory) cs ds
     → Both k j (marksOf k j (made n d m room₁ memory) cs) (run (made n d m room₁ memory) cs) (run (made n d m room₂ memory) ds)
-    (outcomes (made n d m room₁ memory) cs) (outcomes (made n d m room₂ memory) ds)
+    (outcomes (made n d m room₁ memory) cs) (outcomes (made n d m room₂ memory) ds) (signals (made n d m room₁ memory) cs) (signals (made n d m room₂ memory) ds)
 at-end k j n d m room₁ room₂ memory h₁ h₂ cs ds =
     let s₁ = start n d m room₁ h₁ in
     let s₂ = start n d m room₂ h₂ in
@@ -264,5 +285,6 @@ so-far k j (suc i) over s (c ∷ cs) (d ∷ ds) e = (e .0, so-far k j i (overAft
 pub isolation : Demand3
 isolation k j n d m room₁ room₂ memory cs ds h₁ h₂ e = (
   at-end k j n d m room₁ room₂ memory h₁ h₂ cs ds e .called,
+  at-end k j n d m room₁ room₂ memory h₁ h₂ cs ds e .told,
   λ i. at-end k j n d m room₁ room₂ memory h₁ h₂ (take i cs) (take i ds) (so-far k j i 0 (made n d m room₁ memory) cs ds e) .states,
 )

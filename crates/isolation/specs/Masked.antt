@@ -15,8 +15,8 @@ use Rattle.definition.specs.Outcome.{Outcome}
 use Rattle.definition.specs.Calls.{Window, Holder, holder, isBy}
 use Rattle.definition.specs.Run.{lent, memoryLeft}
 use Rattle.definition.specs.Handed.{OwnPart, OwnFill, zeroed, worked, carried, stored, OwnFills, none, more, Hands}
-use Rattle.isolation.specs.Statement.{unmarked, mask}
-use Rattle.isolation.specs.Same.{nil, cons, rel-take, rel-drop}
+use Rattle.isolation.specs.Statement.{unmarked, mask, memoryMarks}
+use Rattle.isolation.specs.Same.{nil, cons, rel-take, rel-drop, rel-map, rel-fills}
 use Rattle.isolation.specs.Contained.{Off, Clean, Contained, contained-slot}
 
 -- ---- a stretch within a part
@@ -65,7 +65,7 @@ module _ (t : Table) (c h : Holder) (js room : List Bool) (carried-clean : c ≡
   fill-masked (stored {from = from} {n = n} p) =
       clean-masked (stored-clean from n p) ∙ sym (ap (take n) (drop-mask false from room) ∙ take-mask false n (drop from room))
 
-  fills-masked : {fs : List Fill} → OwnFills t c h fs → fills unmarked js room fs ≡ fills unmarked (mask false js) (mask false room) fs
+  pub fills-masked : {fs : List Fill} → OwnFills t c h fs → fills unmarked js room fs ≡ fills unmarked (mask false js) (mask false room) fs
   unfolding fills
   fills-masked none = refl
   fills-masked (more p ps) = ap₂ (λ (a b : List Bool). a ++ b) (fill-masked p) (fills-masked ps)
@@ -76,10 +76,25 @@ written-two v w memory a b =
     let m = sets memory (w .from) (sets (lent w memory) 0 b) in
     sets m (v .from) (sets (lent v m) 0 a)
 
-pub memory-masked : (t : Table) (c h : Holder) (own : Bool) (js room memory : List Bool) (o : Outcome) (v w : Window) → Hands t c h o
-    → (own ≡ false → c ≡ h → Clean js) → (own ≡ false → (from n : ℕ) → OwnPart t h from n → Clean (take n (drop from room)))
-    → memoryLeft unmarked js o v w room memory ≡ memoryLeft unmarked (mask own js) o v w (mask own room) memory
+clean-mask : (ms : List Bool) → Clean (mask false ms)
+clean-mask ms = rel-map Off (λ b. false) (λ b. false) (λ b. false) (λ b. refl) ms
+
+-- what is nobody's is unmarked
+pub clean-nobodys : (t : Table) (c h : Holder) (js room : List Bool) → (c ≡ h → Clean js) → ((from n : ℕ) → OwnPart t h from n → Clean (take n (drop from room)))
+    → {fs : List Fill} → OwnFills t c h fs → Clean (fills unmarked js room fs)
+clean-nobodys t c h js room cj cr {fs} p =
+    subst Clean (sym (fills-masked t c h js room cj cr p)) (rel-fills Off unmarked unmarked unmarked (λ x. refl) (clean-mask js) (clean-mask room) fs)
+
+-- the same for whatever holder
+fills-own : (t : Table) (k : ℕ) (c h : Holder) (js room : List Bool) → (isBy k h ≡ false → c ≡ h → Clean js)
+    → (isBy k h ≡ false → (from n : ℕ) → OwnPart t h from n → Clean (take n (drop from room)))
+    → {fs : List Fill} → OwnFills t c h fs → (b : Bool) → isBy k h ≡ b → fills unmarked js room fs ≡ fills unmarked (mask b js) (mask b room) fs
+fills-own t k c h js room cj cr {fs} p true e = ap₂ (λ (a b : List Bool). fills unmarked a b fs) (all-masked js) (all-masked room)
+fills-own t k c h js room cj cr p false e = fills-masked t c h js room (cj e) (cr e) p
+
+pub memory-masked : (t : Table) (k : ℕ) (c f h : Holder) (js room memory : List Bool) (o : Outcome) (v w : Window) → Hands t c f h o
+    → ((g : Holder) → isBy k g ≡ false → c ≡ g → Clean js) → ((g : Holder) → isBy k g ≡ false → (from n : ℕ) → OwnPart t g from n → Clean (take n (drop from room)))
+    → memoryLeft unmarked js o v w room memory ≡ memoryMarks o v w (isBy k f) (isBy k h) js room memory
 unfolding written
-memory-masked t c h true js room memory o v w p cj cr = ap₂ (λ (a b : List Bool). memoryLeft unmarked a o v w b memory) (all-masked js) (all-masked room)
-memory-masked t c h false js room memory o v w p cj cr =
-    ap₂ (written-two v w memory) (fills-masked t c h js room (cj refl) (cr refl) (p .out)) (fills-masked t c h js room (cj refl) (cr refl) (p .tray))
+memory-masked t k c f h js room memory o v w p cj cr =
+    ap₂ (written-two v w memory) (fills-own t k c f js room (cj f) (cr f) (p .out) (isBy k f) refl) (fills-own t k c h js room (cj h) (cr h) (p .tray) (isBy k h) refl)

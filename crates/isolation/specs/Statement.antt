@@ -9,13 +9,17 @@ use mathlib.Core.List.{List, [], _∷_, map}
 use Prim.Native.Nat.{ℕ, suc, _*_, _<_}
 use lib.Dec.{eqb}
 use lib.ListN.{length, take, drop, getD}
+use lib.Seq.{sets}
 use Rattle.lists.specs.Choose.{choose}
 use Rattle.channel.specs.declared.Table.{Table}
 use Rattle.definition.specs.Table.{slotAt, width, roomSize}
 use Rattle.definition.specs.Asking.{make}
-use Rattle.definition.specs.Calls.{Window, Call, frame, sends, down, plain, jobs, carrier, handedOut, by, holder, isBy}
+use Rattle.definition.specs.Calls.{Window, Call, frame, sends, down, plain, jobs, carrier, framesOut, jobOut, by, holder, isBy}
+use Rattle.definition.specs.Mem.{Fill, fills, written}
+use Rattle.definition.specs.Outcome.{Outcome}
+use Rattle.definition.specs.Ending.{itself}
 use Rattle.definition.specs.Numbers.{answerNumber}
-use Rattle.definition.specs.Run.{State, outWindow, jobWindow, outcome, roomLeft, memoryLeft, after, made, run, outcomes}
+use Rattle.definition.specs.Run.{State, lent, outWindow, jobWindow, outcome, roomLeft, after, made, run, outcomes}
 use Rattle.definition.specs.Public.{Assembling}
 
 -- ---- 1. One life of one link: link k, life j. Lives count from 0, and `over` is how many of them are over. "A link's life runs from
@@ -72,14 +76,19 @@ unmarked x = false
 abbrev pub mask : Bool → List Bool → List Bool
 mask own ms = map (λ b. own && b) ms
 
+-- the marks that a call leaves in memory: in the job buffer a take's (tray), in the output a send's (frames), and no other
+abbrev pub memoryMarks : Outcome → (out job : Window) → (frames tray : Bool) → (js room memory : List Bool) → List Bool
+memoryMarks o out job frames tray js room memory =
+    let m = sets memory (job .from) (written unmarked (mask tray js) (mask tray room) (o .job) (lent job memory)) in
+    sets m (out .from) (written unmarked (mask frames js) (mask frames room) (o .out) (lent out m))
+
 unfoldable pub marked : ℕ → ℕ → State → Marks → Call → Marks
 marked k j s m c =
     let js = map (λ _. carries k j (m .over) (s .table) c) (jobs (s .table) c) in
-    let own = isBy k (handedOut (s .table) c) in
     record {
       over = overAfter k (m .over) s c;
       room = roomLeft unmarked js (s .table) (outcome s c) (m .room);
-      memory = memoryLeft unmarked (mask own js) (outcome s c) (outWindow c) (jobWindow c) (mask own (m .room)) (m .memory);
+      memory = memoryMarks (outcome s c) (outWindow c) (jobWindow c) (isBy k (framesOut (s .table) c)) (isBy k (jobOut (s .table) c)) js (m .room) (m .memory);
     }
 
 unfoldable pub marksFrom : ℕ → ℕ → State → Marks → List Call → Marks
@@ -107,7 +116,22 @@ pub record Isolated (k j : ℕ) (m : Marks) (a b : State) : Type 0 where
   -- and the whole room, once that life's link-down has answered 0
   pub down : j < m .over → a .room ≡ b .room
 
--- ---- 5. The demand. Every call comes to the same: answer, table, octets of every signal and how many of them, lengths of what is copied
+-- ---- 5. The octets of the signals, call by call. What a send writes are frames, and no signal.
+
+abbrev pub signalFills : Call → List Fill → List Fill
+signalFills (frame link cid payload) fs = fs
+signalFills (sends s sdu out) fs = []
+signalFills (down link) fs = fs
+signalFills (plain r out job) fs = fs
+
+abbrev pub signalOf : State → Call → List ℕ
+signalOf s c = fills itself (jobs (s .table) c) (s .room) (signalFills c (outcome s c .out))
+
+unfoldable pub signals : State → List Call → List (List ℕ)
+signals s [] = []
+signals s (c ∷ cs) = signalOf s c ∷ signals (after s c) cs
+
+-- ---- 6. The demand. Every call comes to the same: answer, table, octets of every signal and how many of them, lengths of what is copied
 -- (an `Outcome`, crate definition, holds all that and no job octet). And `Isolated` holds after every number i of calls.
 
 abbrev pub Demand3 : Type 0
@@ -117,4 +141,5 @@ Demand3 =
     → answerNumber (make n d m room₂ .answer) ≡ 0
     → AlikeRuns k j 0 (made n d m room₁ memory) cs ds
     → (outcomes (made n d m room₁ memory) cs ≡ outcomes (made n d m room₂ memory) ds)
+    × (signals (made n d m room₁ memory) cs ≡ signals (made n d m room₂ memory) ds)
     × ((i : ℕ) → Isolated k j (marksOf k j (made n d m room₁ memory) (take i cs)) (run (made n d m room₁ memory) (take i cs)) (run (made n d m room₂ memory) (take i ds)))

@@ -11,8 +11,7 @@ use Rattle.definition.specs.Closing.{incRef, decRef, disconnect, disconnectByCi
 use Rattle.definition.specs.Ending.{End, end, endOf, servedOf}
 use Rattle.definition.specs.Opening.{create, opened, giveUp}
 use Rattle.definition.specs.Outcome.{Outcome, done}
-use Rattle.definition.specs.Pending.{nextPending, rejectAllPending, acceptPending, dropPending}
-use Rattle.rejecting.specs.Numbered.{rejectNumbered}
+use Rattle.definition.specs.Pending.{nextPending, rejectAllPending, acceptPending, rejectNumbered, dropPending}
 use Rattle.commands.specs.declared.Command.{Command}
 use Rattle.commands.specs.declared.Command.the-variants as Command
 use Rattle.commands.specs.Commands.{slotNumber}

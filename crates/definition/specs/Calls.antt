@@ -6,7 +6,7 @@ use Prim.Native.Nat.{ℕ}
 use lib.Dec.{eqb}
 use lib.ListN.{length, take, drop}
 use Rattle.lists.specs.Choose.{choose}
-use Rattle.codes.specs.declared.LeCreditConnResultCode.{LeCreditConnResultCode}
+use Rattle.codes.specs.declared.ResultRead.{ResultRead}
 use Rattle.signal.specs.declared.forms.Signal.{Signal}
 use Rattle.sar.specs.Joining.{isIdle}
 use Rattle.channel.specs.declared.ChannelState.{ChannelState}
@@ -18,7 +18,7 @@ use Rattle.channel.specs.declared.Answer.the-variants.{Done}
 use Rattle.definition.specs.Mem.{given}
 use Rattle.definition.specs.Table.{slotAt, isCid, slotOf}
 use Rattle.definition.specs.Outcome.{Outcome, still}
-use Rattle.definition.specs.Pending.{nextPending, rejectAllPending, acceptPending, rejectPending, dropPending}
+use Rattle.definition.specs.Pending.{nextPending, rejectAllPending, acceptPending, rejectRead, dropPending}
 use Rattle.definition.specs.Opening.{create, opened, giveUp}
 use Rattle.definition.specs.Closing.{incRef, decRef, disconnect, disconnectByCid, disconnected, nextDisconnect}
 use Rattle.definition.specs.Signals.{signalled}
@@ -37,7 +37,7 @@ pub data Request : Type 0 where
   pends : (link : ℕ) (up : Bool) → Request
   rejectsAll : (link : ℕ) → Request
   accepts : (slot : ℕ) → L2capChannelConfig → Request
-  rejects : (slot : ℕ) → LeCreditConnResultCode → Request
+  rejects : (slot : ℕ) → ResultRead → Request  -- a result code, or a number that is none
   drops : (slot : ℕ) → Request
   creates : (link spsm : ℕ) → L2capChannelConfig → Request
   opens : (slot link : ℕ) (up : Bool) → Request
@@ -154,7 +154,7 @@ serve t (signals link listening central pdu) room out job = signalled t room out
 serve t (pends link up) room out job = nextPending t link up
 serve t (rejectsAll link) room out job = rejectAllPending t room out link
 serve t (accepts s c) room out job = acceptPending t out s c
-serve t (rejects s result) room out job = rejectPending t room out s result
+serve t (rejects s result) room out job = rejectRead t room out s result
 serve t (drops s) room out job = dropPending t room s
 serve t (creates link spsm c) room out job = create t out link spsm c
 serve t (opens s link up) room out job = opened t room s link up

@@ -8,7 +8,8 @@ use lib.Dec.{eqb, leb}
 use borrow.Author.Tests.{leb-true, leb-false}
 use Rattle.lists.specs.Choose.{choose, if-cases}
 use Rattle.lists.specs.Both.{and-left, and-right}
-use Rattle.codes.specs.declared.LeCreditConnResultCode.{LeCreditConnResultCode}
+use Rattle.codes.specs.declared.ResultRead.{ResultRead}
+use Rattle.codes.specs.declared.ResultRead.the-variants.{Known, Unknown}
 use Rattle.credit.specs.declared.Grant.{Grant}
 use Rattle.credit.specs.declared.Grant.the-variants as Grant
 use Rattle.credit.specs.Account.{granted}
@@ -44,7 +45,7 @@ use Rattle.channel.specs.declared.Slot.{Slot}
 use Rattle.channel.specs.declared.Table.{Table}
 use Rattle.definition.specs.Table.{slotAt, live, withAccount, slotOf, gap, placeOf, width, slotFits, sizesFit, wellFormed, spent}
 use Rattle.definition.specs.Outcome.{Outcome, verdict, passed, gate, still}
-use Rattle.definition.specs.Pending.{nextPending, rejectAllPending, acceptPending, rejectPending, dropPending}
+use Rattle.definition.specs.Pending.{nextPending, rejectAllPending, acceptPending, rejectPending, notCode, rejectRead, dropPending}
 use Rattle.definition.specs.Opening.{create, opened, giveUp}
 use Rattle.definition.specs.Closing.{incRef, decRef, disconnecting, disconnect, disconnectByCid, disconnected, nextDisconnect}
 use Rattle.definition.specs.Signals.{onReject, onDisconnectionReq, onDisconnectionRes, onParameters, onParameterResponse, onConnReq, onConnRes, onCredits, handled, checked, signalled}
@@ -129,9 +130,10 @@ module _ (t : Table) where
   unfolding acceptPending
   accepts-quiet signal s c = gated t Nothing (Is signal) Nothing (Is s) (either _ (leaf refl refl) (either _ (leaf refl refl) (either _ (leaf refl refl) (either _ (leaf refl refl) (leaf refl refl)))))
 
-  rejects-quiet : (room signal s : ℕ) (result : LeCreditConnResultCode) → Quiet (rejectPending t room signal s result)
-  unfolding rejectPending
-  rejects-quiet room signal s result = gated t (Is room) (Is signal) Nothing (Is s) (either _ (leaf refl refl) (either _ (leaf refl refl) (leaf refl refl)))
+  rejects-quiet : (room signal s : ℕ) (result : ResultRead) → Quiet (rejectRead t room signal s result)
+  unfolding rejectPending notCode
+  rejects-quiet room signal s Unknown = gated t (Is room) (Is signal) Nothing (Is s) (leaf refl refl)
+  rejects-quiet room signal s (Known result) = gated t (Is room) (Is signal) Nothing (Is s) (either _ (leaf refl refl) (either _ (leaf refl refl) (leaf refl refl)))
 
   drops-quiet : (room s : ℕ) → Quiet (dropPending t room s)
   unfolding dropPending

@@ -5,7 +5,10 @@ use Prim.Native.Nat.{ℕ, _-_}
 use lib.Dec.{eqb, leb, ltb}
 use Rattle.codes.specs.declared.LeCreditConnResultCode.{LeCreditConnResultCode}
 use Rattle.codes.specs.declared.LeCreditConnResultCode.the-variants.{Success, NoResources}
-use Rattle.codes.specs.declared.Refusal.the-variants.{NotFound, InsufficientSpace, Disconnected, Held}
+use Rattle.codes.specs.Codes.{resultOf}
+use Rattle.codes.specs.declared.Refusal.the-variants.{NotFound, InsufficientSpace, Decode, Disconnected, Held}
+use Rattle.codes.specs.declared.ResultRead.{ResultRead}
+use Rattle.codes.specs.declared.ResultRead.the-variants.{Known, Unknown}
 use Rattle.credit.specs.declared.CreditFlowControl.{CreditFlowControl}
 use Rattle.credit.specs.Account.{newAccount}
 use Rattle.signal.specs.Forms.{rejectRes}
@@ -104,6 +107,19 @@ rejectPending t room signal s result =
     if not (isPeerConnecting (x .state)) then refuse t NotFound
     else if eqb (x .hold) 0 then refuse t Held
     else freeing t s (withHold (x .hold - 1) x) (Link (x .link)) (refusedResponse (identifierOf (x .state)) result))
+
+-- A reject whose result comes as a number. "Result codes: 0, 2 and 4 to 11; another number is Decode": 15, behind the first refusals and
+-- before the state, and nothing is written (READINGS F7).
+
+unfoldable pub notCode : Table → (room signal slot : ℕ) → Outcome
+notCode t room signal s = gate t (Is room) (Is signal) Nothing (Is s) (refuse t Decode)
+
+abbrev pub rejectRead : Table → (room signal slot : ℕ) → ResultRead → Outcome
+rejectRead t room signal s (Known result) = rejectPending t room signal s result
+rejectRead t room signal s Unknown = notCode t room signal s
+
+abbrev pub rejectNumbered : Table → (room signal slot number : ℕ) → Outcome
+rejectNumbered t room signal s number = rejectRead t room signal s (resultOf number)
 
 -- ---- "Dropping a pending: when Connected nothing, as S; else hold 0 → 22; else the hold falls by one, and PeerConnecting is freed."
 

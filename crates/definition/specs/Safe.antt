@@ -9,7 +9,8 @@ use lib.Dec.{eqb, leb}
 use borrow.Author.Tests.{eqb-true, eqb-false, ne-eqb, not-false}
 use Rattle.lists.specs.Choose.{choose}
 use Rattle.lists.specs.Both.{and-left}
-use Rattle.codes.specs.declared.LeCreditConnResultCode.{LeCreditConnResultCode}
+use Rattle.codes.specs.declared.ResultRead.{ResultRead}
+use Rattle.codes.specs.declared.ResultRead.the-variants.{Known, Unknown}
 use Rattle.credit.specs.declared.Grant.{Grant}
 use Rattle.credit.specs.declared.Grant.the-variants as Grant
 use Rattle.credit.specs.Account.{granted}
@@ -47,7 +48,7 @@ use Rattle.channel.specs.declared.Slot.{Slot}
 use Rattle.channel.specs.declared.Table.{Table}
 use Rattle.definition.specs.Table.{freed, slotAt, live, found, isDisconnected, isConnecting, isPeerConnecting, isConnected, isDue, ofLink, dueSlot, attemptOf, attemptBy, connectedTo, withAccount, withQueue, slotOf}
 use Rattle.definition.specs.Outcome.{Outcome, sweep, verdict, passed}
-use Rattle.definition.specs.Pending.{nextPending, rejectAllPending, acceptPending, rejectPending, dropPending}
+use Rattle.definition.specs.Pending.{nextPending, rejectAllPending, acceptPending, rejectPending, notCode, rejectRead, dropPending}
 use Rattle.definition.specs.Opening.{create, opened, giveUp}
 use Rattle.definition.specs.Closing.{incRef, decRef, disconnecting, disconnect, disconnectByCid, disconnected, nextDisconnect}
 use Rattle.definition.specs.Signals.{onReject, onDisconnectionReq, onDisconnectionRes, onParameters, onParameterResponse, onConnReq, onConnRes, onCredits, handled, checked, signalled}
@@ -110,9 +111,10 @@ module _ (t : Table) (fit : Fit t) where
       else-does on _ _ _ itself λ _. else-does on _ _ _ itself λ _. else-does on _ _ _ itself λ a. else-does on _ _ _ itself λ _.
       change-does on s itself v (kept (own isPeerConnecting refl s (not-false _ a)) refl)
 
-  rejects-safe : {l : Holder} (room signal s : ℕ) (result : LeCreditConnResultCode) → Safe t l (rejectPending t room signal s result)
-  unfolding rejectPending
-  rejects-safe room signal s result =
+  rejects-safe : {l : Holder} (room signal s : ℕ) (result : ResultRead) → Safe t l (rejectRead t room signal s result)
+  unfolding rejectPending notCode
+  rejects-safe room signal s Unknown = gate-at on (Is room) (Is signal) Nothing s λ _. still-does on itself
+  rejects-safe room signal s (Known result) =
       gate-at on (Is room) (Is signal) Nothing s λ v.
       else-does on _ _ _ itself λ _. else-does on _ _ _ itself λ _. change-does on s itself v wiped
 

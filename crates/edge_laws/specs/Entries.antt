@@ -6,8 +6,6 @@ use Prim.Native.Nat.{ℕ}
 use lib.ListN.{length}
 use Rattle.codes.specs.Codes.{resultOf}
 use Rattle.codes.specs.declared.Refusal.the-variants.{BadTable}
-use Rattle.codes.specs.declared.ResultRead.{ResultRead}
-use Rattle.codes.specs.declared.ResultRead.the-variants.{Known, Unknown}
 use Rattle.channel.specs.declared.Table.{Table}
 use Rattle.definition.specs.Mem.{sizes}
 use Rattle.definition.specs.Outcome.{Outcome, refuse}
@@ -15,13 +13,12 @@ use Rattle.definition.specs.Asking.{noSlots, registerSpsm, attention, spsm, mtu
 use Rattle.definition.specs.Closing.{incRef, decRef, disconnect, disconnectByCid, disconnected, nextDisconnect}
 use Rattle.definition.specs.Frames.{send, receive}
 use Rattle.definition.specs.Opening.{create, opened, giveUp}
-use Rattle.definition.specs.Pending.{nextPending, rejectAllPending, acceptPending, dropPending}
+use Rattle.definition.specs.Pending.{nextPending, rejectAllPending, acceptPending, rejectNumbered, dropPending}
 use Rattle.definition.specs.Signals.{signalled}
 use Rattle.definition.specs.Calls.{Call, frame, sends, down, Request, register, signals, pends, rejectsAll, accepts, rejects, drops, creates, opens, gives, holds, releases, leaves, leavesCid, announces, takes, attends, asks, sendsSignal, jobs, serve, decide}
 use Rattle.definition.specs.Ending.{servedOf, endOf}
 use Rattle.admitting.specs.Admitted.{headOf}
 use Rattle.dispatching.specs.Framed.{frameIn}
-use Rattle.rejecting.specs.Numbered.{notCode, rejectRead, rejectNumbered}
 use Rattle.layout.specs.Layout.{read}
 use Rattle.edge.specs.Edge.{onTable, alone, flag, configOf}
 use Rattle.edge_asking.specs.Asking.{registerSpsmEdge, spsmEdge, mtuEdge, mpsEdge, peerMtuEdge, peerMpsEdge, attentionEdge, sendConnParamUpdateReqEdge, sendConnParamUpdateResEdge}
@@ -45,12 +42,6 @@ on-none-alone o a call none refused = on-none o a [] [] [] (λ t. alone (servedO
 on-none-lent : (o a room out job : List ℕ) (js : Table → List ℕ) (call : Table → Outcome) → read o .ok ≡ false → call noSlots ≡ refuse noSlots BadTable
     → onTable o a (λ t. endOf t (js t) room out job (call t)) ≡ leftAlone o a room out job
 on-none-lent o a room out job js call none refused = on-none o a room out job (λ t. endOf t (js t) room out job (call t)) none (none-ends (js noSlots) room out job (call noSlots) refused)
-
--- a result that is a code, or none
-none-rejects : (room signal slot : ℕ) (r : ResultRead) → rejectRead noSlots room signal slot r ≡ refuse noSlots BadTable
-unfolding serve notCode
-none-rejects room signal slot (Known result) = none-serves (rejects slot result) refl room signal 0
-none-rejects room signal slot Unknown = shut noSlots _ _ _ _ _ no-slots
 
 -- ---- the questions and the senders
 
@@ -101,7 +92,8 @@ unfolding serve
 accept-pending-on-none o a signal slot mtu mps kind value credits none = on-none-lent o a [] signal [] (λ t. []) (λ t. acceptPending t (length signal) slot (configOf mtu mps kind value credits)) none (none-serves (accepts slot _) refl 0 (length signal) 0)
 
 pub reject-pending-on-none : (o a room signal : List ℕ) (slot result : ℕ) → read o .ok ≡ false → rejectPendingEdge o a room signal slot result ≡ leftAlone o a room signal []
-reject-pending-on-none o a room signal slot result none = on-none-lent o a room signal [] (λ t. []) (λ t. rejectNumbered t (length room) (length signal) slot result) none (none-rejects (length room) (length signal) slot (resultOf result))
+unfolding serve
+reject-pending-on-none o a room signal slot result none = on-none-lent o a room signal [] (λ t. []) (λ t. rejectNumbered t (length room) (length signal) slot result) none (none-serves (rejects slot (resultOf result)) refl (length room) (length signal) 0)
 
 pub reject-all-pending-on-none : (o a room signal : List ℕ) (link : ℕ) → read o .ok ≡ false → rejectAllPendingEdge o a room signal link ≡ leftAlone o a room signal []
 unfolding serve

@@ -9,6 +9,7 @@ use lib.ListN.{length, replicate}
 use lib.Seq.{sets}
 use Rattle.lists.specs.Choose.{choose, choose-true}
 use Rattle.codes.specs.declared.Refusal.the-variants.{BadTable}
+use Rattle.codes.specs.declared.ResultRead.the-variants.{Known, Unknown}
 use Rattle.channel.specs.declared.Answer.the-variants.{Refused}
 use Rattle.channel.specs.declared.Given.{Given}
 use Rattle.channel.specs.declared.Verdict.{Verdict}
@@ -20,7 +21,7 @@ use Rattle.definition.specs.Asking.{noSlots, registerSpsm, attention, query, se
 use Rattle.definition.specs.Closing.{incRef, decRef, disconnect, disconnectByCid, disconnected, nextDisconnect}
 use Rattle.definition.specs.Frames.{dispatch, send, receive}
 use Rattle.definition.specs.Opening.{create, opened, giveUp}
-use Rattle.definition.specs.Pending.{nextPending, rejectAllPending, acceptPending, rejectPending, dropPending}
+use Rattle.definition.specs.Pending.{nextPending, rejectAllPending, acceptPending, rejectPending, notCode, dropPending}
 use Rattle.definition.specs.Signals.{signalled}
 use Rattle.definition.specs.Calls.{Call, frame, sends, down, plain, Request, register, signals, pends, rejectsAll, accepts, rejects, drops, creates, opens, gives, holds, releases, leaves, leavesCid, announces, takes, attends, asks, sendsSignal, writes, jobs, serve, decide}
 use Rattle.definition.specs.Ending.{End, end, gave, endOf, end-still}
@@ -72,13 +73,14 @@ isCall (plain r out job) = isRequest r
 
 module _ (t : Table) (bad : wellFormed t ≡ false) where
   pub serve-refuses : (r : Request) → isRequest r ≡ true → (room out job : ℕ) → serve t r room out job ≡ refuse t BadTable
-  unfolding serve registerSpsm signalled nextPending rejectAllPending acceptPending rejectPending dropPending create opened giveUp incRef decRef disconnect disconnectByCid nextDisconnect receive attention query sendSignal
+  unfolding serve registerSpsm signalled nextPending rejectAllPending acceptPending rejectPending notCode dropPending create opened giveUp incRef decRef disconnect disconnectByCid nextDisconnect receive attention query sendSignal
   serve-refuses (register spsm) is room out job = shut t _ _ _ _ _ bad
   serve-refuses (signals link listening central pdu) is room out job = shut t _ _ _ _ _ bad
   serve-refuses (pends link up) is room out job = shut t _ _ _ _ _ bad
   serve-refuses (rejectsAll link) is room out job = shut t _ _ _ _ _ bad
   serve-refuses (accepts s c) is room out job = shut t _ _ _ _ _ bad
-  serve-refuses (rejects s result) is room out job = shut t _ _ _ _ _ bad
+  serve-refuses (rejects s (Known result)) is room out job = shut t _ _ _ _ _ bad
+  serve-refuses (rejects s Unknown) is room out job = shut t _ _ _ _ _ bad
   serve-refuses (drops s) is room out job = shut t _ _ _ _ _ bad
   serve-refuses (creates link spsm c) is room out job = shut t _ _ _ _ _ bad
   serve-refuses (opens s link up) is room out job = shut t _ _ _ _ _ bad

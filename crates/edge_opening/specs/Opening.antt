@@ -4,8 +4,7 @@ use Prim.Native.Nat.{ℕ}
 use lib.ListN.{length}
 use Rattle.definition.specs.Ending.{servedOf, endOf}
 use Rattle.definition.specs.Opening.{create, opened, giveUp}
-use Rattle.definition.specs.Pending.{nextPending, rejectAllPending, acceptPending, dropPending}
-use Rattle.rejecting.specs.Numbered.{rejectNumbered}
+use Rattle.definition.specs.Pending.{nextPending, rejectAllPending, acceptPending, rejectNumbered, dropPending}
 use Rattle.edge.specs.Edge.{Edge, onTable, alone, flag, configOf}
 
 -- The lowest pending of a link; up: is the link up?

@@ -1,10 +1,10 @@
-// The rejection of a pending whose result comes as a number, for callers that have numbers only. Defined in specs/Numbered.antt; it rests on
+// The rejection of a pending whose result comes as a number, for callers that have numbers only. Defined in Pending.antt of `definition`; it rests on
 // `refusing::reject_pending`.
 ghost use mathlib.Core.Path.{_≡_};
 ghost use mathlib.Core.List.{[]};
 ghost use lib.ListN.{length};
 ghost use Rattle.definition.specs.Ending.{end, endOf};
-ghost use Rattle.rejecting.specs.Numbered.{notCode, rejectNumbered};
+ghost use Rattle.definition.specs.Pending.{notCode, rejectNumbered};
 use channel::ChannelIndex;
 use channel::Given;
 use channel::Served;

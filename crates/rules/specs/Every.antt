@@ -9,7 +9,8 @@ use lib.ListN.{length, take, drop, length-take, length-drop}
 use borrow.Author.Tests.{ltb-true, ltb-false, leb-false, eqb-true, eqb-false, not-true, not-false, eq-eqb, ne-eqb}
 use Rattle.lists.specs.Choose.{choose, choose-true, choose-false, if-cases}
 use Rattle.octets.specs.Octets.{u16At}
-use Rattle.codes.specs.declared.LeCreditConnResultCode.{LeCreditConnResultCode}
+use Rattle.codes.specs.declared.ResultRead.{ResultRead}
+use Rattle.codes.specs.declared.ResultRead.the-variants.{Known, Unknown}
 use Rattle.credit.specs.declared.Grant.{Grant}
 use Rattle.credit.specs.declared.Grant.the-variants as Grant
 use Rattle.credit.specs.Account.{grantOf}
@@ -43,7 +44,7 @@ use Rattle.channel.specs.declared.Table.{Table}
 use Rattle.definition.specs.Mem.{Fill}
 use Rattle.definition.specs.Table.{placeOf, slotAt, found, isFree, isDisconnected, isConnecting, isConnected, identifierOf, dueSlot, ofLink, attemptOf, attemptBy, connectedTo, cidOf, isCid, slotOf, roomSize, wellFormed}
 use Rattle.definition.specs.Outcome.{Outcome, still}
-use Rattle.definition.specs.Pending.{nextPending, rejectAllPending, acceptPending, rejectPending, dropPending, mtuOf, mpsOf, creditsOf, settled}
+use Rattle.definition.specs.Pending.{nextPending, rejectAllPending, acceptPending, rejectPending, notCode, rejectRead, dropPending, mtuOf, mpsOf, creditsOf, settled}
 use Rattle.definition.specs.Opening.{create, opened, giveUp}
 use Rattle.definition.specs.Closing.{incRef, decRef, disconnecting, disconnect, disconnectByCid, disconnected, nextDisconnect}
 use Rattle.definition.specs.Signals.{signalled, checked, handled, onReject, onDisconnectionReq, onDisconnectionRes, onParameters, onParameterResponse, onConnReq, onConnRes, onCredits}
@@ -136,9 +137,10 @@ module _ (t : Table) (k room : ℕ) (l : t .n ≤ length (t .slots)) (well : wel
         queue = refl;
       })) _ _ refl)))))
 
-  reject-pending : (signal s : ℕ) (result : LeCreditConnResultCode) → Stepped t k (rejectPending t room signal s result)
-  unfolding rejectPending
-  reject-pending signal s result =
+  reject-pending : (signal s : ℕ) (result : ResultRead) → Stepped t k (rejectRead t room signal s result)
+  unfolding rejectPending notCode
+  reject-pending signal s Unknown = stepped-gate t k _ _ _ _ well sized (λ _. stays refl)
+  reject-pending signal s (Known result) =
       stepped-gate t k _ _ _ _ well sized (λ h. if-cases P _ (λ _. stays refl) (λ _. if-cases P _ (λ _. stays refl) (λ _. stepped-change t k s _ _ h l (free _) _ _ refl)))
 
   drop-pending : (s : ℕ) → Stepped t k (dropPending t room s)

@@ -2,7 +2,7 @@
 use mathlib.Core.Path.{sym}
 use Rattle.definition.specs.Ending.{end-still}
 use Rattle.definition.specs.Mem.{sizes}
-use Rattle.rejecting.specs.Numbered.{notCode}
+use Rattle.definition.specs.Pending.{notCode}
 use borrow.Author.Needs.{needs}
 use Rattle.rejecting.proofs.not_code.Statement.{statement}
 use Rattle.rejecting.proofs.not_code.Tie as tie

@@ -1,2 +1,0 @@
--- A reject whose result comes as a number.
-pub mod Numbered

@@ -42,6 +42,20 @@ endOf t jobs room out job o =
       job = written itself jobs room (o .job) job;
     }
 
+-- ---- "that two results meeting it coincide is proved": what ends as one contract says is the same, answer, table and every lent memory
+
+pub record Coincide (r₁ r₂ : Served) (room₁ room₂ out₁ out₂ job₁ job₂ : List ℕ) : Type 0 where
+  pub served : r₁ ≡ r₂
+  pub room : room₁ ≡ room₂
+  pub out : out₁ ≡ out₂
+  pub job : job₁ ≡ job₂
+
+pub coincide : {e : End} {r₁ r₂ : Served} {room₁ room₂ out₁ out₂ job₁ job₂ : List ℕ} → end r₁ room₁ out₁ job₁ ≡ e → end r₂ room₂ out₂ job₂ ≡ e
+    → Coincide r₁ r₂ room₁ room₂ out₁ out₂ job₁ job₂
+coincide p q =
+    let h = p ∙ sym q in
+    record { served = ap (λ (x : End). x .served) h; room = ap (λ (x : End). x .room) h; out = ap (λ (x : End). x .out) h; job = ap (λ (x : End). x .job) h }
+
 -- ---- what the forms come to
 
 abbrev pub gave : Answer → Table → ℕ → Served

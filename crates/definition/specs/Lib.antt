@@ -16,4 +16,6 @@ pub mod Forms
 pub mod Safe
 pub mod Apart
 pub mod Handed
+pub mod Roomless
+pub mod Lift
 pub mod Example

@@ -1,8 +1,9 @@
 -- What an answer tells in the columns of its row (docs/CHANRUN.md: "ANSWER OCTETS and the columns listed").
-use mathlib.Core.Path.{_≡_}
-use mathlib.Core.List.{List, [], _∷_}
-use Prim.Native.Nat.{ℕ, _≤_, min}
-use lib.ListN.{length, take}
+use mathlib.Core.Path.{_≡_, sym, ap, ap₂, _∙_}
+use mathlib.Core.List.{List, [], _∷_, _++_}
+use Prim.Native.Nat.{ℕ, _-_, _≤_, min}
+use native.Mathlib.Omega.{arith}
+use lib.ListN.{length, take, drop, replicate, length-take, take-append-drop}
 use Rattle.codes.specs.Codes.{resultNumber}
 use Rattle.codes.specs.declared.Refusal.{Refusal}
 use Rattle.codes.specs.declared.Refusal.the-variants as Refusal
@@ -50,8 +51,18 @@ told (Answer.Attention set count lowest) = set ∷ count ∷ lowest ∷ []
 told (Answer.Number n) = n ∷ []
 told (Answer.Event least most latency timeout) = least ∷ most ∷ latency ∷ timeout ∷ []
 
--- numbers of columns, at most four
+-- numbers of columns, at most four, and zeros behind them
 pub record Tells (count : ℕ) (numbers : List ℕ) (l : List ℕ) : Type 0 where
   pub few : count ≤ 4
   pub long : length numbers ≡ 4
   pub are : take count numbers ≡ l
+  pub rest : drop count numbers ≡ replicate (4 - count) 0
+
+-- So two results that tell the same coincide.
+same-count : {count : ℕ} {numbers l : List ℕ} → Tells count numbers l → count ≡ length l
+same-count {count} {numbers} w = omega (arith, w .few, w .long, length-take count numbers, ap length (w .are))
+
+pub tells-coincide : {c₁ c₂ : ℕ} {n₁ n₂ l : List ℕ} → Tells c₁ n₁ l → Tells c₂ n₂ l → (c₁ ≡ c₂) × (n₁ ≡ n₂)
+tells-coincide {c₁} {c₂} {n₁} {n₂} v w =
+    let e : c₁ ≡ c₂ = same-count v ∙ sym (same-count w) in
+    (e, sym (take-append-drop c₁ n₁) ∙ ap₂ (λ (a b : List ℕ). a ++ b) (v .are ∙ sym (w .are)) (v .rest ∙ ap (λ (k : ℕ). replicate (4 - k) 0) e ∙ sym (w .rest)) ∙ take-append-drop c₂ n₂)

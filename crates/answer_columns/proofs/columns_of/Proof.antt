@@ -75,7 +75,7 @@ returns-2 c = rw (c .before .before .a .given .1) (c .refusal-columns .ensures)
 
 returns-3 : tie.Need-returns-3
 unfolding told
-returns-3 c = record { few = search needs; long = refl; are = rw (c .before .before .a2 .given .1) }
+returns-3 c = record { few = search needs; long = refl; rest = refl; are = rw (c .before .before .a2 .given .1) }
 
 returns-4 : tie.Need-returns-4
 unfolding told
@@ -83,31 +83,31 @@ returns-4 c = rw (c .before .enum-told2 .given .1) (c .nothing2 .ensures)
 
 returns-5 : tie.Need-returns-5
 unfolding told
-returns-5 c = record { few = search needs; long = refl; are = rw (c .enum-told3 .given .1) }
+returns-5 c = record { few = search needs; long = refl; rest = refl; are = rw (c .enum-told3 .given .1) }
 
 returns-6 : tie.Need-returns-6
 unfolding told
-returns-6 c = record { few = search needs; long = refl; are = rw (c .before .before .a3 .given .1) }
+returns-6 c = record { few = search needs; long = refl; rest = refl; are = rw (c .before .before .a3 .given .1) }
 
 returns-7 : tie.Need-returns-7
 unfolding told
-returns-7 c = record { few = search needs; long = refl; are = rw (c .before .before .a4 .given .1, c .shown .ensures) }
+returns-7 c = record { few = search needs; long = refl; rest = refl; are = rw (c .before .before .a4 .given .1, c .shown .ensures) }
 
 returns-8 : tie.Need-returns-8
 unfolding told
-returns-8 c = record { few = search needs; long = refl; are = rw (c .before .before .a5 .given .1, c .shown2 .ensures) }
+returns-8 c = record { few = search needs; long = refl; rest = refl; are = rw (c .before .before .a5 .given .1, c .shown2 .ensures) }
 
 returns-9 : tie.Need-returns-9
 unfolding told
-returns-9 c = record { few = search needs; long = refl; are = rw (c .before .a6 .given .1) }
+returns-9 c = record { few = search needs; long = refl; rest = refl; are = rw (c .before .a6 .given .1) }
 
 returns-10 : tie.Need-returns-10
 unfolding told
-returns-10 c = record { few = search needs; long = refl; are = rw (c .before .a7 .given .1) }
+returns-10 c = record { few = search needs; long = refl; rest = refl; are = rw (c .before .a7 .given .1) }
 
 returns-11 : tie.Need-returns-11
 unfolding told
-returns-11 c = record { few = search needs; long = refl; are = rw (c .before .a8 .given .1) }
+returns-11 c = record { few = search needs; long = refl; rest = refl; are = rw (c .before .a8 .given .1) }
 
 pub columns-of-spec : {M : Type 1} → statement M
 columns-of-spec =

@@ -209,7 +209,7 @@ returns-16 c = rw (c .before .enum-told16 .given .1) (c .nothing16 .ensures)
 
 returns-17 : tie.Need-returns-17
 unfolding toldOf
-returns-17 c = record { few = search needs; long = refl; are = rw (c .before .before .r .given .1, c .result-number .ensures) }
+returns-17 c = record { few = search needs; long = refl; rest = refl; are = rw (c .before .before .r .given .1, c .result-number .ensures) }
 
 returns-18 : tie.Need-returns-18
 unfolding toldOf

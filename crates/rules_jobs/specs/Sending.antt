@@ -90,14 +90,16 @@ module _ (sdu room : List ℕ) (cid m : ℕ) (wide : 2 ≤ m) where
 
 -- ---- a send that is answered 0
 
--- It writes the n frames of the SDU for the peer's MPS. x is the slot that is sent on, o what the call comes to.
-pub record Sends (x : Slot) (sdu room : List ℕ) (n : ℕ) (o : Outcome) : Type 0 where
+-- It writes the n frames of the SDU for the peer's MPS, and they fit. x is the slot that is sent on, o what the call comes to, `size` how many
+-- octets its output has.
+pub record Sends (x : Slot) (sdu room : List ℕ) (size n : ℕ) (o : Outcome) : Type 0 where
   pub octets : fills (λ x. x) sdu room (o .out) ≡ framesOf (x .peer .cid) (x .peer .mps) sdu
   pub count : length (payloads (x .peer .mps) sdu) ≡ n
   pub wide : 2 ≤ x .peer .mps
+  pub fits : length (framesOf (x .peer .cid) (x .peer .mps) sdu) ≤ size
 
 pub sends-frames : (s : State) (j : ℕ) (sdu : List ℕ) (w : Window) (link n : ℕ) → outcome s (sends j sdu w) .answer ≡ Frames link n
-    → Sends (slotAt (s .table) j) sdu (s .room) n (outcome s (sends j sdu w))
+    → Sends (slotAt (s .table) j) sdu (s .room) (sized w s) n (outcome s (sends j sdu w))
 unfolding decide bare jobs send
 sends-frames s j sdu w link n =
     gate-cases P (s .table) _ _ _ _ (λ r. never)
@@ -110,10 +112,11 @@ sends-frames s j sdu w link n =
       octets = ap (fills (λ x. x) sdu (s .room)) (z .out) ∙ frames-written sdu (s .room) (x .peer .cid) (x .peer .mps) wide n (z .count);
       count = cut (x .peer .mps) (x .peer .cid) sdu (omega arith) .count ∙ sym (z .count);
       wide = wide;
+      fits = rw (cut (x .peer .mps) (x .peer .cid) sdu (omega arith) .octets) (z .holds);
     }))
   where
     P : Outcome → Type 0
-    P o = o .answer ≡ Frames link n → Sends (slotAt (s .table) j) sdu (s .room) n o
+    P o = o .answer ≡ Frames link n → Sends (slotAt (s .table) j) sdu (s .room) (sized w s) n o
 
     never : {r : Refusal} → P (refuse (s .table) r)
     never e = let z : _≡_ {A = ℕ} 0 1 = cc in absurd (omega arith)

@@ -8,9 +8,9 @@ use Rattle.channel.specs.declared.Served.{Served}
 use Rattle.definition.specs.Asking.{make}
 use Rattle.definition.specs.Calls.{Call}
 use Rattle.definition.specs.Ending.{End, end, servedOf}
-use Rattle.definition.specs.Run.{State, made, run, outcomes}
+use Rattle.definition.specs.Run.{State, after, made, run, outcomes}
 use Rattle.making.specs.Made.{endMade}
-use Rattle.rules_code.specs.Called.{Called, called-after, called-served}
+use Rattle.rules_code.specs.Called.{Lends, Called, called-after, called-served, meets}
 
 -- ---- the making: the table that `make` gave back, the room that it left, and a memory of the caller's
 
@@ -52,3 +52,14 @@ pub code-first : {s s′ : State} {cs : List Call} {rs : List Served} (i : ℕ) 
 code-first {s} zero q = record { reached = s; calls = none }
 code-first {s} (suc i) none = record { reached = s; calls = none }
 code-first (suc i) (call p q) = let z = code-first i q in record { reached = z .reached; calls = call p (z .calls) }
+
+-- ---- and every run whose calls are lent what safe code can lend is one: what the definition has meets every contract
+
+abbrev pub AllLend : State → List Call → Type 0
+AllLend s [] = Unit {0}
+AllLend s (c ∷ cs) = Lends s c × AllLend (after s c) cs
+
+pub code-meets : (s : State) (cs : List Call) → AllLend s cs → CodeRun s cs (map servedOf (outcomes s cs)) (run s cs)
+unfolding run outcomes
+code-meets s [] l = none
+code-meets s (c ∷ cs) l = call (meets s c (l .0)) (code-meets (after s c) cs (l .1))

@@ -15,7 +15,7 @@ use Rattle.sar.specs.declared.Joined.the-variants as Joined
 use Rattle.sar.specs.Joining.{idle, assembled, reached, firstStep, joinStep}
 use Rattle.cutting.specs.declared.Plan.{Plan}
 use Rattle.cutting.specs.declared.Plan.the-variants as Plan
-use Rattle.cutting.specs.Cutting.{frameCount, leastMps, planSend}
+use Rattle.cutting.specs.Cutting.{frameCount, framesLength, leastMps, planSend}
 use Rattle.cutting.specs.CutLaws.{plan-allowed}
 use Rattle.channel.specs.declared.Answer.the-variants.{Done, Refused, Frames}
 use Rattle.channel.specs.declared.Slot.{Slot}
@@ -141,19 +141,21 @@ module _ (t : Table) (s : ℕ) (x : Slot) (k d q have want : ℕ) (j : Joined) (
 
 -- ---- what a send that is not refused comes to
 
-pub record Sent (t : Table) (s : ℕ) (x : Slot) (l n : ℕ) (o : Outcome) : Type 0 where
+-- (`size`: of the frame output)
+pub record Sent (t : Table) (s : ℕ) (x : Slot) (l size n : ℕ) (o : Outcome) : Type 0 where
   pub wide : leastMps ≤ x .peer .mps
+  pub holds : framesLength l (x .peer .mps) ≤ size
   pub count : n ≡ frameCount l (x .peer .mps)
   pub out : o .out ≡ frames (x .peer .cid) (x .peer .mps) l n
 
 pub planned-frames : (t : Table) (s : ℕ) (x : Slot) (l out link n : ℕ) → planned t s x l (planSend l (x .peer .mtu) (x .peer .mps) (x .peer .credits) out) .answer ≡ Frames link n
-    → Sent t s x l n (planned t s x l (planSend l (x .peer .mtu) (x .peer .mps) (x .peer .credits) out))
+    → Sent t s x l out n (planned t s x l (planSend l (x .peer .mtu) (x .peer .mps) (x .peer .credits) out))
 unfolding planned
 planned-frames t s x l out link n = by (planSend l (x .peer .mtu) (x .peer .mps) (x .peer .credits) out) refl
   where
-    by : (p : Plan) → planSend l (x .peer .mtu) (x .peer .mps) (x .peer .credits) out ≡ p → planned t s x l p .answer ≡ Frames link n → Sent t s x l n (planned t s x l p)
+    by : (p : Plan) → planSend l (x .peer .mtu) (x .peer .mps) (x .peer .credits) out ≡ p → planned t s x l p .answer ≡ Frames link n → Sent t s x l out n (planned t s x l p)
     by (Plan.Refused r) e f = let z : _≡_ {A = ℕ} 0 1 = cc in absurd (omega arith)
     by (Plan.Frames k octets) e f =
         let a = plan-allowed l (x .peer .mtu) (x .peer .mps) (x .peer .credits) out k octets e in
         let q : k ≡ n = cc in
-        record { wide = a .wide; count = sym q ∙ a .frames; out = ap (λ (m : ℕ). frames (x .peer .cid) (x .peer .mps) l m) q }
+        record { wide = a .wide; holds = a .holds; count = sym q ∙ a .frames; out = ap (λ (m : ℕ). frames (x .peer .cid) (x .peer .mps) l m) q }

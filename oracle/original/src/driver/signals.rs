@@ -35,7 +35,7 @@ impl<const M: usize> Driver<'_, M> {
         let (mut rows, mut between) = (Vec::<Row>::new(), Vec::new());
         for part in &parts {
             if !rows.is_empty() {
-                between.push(self.view());
+                between.push(self.sight());
             }
             if rows.last().is_some_and(|row| row.answer == Answer::Panic) {
                 rows.push(Row::new(Answer::Panic));

@@ -1,0 +1,45 @@
+//! Compares the entries of `libentries.a`, called in this process, with the original: every answer and buffer, and the whole table and room
+//! after every call. See oracle/README.md.
+
+mod archive;
+mod faults;
+mod layout;
+mod lent;
+mod memory;
+mod port;
+mod row;
+
+use faults::FAULTS;
+use oracle::commands::{compare, faults, twin, Words, OPTIONS};
+use oracle::play::quiet;
+use oracle::run::Extent;
+use port::Entries;
+use std::process::ExitCode;
+
+const USAGE: &str = "usage:
+  entries run [options]     the entries against the original
+  entries faults [options]  each fault planted at the entries has to be found
+  entries twin [options]    demand 3: the entries against themselves, with other job octets in one life of one link";
+
+fn main() -> ExitCode {
+    let mut given = std::env::args();
+    given.next();
+    let what = given.next().unwrap_or_default();
+    // Table and room are looked at after every call anyway: a script needs few views. In demand 3 it is the rows that show them.
+    let view_every = if what == "twin" { 1 } else { 1_000 };
+    let extent = Extent { view_every, batch: 20, ..Extent::default() };
+    let Some(words) = Words::read(given, extent) else {
+        eprintln!("{USAGE}\n{OPTIONS}");
+        return ExitCode::from(2);
+    };
+    quiet();
+    match what.as_str() {
+        "run" => compare(&mut Entries::new(None), &words.extent),
+        "faults" => faults(FAULTS.iter().map(|fault| (fault.title, Entries::new(Some(fault)))), &words.extent),
+        "twin" => twin(&mut Entries::new(None), &words.extent),
+        _ => {
+            eprintln!("{USAGE}\n{OPTIONS}");
+            ExitCode::from(2)
+        }
+    }
+}

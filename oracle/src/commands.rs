@@ -97,11 +97,15 @@ pub fn compare(port: &mut dyn Port, extent: &Extent) -> ExitCode {
     }
 }
 
-/// Ports with a planted fault each: every one has to be found.
-pub fn faults<P: Port>(ports: impl Iterator<Item = (&'static str, P)>, extent: &Extent) -> ExitCode {
+/// Ports with a planted fault each: every one has to be found, and none in the port without a fault.
+pub fn faults<P: Port>(mut plain: P, faulty: impl Iterator<Item = (&'static str, P)>, extent: &Extent) -> ExitCode {
     println!("seed {}", extent.seed);
+    if !run(&mut plain, extent, 1, |_| {}).is_ok_and(|found| found.clean()) {
+        println!("the port differs without a planted fault");
+        return ExitCode::FAILURE;
+    }
     let (mut hits, mut missed) = (0, 0);
-    for (title, mut port) in ports {
+    for (title, mut port) in faulty {
         match run(&mut port, extent, 1, |_| {}) {
             Ok(found) if !found.differences.is_empty() => {
                 let (script, difference) = &found.differences[0];

@@ -9,7 +9,6 @@ mod memory;
 mod port;
 mod row;
 
-use faults::FAULTS;
 use oracle::commands::{compare, faults, twin, Words, OPTIONS};
 use oracle::play::quiet;
 use oracle::run::Extent;
@@ -27,7 +26,7 @@ fn main() -> ExitCode {
     let what = given.next().unwrap_or_default();
     // Table and room are looked at after every call anyway: a script needs few views. In demand 3 it is the rows that show them.
     let view_every = if what == "twin" { 1 } else { 1_000 };
-    let extent = Extent { view_every, batch: 20, ..Extent::default() };
+    let extent = Extent { view_every, batch: 1, ..Extent::default() };
     let Some(words) = Words::read(given, extent) else {
         eprintln!("{USAGE}\n{OPTIONS}");
         return ExitCode::from(2);
@@ -35,7 +34,10 @@ fn main() -> ExitCode {
     quiet();
     match what.as_str() {
         "run" => compare(&mut Entries::new(None), &words.extent),
-        "faults" => faults(FAULTS.iter().map(|fault| (fault.title, Entries::new(Some(fault)))), &words.extent),
+        "faults" => {
+            let faulty = faults::all().map(|fault| (fault.title, Entries::new(Some(fault))));
+            faults(Entries::new(None), faulty, &words.extent)
+        }
         "twin" => twin(&mut Entries::new(None), &words.extent),
         _ => {
             eprintln!("{USAGE}\n{OPTIONS}");

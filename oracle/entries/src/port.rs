@@ -25,16 +25,12 @@ impl Entries {
         let making = matches!(asked.call, Call::Make { .. });
         let view = self.memory.view();
         let link = asked.call.slot().and_then(|slot| view.slots.get(usize::from(slot))).map_or(0, |record| record.link);
-        match self.fault {
-            Some(fault) if !making => {
-                let before = self.memory.sight();
-                self.memory.enter(asked);
-                fault.slip(&mut Scene { asked, before, memory: &mut self.memory, kept: &mut self.kept });
-            }
-            _ => {
-                self.memory.enter(asked);
-                self.kept = Kept::default();
-            }
+        let faulty = self.fault.filter(|_| !making).map(|fault| (fault, self.memory.sight()));
+        self.memory.enter(asked);
+        match faulty {
+            Some((fault, before)) => fault.act(Scene { asked, before, memory: &mut self.memory, kept: &mut self.kept }),
+            None if making => self.kept = Kept::default(),
+            None => {}
         }
         row(&self.memory, asked, link)
     }

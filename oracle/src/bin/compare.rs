@@ -54,7 +54,10 @@ fn main() -> ExitCode {
         "twin" => twin(&mut Program::new(words.command, Duration::from_secs(words.limit)), &words.extent),
         "self" => compare(&mut Faulty(Fault::None), &words.extent),
         "record" if words.command.len() == 1 => record_into(&words.command[0], &words.extent),
-        "faults" => faults(Fault::ALL.into_iter().map(|fault| (fault.title(), Faulty(fault))), &words.extent),
+        "faults" => {
+            let faulty = Fault::ALL.into_iter().map(|fault| (fault.title(), Faulty(fault)));
+            faults(Faulty(Fault::None), faulty, &words.extent)
+        }
         "kinds" => kinds(),
         _ => {
             eprintln!("{USAGE}\n{OPTIONS}");

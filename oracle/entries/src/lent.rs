@@ -26,9 +26,9 @@ impl Lent {
         &self.octets[..self.lent]
     }
 
-    /// The octets behind the lent ones, for a planted fault.
-    pub fn behind(&mut self) -> &mut [u8] {
-        &mut self.octets[self.lent..]
+    /// The octets with those behind them, for a planted fault.
+    pub fn whole(&mut self) -> &mut [u8] {
+        &mut self.octets
     }
 
     /// True where nothing was written but the first octets.

@@ -8,6 +8,8 @@ mod lent;
 mod memory;
 mod port;
 mod row;
+#[cfg(test)]
+mod tests;
 
 use oracle::commands::{compare, faults, twin, Words, OPTIONS};
 use oracle::play::quiet;

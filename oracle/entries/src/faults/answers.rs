@@ -180,8 +180,8 @@ pub const FAULTS: &[Fault] = &[
         title: "a signal is followed by an octet more",
         slip: |scene| {
             let Call::Accept { .. } = scene.asked.call else { return None };
-            scene.wrote(0x15)?;
-            scene.memory.signal.behind()[0] = 0;
+            let written = scene.wrote(0x15)?.len();
+            scene.memory.signal.whole()[written] = 0;
             Some(())
         },
     },
@@ -208,7 +208,7 @@ pub const FAULTS: &[Fault] = &[
         title: "an octet behind the room is written",
         slip: |scene| {
             let Call::LinkDown { .. } = scene.asked.call else { return None };
-            scene.memory.room.behind()[0] = 0;
+            *scene.memory.room.whole().last_mut()? = 0;
             Some(())
         },
     },

@@ -32,7 +32,7 @@ fn disconnected(sight: &mut Sight, slot: usize) {
     let state = State::Disconnecting { announced: false };
     let record = SlotView { state, credits: record.credits - 1, received: record.received + 1, have: 0, want: 0, ..record.clone() };
     let d = sight.view.d;
-    record.settle_places(sight.places(slot), d);
+    record.settle_places(sight.places_mut(slot), d);
     sight.view.slots[slot] = record;
 }
 
@@ -40,7 +40,7 @@ fn disconnected(sight: &mut Sight, slot: usize) {
 fn taken(sight: &mut Sight, slot: usize) {
     sight.view.slots[slot].jobs.remove(0);
     let d = usize::from(sight.view.d);
-    let places = sight.places(slot);
+    let places = sight.places_mut(slot);
     let place = places.len() / (d + 1);
     places.copy_within(2 * place.., place);
     places[d * place..].fill(0);

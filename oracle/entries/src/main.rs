@@ -13,6 +13,7 @@ mod tests;
 
 use oracle::commands::{compare, faults, twin, Words, OPTIONS};
 use oracle::play::quiet;
+use oracle::port::Port;
 use oracle::run::Extent;
 use port::Entries;
 use std::process::ExitCode;
@@ -20,7 +21,24 @@ use std::process::ExitCode;
 const USAGE: &str = "usage:
   entries run [options]     the entries against the original
   entries faults [options]  each fault planted at the entries has to be found
-  entries twin [options]    demand 3: the entries against themselves, with other job octets in one life of one link";
+  entries twin [options]    demand 3: the entries against themselves, with other job octets in one life of one link
+  entries play              reads a script and prints its rows, as `chanrun` does";
+
+/// `chanrun` over the entries, for scripts that begin with a table.
+fn play() -> ExitCode {
+    let script = std::io::read_to_string(std::io::stdin());
+    match script.map_err(|error| error.to_string()).and_then(|script| Entries::new(None).rows(&script)) {
+        Ok(rows) => {
+            println!("answer octets");
+            rows.iter().for_each(|row| println!("{row}"));
+            ExitCode::SUCCESS
+        }
+        Err(why) => {
+            eprintln!("{why}");
+            ExitCode::FAILURE
+        }
+    }
+}
 
 fn main() -> ExitCode {
     let mut given = std::env::args();
@@ -41,6 +59,7 @@ fn main() -> ExitCode {
             faults(Entries::new(None), faulty, &words.extent)
         }
         "twin" => twin(&mut Entries::new(None), &words.extent),
+        "play" => play(),
         _ => {
             eprintln!("{USAGE}\n{OPTIONS}");
             ExitCode::from(2)

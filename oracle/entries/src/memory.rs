@@ -46,10 +46,11 @@ impl Memory {
         match asked.call {
             Call::Send { .. } => self.out = Lent::new(OUT_OCTETS),
             Call::Take { size, .. } => self.job = Lent::new(usize::from(*size)),
-            // The room is painted too: a making has to zero it.
+            // Table and room are painted too: a making has to write the one and to zero the other.
             Call::Make { n, d, m } => {
-                (self.table, self.room) =
-                    (Lent::new(TABLE_OCTETS), Lent::new(usize::from(*n) * (usize::from(*d) + 1) * usize::from(m - 6)));
+                let place = usize::from(m.saturating_sub(6));
+                self.table = Lent::new(TABLE_OCTETS);
+                self.room = Lent::new(usize::from(*n) * (usize::from(*d) + 1) * place);
             }
             _ => {}
         }

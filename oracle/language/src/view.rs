@@ -94,7 +94,12 @@ impl View {
 
 impl Sight {
     /// The octets of a slot's places.
-    pub fn places(&mut self, slot: usize) -> &mut [u8] {
+    pub fn places(&self, slot: usize) -> &[u8] {
+        let octets = self.room.len() / self.view.slots.len();
+        &self.room[slot * octets..][..octets]
+    }
+
+    pub fn places_mut(&mut self, slot: usize) -> &mut [u8] {
         let octets = self.room.len() / self.view.slots.len();
         &mut self.room[slot * octets..][..octets]
     }
@@ -104,7 +109,7 @@ impl Sight {
         for slot in 0..self.view.slots.len() {
             let record = self.view.slots[slot].clone();
             let d = self.view.d;
-            record.settle_places(self.places(slot), d);
+            record.settle_places(self.places_mut(slot), d);
             self.view.slots[slot] = record.settled();
         }
         self

@@ -12,7 +12,7 @@ pub const FAULTS: &[Fault] = &[
             let freed = |slot: &usize| !before.view.slots[*slot].jobs.is_empty() && now.slots[*slot].free();
             let slot = (0..now.slots.len()).find(freed)?;
             let place = usize::from(now.m) - 6;
-            scene.change(|now| now.places(slot)[place..].copy_from_slice(&before.clone().places(slot)[place..]))
+            scene.change(|now| now.places_mut(slot)[place..].copy_from_slice(&before.places(slot)[place..]))
         },
     },
     Fault {
@@ -22,7 +22,7 @@ pub const FAULTS: &[Fault] = &[
             let left = |slot: &usize| before.view.slots[*slot].have > 0 && now.slots[*slot].state != State::Connected;
             let slot = (0..now.slots.len()).find(left)?;
             let have = usize::from(before.view.slots[slot].have);
-            scene.change(|now| now.places(slot)[..have].copy_from_slice(&before.clone().places(slot)[..have]))
+            scene.change(|now| now.places_mut(slot)[..have].copy_from_slice(&before.places(slot)[..have]))
         },
     },
     Fault {
@@ -32,7 +32,7 @@ pub const FAULTS: &[Fault] = &[
             let slot = scene.slot()?;
             let Call::Frame { payload, .. } = scene.asked.call else { return None };
             let last = payload.last().filter(|_| payload.len() > 2).copied()?;
-            scene.change(|now| now.places(slot)[0] = last.max(1))
+            scene.change(|now| now.places_mut(slot)[0] = last.max(1))
         },
     },
     Fault {
@@ -45,7 +45,7 @@ pub const FAULTS: &[Fault] = &[
             joined.then_some(())?;
             scene.change(|now| {
                 now.view.slots[slot].have -= 2;
-                let place = now.places(slot);
+                let place = now.places_mut(slot);
                 place.copy_within(have + 2..have + more, have);
                 place[have + more - 2..have + more].fill(0);
             })
@@ -61,7 +61,7 @@ pub const FAULTS: &[Fault] = &[
             more.then_some(())?;
             scene.change(|now| {
                 now.view.slots[slot].jobs.swap(count - 1, count);
-                let (older, newer) = now.places(slot)[count * place..].split_at_mut(place);
+                let (older, newer) = now.places_mut(slot)[count * place..].split_at_mut(place);
                 older.swap_with_slice(&mut newer[..place]);
             })
         },
@@ -71,9 +71,9 @@ pub const FAULTS: &[Fault] = &[
         slip: |scene| {
             let slot = scene.slot_where(|record| record.jobs.len() > 1)?;
             let Call::Take { .. } = scene.asked.call else { return None };
-            let mut before = scene.before.clone();
+            let before = scene.before.clone();
             let place = usize::from(before.view.m) - 6;
-            scene.change(|now| now.places(slot)[2 * place..].copy_from_slice(&before.places(slot)[2 * place..]))
+            scene.change(|now| now.places_mut(slot)[2 * place..].copy_from_slice(&before.places(slot)[2 * place..]))
         },
     },
     Fault {
@@ -96,7 +96,7 @@ pub const FAULTS: &[Fault] = &[
             scene.again(
                 |before| {
                     before.view.slots[slot].jobs.swap(0, 1);
-                    let (older, newer) = before.places(slot)[place..].split_at_mut(place);
+                    let (older, newer) = before.places_mut(slot)[place..].split_at_mut(place);
                     older.swap_with_slice(&mut newer[..place]);
                 },
                 |_| {},
@@ -107,7 +107,7 @@ pub const FAULTS: &[Fault] = &[
 
 /// The client's: the line that clears the assembly when its slot opens again is lost.
 fn lost_line(scene: &mut Scene<'_>) -> Option<()> {
-    let mut before = scene.before.clone();
+    let before = scene.before.clone();
     let now = scene.memory.view();
     for (slot, record) in now.slots.iter().enumerate() {
         let old = before.view.slots[slot].clone();
@@ -118,7 +118,7 @@ fn lost_line(scene: &mut Scene<'_>) -> Option<()> {
             if let Some((have, want, octets)) = scene.kept.assemblies[slot].take() {
                 scene.change(|now| {
                     (now.view.slots[slot].have, now.view.slots[slot].want) = (have, want);
-                    now.places(slot)[..octets.len()].copy_from_slice(&octets);
+                    now.places_mut(slot)[..octets.len()].copy_from_slice(&octets);
                 })?;
             }
         }

@@ -119,5 +119,5 @@ impl Scene<'_> {
 /// Frees a slot as document 01 does.
 fn free(sight: &mut Sight, slot: usize) {
     sight.view.slots[slot] = SlotView { hold: sight.view.slots[slot].hold, ..SlotView::fresh() };
-    sight.places(slot).fill(0);
+    sight.places_mut(slot).fill(0);
 }

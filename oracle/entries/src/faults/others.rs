@@ -49,7 +49,7 @@ pub const FAULTS: &[Fault] = &[
             scene.answered(0)?;
             let next = scene.next_to(scene.slot_where(|record| record.state == State::Connected)?)?;
             let octet = payload.first()?.wrapping_add(1).max(1);
-            scene.change(|now| now.places(next)[0] = octet)
+            scene.change(|now| now.places_mut(next)[0] = octet)
         },
     },
     Fault {
@@ -57,7 +57,7 @@ pub const FAULTS: &[Fault] = &[
         slip: |scene| {
             let Call::Take { .. } = scene.asked.call else { return None };
             let next = scene.next_to(scene.slot()?)?;
-            scene.change(|now| now.places(next).fill(0))
+            scene.change(|now| now.places_mut(next).fill(0))
         },
     },
     Fault {

@@ -106,11 +106,11 @@ impl Sight {
 
     /// Table and room as document 01 has them: see `SlotView::settled` and `settle_places`.
     pub fn settled(mut self) -> Self {
-        for slot in 0..self.view.slots.len() {
-            let record = self.view.slots[slot].clone();
-            let d = self.view.d;
-            record.settle_places(self.places_mut(slot), d);
-            self.view.slots[slot] = record.settled();
+        let View { d, slots, .. } = &mut self.view;
+        let octets = self.room.len() / slots.len();
+        for (record, places) in slots.iter_mut().zip(self.room.chunks_mut(octets)) {
+            record.settle_places(places, *d);
+            *record = record.settled();
         }
         self
     }

@@ -71,9 +71,7 @@ impl<const M: usize> Eyes for Driver<'_, M> {
     }
 
     fn sight(&self) -> Sight {
-        let mut room = Vec::new();
-        (0..self.n).for_each(|slot| room.extend_from_slice(&self.places(slot)));
-        Sight { view: self.view(), room }
+        Sight { view: self.view(), room: self.room() }
     }
 
     fn oldest_job(&self, slot: usize) -> Option<Vec<u8>> {

@@ -44,17 +44,23 @@ impl Entries {
                 loop {
                     let row = self.enter(Asked { pdu: left, ..whole });
                     let rest = signal_rest(left);
-                    if !seen(vec![row.to_string()], &self.memory) || rest == 0 || rest >= left.len() {
+                    if !seen(vec![row.to_string()], &self.memory) || rest == 0 {
                         return;
                     }
-                    left = &left[left.len() - rest..];
+                    // A rest that isn't shorter would have no end: it is a row that nobody expects.
+                    let Some(next) = left.len().checked_sub(rest).filter(|next| *next > 0) else { break };
+                    left = &left[next..];
                 }
+                vec![format!("a rest of {} octets", signal_rest(left))]
             }
             Call::Queries { .. } => {
                 let answers: Vec<Row> = (0..5).map(|question| self.enter(Asked { question, ..whole })).collect();
-                let refused = answers.iter().find(|row| row.answer != Answer::Number(0)).cloned();
-                let columns = answers.into_iter().flat_map(|row| row.columns);
-                vec![refused.unwrap_or_else(|| columns.fold(Row::number(0), Row::column)).to_string()]
+                let refused = answers.iter().find(|row| row.answer != Answer::Number(0));
+                match refused {
+                    Some(row) if answers.iter().all(|other| other == row) => vec![row.to_string()],
+                    Some(_) => answers.iter().map(Row::to_string).collect(),
+                    None => vec![answers.iter().flat_map(|row| &row.columns).fold(Row::number(0), Row::column).to_string()],
+                }
             }
             Call::View => lines(&self.memory.view()),
             Call::Room { slot } => {

@@ -117,7 +117,7 @@ pub fn check(script: &Script, got: &[String]) -> Result<(), Difference> {
 }
 
 /// Runs a batch of scripts in one go, and one by one where the number of rows isn't the expected one. Gives the scripts that differ.
-pub fn batch(port: &mut dyn Port, scripts: &[Script]) -> Result<Vec<(usize, Difference)>, String> {
+pub fn batch<P: Port + ?Sized>(port: &mut P, scripts: &[Script]) -> Result<Vec<(usize, Difference)>, String> {
     let text: String = scripts.iter().map(Script::text).collect();
     let rows = port.rows(&text);
     let wanted: usize = scripts.iter().map(Script::lines).sum();

@@ -1,8 +1,10 @@
 //! The runs against the original: playing scripts on it, making scripts that reach deep states, and comparing its rows with the port's.
 
+pub mod commands;
 pub mod compare;
 pub mod depth;
 pub mod faults;
+pub mod foretell;
 pub mod generate;
 pub mod kinds;
 pub mod play;

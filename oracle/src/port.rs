@@ -1,5 +1,7 @@
 //! The port as the comparison sees it: something that is given a script and prints rows.
 
+use crate::compare::{batch, Difference};
+use crate::script::Script;
 use std::io::{Read, Write};
 use std::process::{Command, Stdio};
 use std::sync::mpsc;
@@ -8,6 +10,11 @@ use std::time::Duration;
 pub trait Port {
     /// The rows of a script that may have several tables, without the header line.
     fn rows(&mut self, script: &str) -> Result<Vec<String>, String>;
+
+    /// The scripts that differ, by their places, each with its first difference. A port that can be seen into compares more than rows.
+    fn differences(&mut self, scripts: &[Script]) -> Result<Vec<(usize, Difference)>, String> {
+        batch(self, scripts)
+    }
 }
 
 /// A program that reads a script from standard input and prints rows, as `chanrun` does.

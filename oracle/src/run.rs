@@ -1,6 +1,6 @@
 //! A run: scripts from a seed, in batches, until so many calls were compared.
 
-use crate::compare::{batch, Counts, Difference};
+use crate::compare::{Counts, Difference};
 use crate::generate::{Generator, Plan};
 use crate::port::Port;
 use crate::script::Script;
@@ -64,7 +64,7 @@ pub fn run(port: &mut dyn Port, extent: &Extent, most: usize, mut progress: impl
             calls += made.steps.iter().filter(|step| !step.call.only_looks()).count();
             scripts.push(made);
         }
-        let differences = batch(port, &scripts)?;
+        let differences = port.differences(&scripts)?;
         for (at, difference) in differences.into_iter().take(most - found.differences.len()) {
             let whole = (scripts[at].clone(), difference);
             found.differences.push(shrink(port, &scripts[at].calls()).unwrap_or(whole));

@@ -2,9 +2,10 @@
 //! Where the list says that the tables part, the script ends.
 
 use crate::depth::marks;
+use crate::foretell::foretold;
 use crate::kinds::{left_in, signal_verdicts, verdict, Kind, Verdict};
 use crate::play;
-use language::{can_be_made, Call, Eyes, Feed, Manner, Reply, Row, State, View, HIGHEST_LINK};
+use language::{can_be_made, Call, Eyes, Feed, Manner, Reply, Row, Sight, View, HIGHEST_LINK};
 
 /// Where the calls of a script come from; it sees the table before each.
 pub trait Source {
@@ -24,6 +25,8 @@ pub struct Step {
     pub original: Vec<String>,
     /// What the port must print, line for line; none for the signals of a PDU behind one at which the tables part.
     pub port: Vec<Option<String>>,
+    /// What must stand after the call: after each signal of an `S` line, up to one at which the tables part and that one included.
+    pub after: Vec<Sight>,
     pub kinds: Vec<Kind>,
     pub not_run: Vec<&'static str>,
     /// What deep place this call met.
@@ -85,14 +88,25 @@ impl Step {
         let original = reply.lines();
         let port = original.iter().cloned().map(Some).collect();
         let not_run = reply.rows.iter().filter_map(|row| row.not_run).collect();
-        Self { call, original, port, kinds: Vec::new(), not_run, marks: Vec::new(), owner: None, idle: true, surprise: false }
+        Self {
+            call,
+            original,
+            port,
+            after: Vec::new(),
+            kinds: Vec::new(),
+            not_run,
+            marks: Vec::new(),
+            owner: None,
+            idle: true,
+            surprise: false,
+        }
     }
 }
 
 /// What stood before the call that is being answered.
 struct Before {
     call: Call,
-    view: View,
+    sight: Sight,
     oldest_job: Option<Vec<u8>>,
 }
 
@@ -108,14 +122,16 @@ impl Feed for Judge<'_> {
         if self.parted {
             return None;
         }
-        let view = eyes.view();
-        let call = self.source.next(&view)?;
-        let named = call.slot().map(usize::from).filter(|slot| *slot < view.slots.len());
+        let sight = eyes.sight();
+        // What the original left of the call before.
+        self.script.steps.last_mut().expect("a script has its first step").after.push(sight.clone().settled());
+        let call = self.source.next(&sight.view)?;
+        let named = call.slot().map(usize::from).filter(|slot| *slot < sight.view.slots.len());
         let oldest_job = match call {
             Call::Take { .. } => named.and_then(|slot| eyes.oldest_job(slot)),
             _ => None,
         };
-        self.asked = Some(Before { call: call.clone(), view, oldest_job });
+        self.asked = Some(Before { call: call.clone(), sight, oldest_job });
         Some(call)
     }
 
@@ -129,25 +145,32 @@ impl Feed for Judge<'_> {
 
 impl Before {
     fn judge(self, reply: &Reply) -> (Step, bool) {
+        let view = &self.sight.view;
         let mut step = Step::plain(self.call.clone(), reply);
         if !self.call.only_looks() {
-            step.marks = marks(&self.view, &self.call, reply);
+            step.marks = marks(view, &self.call, reply);
         }
         let cid = match self.call {
-            Call::Frame { cid, .. } => self.view.slot_of(cid),
+            Call::Frame { cid, .. } => view.slot_of(cid),
             _ => None,
         };
-        let named = self.call.slot().map(usize::from).or(cid).and_then(|slot| self.view.slots.get(slot));
+        let named = self.call.slot().map(usize::from).or(cid).and_then(|slot| view.slots.get(slot));
         step.owner = named.filter(|record| !record.free()).map(|record| record.link);
         step.idle = named.is_none_or(|record| record.settled().want == 0);
         let verdicts = self.verdicts(reply);
+        step.after.extend(reply.between.iter().cloned().map(Sight::settled));
         let mut parted = false;
-        for (line, verdict) in step.port.iter_mut().zip(&verdicts) {
+        for (at, (line, verdict)) in step.port.iter_mut().zip(&verdicts).enumerate() {
             if parted {
                 *line = None;
             } else if let Some(verdict) = verdict {
                 *line = Some(verdict.row.clone());
                 parted = verdict.parts;
+                if parted {
+                    let before = at.checked_sub(1).map_or(&self.sight, |last| &reply.between[last]);
+                    step.after.truncate(at);
+                    step.after.push(foretold(before.clone().settled(), &self.call, verdict.kind));
+                }
             }
         }
         step.kinds = verdicts.iter().flatten().map(|verdict| verdict.kind).collect();
@@ -161,15 +184,19 @@ impl Before {
     fn verdicts(&self, reply: &Reply) -> Vec<Option<Verdict>> {
         match &self.call {
             Call::Signal { link, .. } if *link > HIGHEST_LINK => Vec::new(),
-            Call::Signal { link, pdu, .. } => signal_verdicts(*link, pdu, std::iter::once(&self.view).chain(&reply.between)),
+            Call::Signal { link, pdu, .. } => {
+                let before = std::iter::once(&self.sight).chain(&reply.between);
+                signal_verdicts(*link, pdu, before.map(|sight| &sight.view))
+            }
             call if call.link().is_some_and(|link| link > HIGHEST_LINK) => Vec::new(),
-            call => vec![verdict(&self.view, self.oldest_job.as_deref(), call)],
+            call => vec![verdict(&self.sight.view, self.oldest_job.as_deref(), call)],
         }
     }
 
     /// The lines that show records: the port's have nothing left behind.
     fn settle(&self, reply: &Reply, step: &mut Step) {
-        let named = self.call.slot().map(usize::from).and_then(|slot| self.view.slots.get(slot));
+        let view = &self.sight.view;
+        let named = self.call.slot().map(usize::from).and_then(|slot| view.slots.get(slot));
         match (&self.call, &reply.view, named) {
             (Call::View, Some(view), _) => {
                 for (slot, record) in view.slots.iter().enumerate() {
@@ -187,12 +214,7 @@ impl Before {
             }
             (Call::Room { .. }, _, Some(record)) => {
                 let mut row = reply.rows[0].clone();
-                let place = row.octets.len() / (usize::from(self.view.d) + 1);
-                if record.free() {
-                    row.octets.fill(0);
-                } else if record.state != State::Connected {
-                    row.octets[..place].fill(0);
-                }
+                record.settle_places(&mut row.octets, view.d);
                 if row.octets != reply.rows[0].octets {
                     step.kinds.push(if record.free() { Kind::JobsLeft } else { Kind::AssemblyLeft });
                 }

@@ -1,7 +1,7 @@
 //! Makes a script that shows a difference as small as it gets: calls are left out, then numbers and octets made simpler, as long as the
 //! port still leaves what it must print. The original is run anew on every try, so that what must be printed is always its own.
 
-use crate::compare::{batch, Difference};
+use crate::compare::Difference;
 use crate::play::SIZES;
 use crate::port::Port;
 use crate::script::Script;
@@ -34,7 +34,7 @@ pub fn shrink(port: &mut dyn Port, calls: &[Call]) -> Option<(Script, Difference
 /// The script up to its first difference, if it has one.
 fn difference(port: &mut dyn Port, calls: &[Call]) -> Option<(Script, Difference)> {
     let mut script = Script::of(calls)?;
-    let (_, difference) = batch(port, std::slice::from_ref(&script)).ok()?.into_iter().next()?;
+    let (_, difference) = port.differences(std::slice::from_ref(&script)).ok()?.into_iter().next()?;
     script.steps.truncate(difference.step + 1);
     Some((script, difference))
 }

@@ -1,7 +1,7 @@
 //! The oracle's own tests: that it plays what document 01 prints, that its list and its parts fit together, that the comparison finds what
 //! it must, and the findings that are too long for a file.
 
-use language::{Answer, Call, Manner};
+use language::{hex, Answer, Call, Manner, Reply};
 use oracle::compare::batch;
 use oracle::faults::{Fault, Faulty};
 use oracle::generate::{Generator, Plan};
@@ -96,6 +96,25 @@ fn a_script_is_made_again_from_its_number() {
         assert_eq!(script(&wanted, number).text(), script(&wanted, number).text());
     }
     assert_ne!(script(&wanted, 0).text(), script(&wanted, 1).text());
+}
+
+/// What a script says must stand after a call, against the lines that show it.
+#[test]
+fn what_must_stand_is_what_the_view_and_the_places_show() {
+    quiet();
+    for number in 0..60 {
+        for step in script(&extent(7, 0), number).steps {
+            let must: Vec<&str> = step.port.iter().flatten().map(String::as_str).collect();
+            match (&step.call, step.after.last()) {
+                (Call::View, Some(sight)) => assert_eq!(Reply::from(sight.view.clone()).lines(), must),
+                (Call::Room { slot }, Some(sight)) if *slot < sight.view.n() => {
+                    assert_eq!(format!("0 {}", hex(sight.places(usize::from(*slot)))), must[0]);
+                }
+                _ => {}
+            }
+            assert!(step.after.len() == step.port.len() || step.call == Call::View || step.port.contains(&None), "{}", step.call);
+        }
+    }
 }
 
 #[test]

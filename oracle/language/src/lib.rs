@@ -7,7 +7,7 @@ mod view;
 
 pub use call::{signals, Call, Config, Policy};
 pub use row::{hex, Answer, Reply, Row};
-pub use view::{SlotView, Stale, State, View};
+pub use view::{Sight, SlotView, Stale, State, View};
 
 /// The limits of document 01, and the room that `chanrun` lends at most.
 pub const SLOTS: u16 = 16;
@@ -40,6 +40,8 @@ pub struct Manner {
 /// What whoever feeds a driver may look at before each call.
 pub trait Eyes {
     fn view(&self) -> View;
+    /// The view, and every slot's places.
+    fn sight(&self) -> Sight;
     /// The job that a take of this slot would give.
     fn oldest_job(&self, slot: usize) -> Option<Vec<u8>>;
 }

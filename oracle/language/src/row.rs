@@ -1,6 +1,6 @@
 //! What a call prints.
 
-use crate::view::View;
+use crate::view::{Sight, View};
 use std::fmt;
 
 /// The first word of a row.
@@ -56,8 +56,8 @@ pub struct Reply {
     pub rows: Vec<Row>,
     /// What a `V` line shows.
     pub view: Option<View>,
-    /// The views between the signals of one `S` line: one less than its rows.
-    pub between: Vec<View>,
+    /// What stood between the signals of one `S` line: one less than its rows.
+    pub between: Vec<Sight>,
 }
 
 impl Reply {

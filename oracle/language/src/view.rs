@@ -53,18 +53,28 @@ pub struct SlotView {
     pub stale: Stale,
 }
 
+/// The table. `spsms` is not printed.
 #[derive(Clone, Debug, PartialEq, Eq)]
 pub struct View {
     pub d: u16,
     pub m: u16,
     pub next_identifier: u8,
+    /// The registered SPSMs: SPSM s is bit s % 8 of octet s / 8.
+    pub spsms: [u8; 32],
     pub slots: Vec<SlotView>,
+}
+
+/// All that a call can change: the table, and the room's places, slot after slot.
+#[derive(Clone, Debug, PartialEq, Eq)]
+pub struct Sight {
+    pub view: View,
+    pub room: Vec<u8>,
 }
 
 impl View {
     /// The table of no slots.
     pub fn none() -> Self {
-        Self { d: 0, m: 0, next_identifier: 1, slots: Vec::new() }
+        Self { d: 0, m: 0, next_identifier: 1, spsms: [0; 32], slots: Vec::new() }
     }
 
     pub fn n(&self) -> u16 {
@@ -79,6 +89,30 @@ impl View {
     pub fn slot_of(&self, cid: u16) -> Option<usize> {
         let slot = usize::from(cid.checked_sub(BASE_ID)?);
         (slot < self.slots.len()).then_some(slot)
+    }
+}
+
+impl Sight {
+    /// The octets of a slot's places.
+    pub fn places(&self, slot: usize) -> &[u8] {
+        let octets = self.room.len() / self.view.slots.len();
+        &self.room[slot * octets..][..octets]
+    }
+
+    pub fn places_mut(&mut self, slot: usize) -> &mut [u8] {
+        let octets = self.room.len() / self.view.slots.len();
+        &mut self.room[slot * octets..][..octets]
+    }
+
+    /// Table and room as document 01 has them: see `SlotView::settled` and `settle_places`.
+    pub fn settled(mut self) -> Self {
+        let View { d, slots, .. } = &mut self.view;
+        let octets = self.room.len() / slots.len();
+        for (record, places) in slots.iter_mut().zip(self.room.chunks_mut(octets)) {
+            record.settle_places(places, *d);
+            *record = record.settled();
+        }
+        self
     }
 }
 
@@ -150,6 +184,16 @@ impl SlotView {
         }
         record.stale = Stale::Nothing;
         record
+    }
+
+    /// Zeroes what document 01 zeroes in a slot's D+1 places: all of a free slot's, and that of the assembly where the slot isn't Connected.
+    pub fn settle_places(&self, places: &mut [u8], d: u16) {
+        let place = places.len() / (usize::from(d) + 1);
+        if self.free() {
+            places.fill(0);
+        } else if self.state != State::Connected {
+            places[..place].fill(0);
+        }
     }
 
     /// The slot's line of a view.

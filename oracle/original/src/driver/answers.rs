@@ -95,13 +95,32 @@ impl<const M: usize> Driver<'_, M> {
     /// The slot's D+1 places as document 01 lays them out, zeros behind each job. The original has packets and no places: that the rest
     /// of a place is zero is the layout's, not its.
     pub(super) fn places(&self, slot: usize) -> Vec<u8> {
-        let place = M - 6;
-        let mut octets = vec![0; (crate::config::L2CAP_RX_QUEUE_SIZE + 1) * place];
-        let open = self.channels.assembly(slot).map_or(Vec::new(), |open| open.written);
-        for (place, job) in octets.chunks_mut(place).zip(std::iter::once(open).chain(self.channels.jobs(slot))) {
+        let mut octets = vec![0; Self::PLACES];
+        self.draw(slot, &mut octets);
+        octets
+    }
+
+    /// Every slot's places.
+    pub(super) fn room(&self) -> Vec<u8> {
+        let mut octets = vec![0; self.n * Self::PLACES];
+        for slot in 0..self.n {
+            self.draw(slot, &mut octets[slot * Self::PLACES..(slot + 1) * Self::PLACES]);
+        }
+        octets
+    }
+
+    const PLACES: usize = (crate::config::L2CAP_RX_QUEUE_SIZE + 1) * (M - 6);
+
+    fn draw(&self, slot: usize, octets: &mut [u8]) {
+        let (open, jobs) = (self.channels.assembly(slot), self.channels.jobs(slot));
+        // Most slots hold nothing, and this runs for each of them before every call.
+        if open.is_none() && jobs.is_empty() {
+            return;
+        }
+        let open = open.map_or(Vec::new(), |open| open.written);
+        for (place, job) in octets.chunks_mut(M - 6).zip(std::iter::once(open).chain(jobs)) {
             let length = job.len().min(place.len());
             place[..length].copy_from_slice(&job[..length]);
         }
-        octets
     }
 }

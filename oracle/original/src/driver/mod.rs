@@ -15,7 +15,7 @@ use crate::l2cap::L2capChannel;
 use crate::stand_ins::pool::{Octets, Pool};
 use crate::{config, BleHostError};
 use bt_hci::param::{ConnHandle, LeConnRole};
-use language::{Eyes, Feed, Manner, View};
+use language::{Eyes, Feed, Manner, Sight, View};
 use std::cell::RefCell;
 use std::convert::Infallible;
 use std::future::Future;
@@ -61,8 +61,17 @@ impl<'d, const M: usize> Driver<'d, M> {
 
 impl<const M: usize> Eyes for Driver<'_, M> {
     fn view(&self) -> View {
-        let slots = (0..self.n).map(|slot| self.slot_view(slot)).collect();
-        View { d: config::L2CAP_RX_QUEUE_SIZE as u16, m: M as u16, next_identifier: self.channels.next_identifier(), slots }
+        View {
+            d: config::L2CAP_RX_QUEUE_SIZE as u16,
+            m: M as u16,
+            next_identifier: self.channels.next_identifier(),
+            spsms: self.channels.spsms(),
+            slots: (0..self.n).map(|slot| self.slot_view(slot)).collect(),
+        }
+    }
+
+    fn sight(&self) -> Sight {
+        Sight { view: self.view(), room: self.room() }
     }
 
     fn oldest_job(&self, slot: usize) -> Option<Vec<u8>> {

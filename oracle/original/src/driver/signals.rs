@@ -29,13 +29,14 @@ impl<const M: usize> Driver<'_, M> {
             _ => vec![pdu],
         };
         if link > HIGHEST_LINK {
-            return parts.iter().map(|_| Row::number(4).not_run(reasons::LINK)).collect::<Vec<_>>().into();
+            let rows = vec![Row::number(4).not_run(reasons::LINK); parts.len()];
+            return Reply { rows, view: None, between: vec![self.sight(); parts.len() - 1] };
         }
         let whole = signals(pdu).is_some();
         let (mut rows, mut between) = (Vec::<Row>::new(), Vec::new());
         for part in &parts {
             if !rows.is_empty() {
-                between.push(self.view());
+                between.push(self.sight());
             }
             if rows.last().is_some_and(|row| row.answer == Answer::Panic) {
                 rows.push(Row::new(Answer::Panic));

@@ -64,6 +64,15 @@ impl<P: PacketPool> ChannelManager<'_, P> {
         self.state.borrow().next_req_id.max(1)
     }
 
+    /// The registered SPSMs: SPSM s is bit s % 8 of octet s / 8.
+    pub(crate) fn spsms(&self) -> [u8; 32] {
+        let mut octets = [0; 32];
+        for (four, bits) in octets.chunks_exact_mut(4).zip(self.state.borrow().registered_spsms) {
+            four.copy_from_slice(&bits.to_le_bytes());
+        }
+        octets
+    }
+
     /// The jobs in a slot's queue, oldest first; the mark of a close is none.
     pub(crate) fn jobs(&self, slot: usize) -> Vec<Vec<u8>> {
         let mut jobs = Vec::new();

@@ -1,0 +1,80 @@
+//! The row of a call from what its entry left. Row and answer say the same: an answer with another octet than the row asks for, and a buffer with
+//! an octet behind what was written, show in the row.
+
+use crate::memory::{Asked, Memory};
+use language::{hex, Call, Row};
+
+const DONE: u8 = 0;
+const REFUSED: u8 = 1;
+const AT: u8 = 2;
+const LINK: u8 = 3;
+const OPENED: u8 = 4;
+const DUE: u8 = 5;
+const FRAMES: u8 = 6;
+pub const JOB: u8 = 7;
+const ATTENTION: u8 = 8;
+const NUMBER: u8 = 9;
+const EVENT: u8 = 10;
+const CONNECT_ERROR: u32 = 17;
+
+/// The row. `link` is that of the slot that the call names, from before the call: some answers carry it and no row shows it.
+pub fn row(memory: &Memory, asked: Asked<'_>, link: u16) -> Row {
+    let answer = memory.answer.octets();
+    let numbers = [6, 8, 10, 12].map(|at| u16::from_le_bytes([answer[at], answer[at + 1]]));
+    let written = u32::from_le_bytes([answer[2], answer[3], answer[4], answer[5]]);
+    let copied = if answer[0] == JOB { usize::from(numbers[1]) } else { 0 };
+    let (buffer, in_buffer, in_signal) = match asked.call {
+        Call::Send { .. } => (&memory.out, written as usize, 0),
+        Call::Take { .. } => (&memory.job, copied, written as usize),
+        _ => (&memory.signal, written as usize, written as usize),
+    };
+    let told = told(asked.call, memory.number, answer[0], numbers, link);
+    let (columns, carried) = told.clone().unwrap_or_default();
+    let mut row = Row::number(memory.number as u16).octets(start(buffer.octets(), in_buffer));
+    row = columns.into_iter().fold(row, Row::column);
+    if answer[0] == JOB {
+        row = row.column(hex(&start(memory.signal.octets(), in_signal)));
+    }
+    let mut exact = vec![answer[0], memory.number as u8];
+    exact.extend(written.to_le_bytes());
+    carried.iter().for_each(|number| exact.extend(number.to_le_bytes()));
+    exact.extend([0, 0]);
+    if told.is_none() || exact != answer || !memory.answer.untouched_behind() {
+        row = row.column(format!("answer:{}", hex(answer)));
+    }
+    if !(memory.signal.untouched_from(in_signal) && buffer.untouched_from(in_buffer)) {
+        row = row.column("behind-what-was-written");
+    }
+    row
+}
+
+/// The columns of the row and the four numbers of the answer; none where the answer is of a kind that this call never has.
+fn told(call: &Call, refusal: u32, kind: u8, numbers: [u16; 4], link: u16) -> Option<(Vec<u16>, [u16; 4])> {
+    let [first, second, third, _] = numbers;
+    if refusal != 0 {
+        let code = if refusal == CONNECT_ERROR { vec![first] } else { vec![] };
+        let carried = [code.first().copied().unwrap_or(0), 0, 0, 0];
+        return (kind == REFUSED).then_some((code, carried));
+    }
+    match (call, kind) {
+        (Call::NextPending { .. } | Call::RejectStep { .. } | Call::Create { .. }, AT) => Some((vec![first], [first, 0, 0, 0])),
+        (Call::Accept { .. } | Call::Reject { .. }, LINK) => Some((vec![], [link, 0, 0, 0])),
+        (Call::Opened { .. }, OPENED) => Some((vec![1], [0; 4])),
+        (Call::Opened { .. }, DONE) => Some((vec![0], [0; 4])),
+        (Call::NextDisconnect, DUE) => Some((vec![first, second], [first, second, 0, 0])),
+        (Call::Send { .. }, FRAMES) => Some((vec![second], [link, second, 0, 0])),
+        (Call::Take { .. }, JOB) => Some((vec![second, third], [link, second, third, 0])),
+        (Call::Attention, ATTENTION) => Some((vec![first, second, third], [first, second, third, 0])),
+        (Call::Queries { .. }, NUMBER) => Some((vec![first], [first, 0, 0, 0])),
+        (Call::Signal { .. }, EVENT) => Some((numbers.to_vec(), numbers)),
+        (Call::Accept { .. } | Call::Reject { .. } | Call::Create { .. } | Call::Send { .. }, DONE) => None,
+        (Call::Attention | Call::Queries { .. }, DONE) => None,
+        (_, DONE) => Some((vec![], [0; 4])),
+        _ => None,
+    }
+}
+
+/// The first octets of a buffer.
+fn start(octets: &[u8], count: usize) -> Vec<u8> {
+    octets[..count.min(octets.len())].to_vec()
+}

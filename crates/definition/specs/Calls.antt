@@ -109,7 +109,7 @@ carrier t (sends s sdu out) = holder (slotAt t s)
 carrier t (down link) = nobody
 carrier t (plain r out job) = nobody
 
--- Whose jobs or frames a call hands out: the link of the slot that is taken from, or sent on.
+-- Whose slot a request takes a job from: a take alone does.
 abbrev pub takenFrom : Table → Request → Holder
 takenFrom t (register spsm) = nobody
 takenFrom t (signals link listening central pdu) = nobody
@@ -132,14 +132,14 @@ takenFrom t (asks of s) = nobody
 takenFrom t (sendsSignal link s) = nobody
 takenFrom t (writes octets) = nobody
 
--- Whose frames it writes to its output: a send alone.
+-- Whose frames a call writes to its output: a send alone does.
 abbrev pub framesOut : Table → Call → Holder
 framesOut t (frame link cid payload) = nobody
 framesOut t (sends s sdu out) = holder (slotAt t s)
 framesOut t (down link) = nobody
 framesOut t (plain r out job) = nobody
 
--- Whose job it writes to the job buffer: a take alone.
+-- Whose job it writes to its job buffer: a take alone does.
 abbrev pub jobOut : Table → Call → Holder
 jobOut t (frame link cid payload) = nobody
 jobOut t (sends s sdu out) = nobody

@@ -1,5 +1,5 @@
--- What each call hands out to the caller's memory: a take, octets of the slot's own part of the room; a send, its SDU; every other call,
--- only octets that it worked out itself. One lemma a call, and `hands` for all of them.
+-- What each call hands out to the caller's memory: a take, to its job buffer alone, octets of the slot's own part of the room; a send, its
+-- SDU; all else are octets that the call worked out itself. One lemma a call, and `hands` for all of them.
 use mathlib.Core.Path.{_≡_, refl, sym, _∙_, ap}
 use mathlib.Core.Bool.{Bool, true, false, _&&_, false≢true}
 use mathlib.Core.List.{List, [], _∷_}
@@ -62,7 +62,7 @@ use Rattle.lists.specs.Every.{every, every-passes}
 use Rattle.channel.specs.Limits.{slotsMost}
 use Rattle.channel.specs.declared.Given.{Given}
 
--- ---- whose what is written is. c: whose the call's job octets are; h: whose jobs or frames it hands out.
+-- ---- whose what is written is. c: whose the call's job octets are; h: whose what is handed out is.
 
 -- `count` octets of the room from `from` on lie in the part of a slot that is h's.
 pub record OwnPart (t : Table) (h : Holder) (from count : ℕ) : Type 0 where
@@ -82,6 +82,7 @@ pub data OwnFills (t : Table) (c h : Holder) : List Fill → Type 0 where
   none : OwnFills t c h []
   more : {f : Fill} {fs : List Fill} → OwnFill t c h f → OwnFills t c h fs → OwnFills t c h (f ∷ fs)
 
+-- To its output a call writes only what is f's, to its job buffer only what is h's.
 pub record Hands (t : Table) (c f h : Holder) (o : Outcome) : Type 0 where
   pub out : OwnFills t c f (o .out)
   pub tray : OwnFills t c h (o .job)

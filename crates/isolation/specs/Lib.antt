@@ -1,6 +1,10 @@
 pub mod Statement
+pub mod Words
 pub mod Same
 pub mod Contained
 pub mod Masked
 pub mod Isolation
 pub mod Example
+pub mod Lives
+pub mod Reading
+pub mod Excepted

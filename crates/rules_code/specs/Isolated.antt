@@ -9,15 +9,15 @@ use Rattle.definition.specs.Calls.{Call}
 use Rattle.definition.specs.Ending.{servedOf}
 use Rattle.definition.specs.Numbers.{answerNumber}
 use Rattle.definition.specs.Run.{State, run, outcomes}
-use Rattle.isolation.specs.Statement.{AlikeRuns, marksOf, Isolated, signals}
+use Rattle.isolation.specs.Statement.{AlikeRuns, marksOf, Isolated, handed}
 use Rattle.isolation.specs.Isolation.{isolation}
 use Rattle.rules_code.specs.CodeRun.{Makes, makes-made, makes-answer, CodeRun, code-run, code-served}
 
--- What is the same in two runs of the code, from a and from b: what every call gives back (answer, table, number of octets), the octets of
--- every signal; and after every number i of calls nothing in any memory tells the two apart, but for that link's own jobs and frames.
+-- What is the same in two runs of the code, from a and from b: what every call gives back (answer, table, number of octets), what it hands
+-- out, every signal among it; and after every number i of calls nothing in any memory tells the two apart, but for that link's own jobs and frames.
 pub record CodeIsolated (k j : ℕ) (a b : State) (cs ds : List Call) (rs qs : List Served) : Type 0 where
   pub served : rs ≡ qs
-  pub signalled : signals a cs ≡ signals b ds
+  pub handing : handed k a cs ≡ handed k b ds
   pub states : (i : ℕ) {a′ b′ : State} {rs′ qs′ : List Served} → CodeRun a (take i cs) rs′ a′ → CodeRun b (take i ds) qs′ b′ → Isolated k j (marksOf k j a (take i cs)) a′ b′
 
 pub code-isolation : (k j n d m : ℕ) (room₁ room₂ memory : List ℕ) (cs ds : List Call) {a b a′ b′ : State} {p q : Served} {rs qs : List Served}
@@ -34,7 +34,7 @@ code-isolation k j n d m room₁ room₂ memory cs ds {a} {b} {rs = rs} {qs = qs
       served =
           code-served u ∙ ap (λ (s : State). map servedOf (outcomes s cs)) a-is ∙ ap (map servedOf) (z .0)
           ∙ ap (λ (s : State). map servedOf (outcomes s ds)) (sym b-is) ∙ sym (code-served v);
-      signalled = ap (λ (s : State). signals s cs) a-is ∙ z .1 ∙ ap (λ (s : State). signals s ds) (sym b-is);
+      handing = ap (λ (s : State). handed k s cs) a-is ∙ z .1 ∙ ap (λ (s : State). handed k s ds) (sym b-is);
       states = λ i u′ v′.
           let w : Isolated k j (marksOf k j a (take i cs)) (run a (take i cs)) (run b (take i ds)) =
           subst₂ (λ (s t : State). Isolated k j (marksOf k j s (take i cs)) (run s (take i cs)) (run t (take i ds))) (sym a-is) (sym b-is) (z .2 i) in

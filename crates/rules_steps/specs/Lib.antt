@@ -1,0 +1,4 @@
+-- Laws of one call, for every table and every call: what it tells and with which identifier, and which steps its slots make.
+pub mod Tools
+pub mod Told
+pub mod Telling

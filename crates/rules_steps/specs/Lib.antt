@@ -2,3 +2,4 @@
 pub mod Tools
 pub mod Told
 pub mod Telling
+pub mod Identifiers

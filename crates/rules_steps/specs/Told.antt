@@ -136,3 +136,14 @@ Tells t c o = Told t c (o .answer) (o .table .identifier) (o .out)
 -- ---- the law: every call, on every table that has its slots, with every size
 abbrev pub EveryCallTells : Type 0
 EveryCallTells = (t : Table) → Fit t → (c : Call) (count room out job : ℕ) → Tells t c (decide t (bare t c) count room out job)
+
+-- ---- "a request carries the next one and uses it up, nothing else does but a create refused by 12 or 13": exactly those
+
+pub record Exactly (t : Table) (c : Call) (o : Outcome) : Type 0 where
+  pub used : Uses t c (o .answer) (o .out) → o .table .identifier ≡ spent t .identifier
+  pub kept : ¬ Uses t c (o .answer) (o .out) → o .table .identifier ≡ t .identifier
+  pub moved : ¬ (o .table .identifier ≡ t .identifier) → Uses t c (o .answer) (o .out)
+  pub differ : ¬ (spent t .identifier ≡ t .identifier)  -- so that used and kept can be told apart
+
+abbrev pub IdentifiersUsed : Type 0
+IdentifiersUsed = (t : Table) → Fit t → (c : Call) (count room out job : ℕ) → Exactly t c (decide t (bare t c) count room out job)

@@ -3,3 +3,5 @@ pub mod Tools
 pub mod Told
 pub mod Telling
 pub mod Identifiers
+pub mod Credits
+pub mod Crediting

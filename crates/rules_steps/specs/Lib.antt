@@ -5,3 +5,5 @@ pub mod Telling
 pub mod Identifiers
 pub mod Credits
 pub mod Crediting
+pub mod Steps
+pub mod Stepping

@@ -7,3 +7,5 @@ pub mod Credits
 pub mod Crediting
 pub mod Steps
 pub mod Stepping
+pub mod Consequences
+pub mod Concluding

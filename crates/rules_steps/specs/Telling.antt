@@ -85,7 +85,6 @@ module _ (t : Table) (fit : Fit t) (v w : Window) where
     abbrev P : Outcome → Type 0
     P o = Tells t (plain r v w) o
 
-
   -- ---- the peer asks
 
   next-pending : (link : ℕ) (up : Bool) → P (pends link up) (nextPending t link up)

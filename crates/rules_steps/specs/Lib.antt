@@ -9,3 +9,5 @@ pub mod Steps
 pub mod Stepping
 pub mod Consequences
 pub mod Concluding
+pub mod Runs
+pub mod Running

@@ -15,12 +15,12 @@ use Rattle.channel.specs.declared.ChannelState.the-variants.{Connected, Disconn
 use Rattle.channel.specs.declared.L2capChannelConfig.{L2capChannelConfig}
 use Rattle.channel.specs.declared.Table.{Table}
 use Rattle.definition.specs.Table.{isDisconnected, isConnected, isDisconnecting, isDue, cidOf}
-use Rattle.definition.specs.Calls.{Window, Call, frame, sends, down, plain, Request, accepts, rejects, gives, releases, announces}
+use Rattle.definition.specs.Calls.{Window, Call, frame, sends, down, plain, Request, accepts, rejects, creates, gives, releases, announces}
 use Rattle.rules_steps.specs.Tools.{is-connected}
 use Rattle.rules_steps.specs.Steps.{Seen, is, free, Row, isNumber, gives-slot, Step, row, stay, link-down, stay-down, overrun, stay-frame, send, stay-send}
 use Rattle.rules_steps.specs.Steps as Steps
 use Rattle.rules_steps.specs.Stepping.{every-step}
-use Rattle.rules_steps.specs.Consequences.{Accepted, AcceptNeedsHold, Rejected, RejectNeedsHold, GiveUpLeavesHeld, LastReleaseLeaves, ReleaseKeepsState, Left, OverrunLeaves, AnnouncedOnce, LinkStays, Credits, no-fall, fall, CreditsFallBySend}
+use Rattle.rules_steps.specs.Consequences.{Accepted, AcceptNeedsHold, Rejected, RejectNeedsHold, GiveUpLeavesHeld, LastReleaseLeaves, ReleaseKeepsState, Left, OverrunLeaves, AnnouncedOnce, responded, requested, Announced, AnnounceMarks, Waits, CreateWaits, LinkStays, Credits, no-fall, fall, CreditsFallBySend}
 
 -- an answer 0 about a slot does not leave it as it was
 not-stay : {ok : Bool} (i s : ℕ) → i ≡ s → ok ≡ true → (ok && eqb i s) ≡ false → ⊥
@@ -65,6 +65,15 @@ module _ {t : Table} {i : ℕ} {v w : Window} where
       marked : ChannelState → Bool
       marked k = not (isDue k)
   announced (stay f) k = (refl, f)
+
+  marks : {a : Answer} {x y : Seen} → Step t i (plain announces v w) a x y → gives-slot i a ≡ true → Announced x y
+  marks (row (Steps.announce-response f)) e = responded
+  marks (row (Steps.announce-request f)) e = requested
+  marks (stay f) e = absurd (false≢true (sym f ∙ e))
+
+  waits : {link spsm : ℕ} {c : L2capChannelConfig} {a : Answer} {x y : Seen} → Step t i (plain (creates link spsm c) v w) a x y → gives-slot i a ≡ true → Waits t link x y
+  waits (row (Steps.create f)) e = record { was = refl; unheld = refl; now = refl }
+  waits (stay f) e = absurd (false≢true (sym f ∙ e))
 
 overran : {t : Table} {i cid link : ℕ} {payload : List ℕ} {a : Answer} {x y : Seen} → cidOf i ≡ cid → Step t i (frame link cid payload) a x y → (isNumber 9 a || isNumber 19 a) ≡ true → Left x y
 overran q (overrun f) e = record { was = refl; now = refl }
@@ -159,6 +168,12 @@ overrun-leaves i link payload t fit h count room out job = overran refl (every-s
 
 pub announced-once : AnnouncedOnce
 announced-once i v w t fit h count room out job = announced (every-step t fit (plain announces v w) count room out job i h)
+
+pub announce-marks : AnnounceMarks
+announce-marks i v w t fit h count room out job = marks (every-step t fit (plain announces v w) count room out job i h)
+
+pub create-waits : CreateWaits
+create-waits link spsm i c v w t fit h count room out job = waits (every-step t fit (plain (creates link spsm c) v w) count room out job i h)
 
 pub link-stays : LinkStays
 link-stays c i t fit h count room out job = step-link (every-step t fit c count room out job i h)

@@ -8,12 +8,12 @@ use Rattle.codes.specs.declared.LeCreditConnResultCode.{LeCreditConnResultCode}
 use Rattle.codes.specs.declared.ResultRead.the-variants.{Known}
 use Rattle.channel.specs.declared.Answer.{Answer}
 use Rattle.channel.specs.declared.Answer.the-variants.{Frames}
-use Rattle.channel.specs.declared.ChannelState.the-variants.{Connected, Disconnecting}
+use Rattle.channel.specs.declared.ChannelState.the-variants.{Disconnected, Connecting, Connected, PeerDisconnecting, Disconnecting}
 use Rattle.channel.specs.declared.L2capChannelConfig.{L2capChannelConfig}
 use Rattle.channel.specs.declared.Table.{Table}
-use Rattle.definition.specs.Table.{slotAt, isDisconnected, isPeerConnecting, isConnected, cidOf}
+use Rattle.definition.specs.Table.{slotAt, isDisconnected, isPeerConnecting, isConnected, cidOf, nextId}
 use Rattle.definition.specs.Outcome.{Outcome}
-use Rattle.definition.specs.Calls.{Window, Call, frame, sends, plain, accepts, rejects, gives, releases, announces, bare, decide}
+use Rattle.definition.specs.Calls.{Window, Call, frame, sends, plain, accepts, rejects, creates, gives, releases, announces, bare, decide}
 use Rattle.definition.specs.Forms.{Fit}
 use Rattle.rules_steps.specs.Steps.{Seen, is, seen, free, isNumber, gives-slot}
 
@@ -70,6 +70,25 @@ OverrunLeaves = (i link : ℕ) (payload : List ℕ) → On (frame link (cidOf i)
 
 abbrev pub AnnouncedOnce : Type 0
 AnnouncedOnce = (i : ℕ) (v w : Window) → On (plain announces v w) i (λ a x y. x .state ≡ Disconnecting true → (y ≡ x) × (gives-slot i a ≡ false))
+
+-- the slot that is given was due, and is freed or marked
+pub data Announced : Seen → Seen → Type 0 where
+  responded : {id h l p : ℕ} → Announced (is (PeerDisconnecting id) h l p) (free h)
+  requested : {h l p : ℕ} → Announced (is (Disconnecting false) h l p) (is (Disconnecting true) h l p)
+
+abbrev pub AnnounceMarks : Type 0
+AnnounceMarks = (i : ℕ) (v w : Window) → On (plain announces v w) i (λ a x y. gives-slot i a ≡ true → Announced x y)
+
+-- ---- a create gives a slot that was free, which then waits for the response to the identifier that its request carries (Told.antt)
+
+pub record Waits (t : Table) (link : ℕ) (x y : Seen) : Type 0 where
+  pub was : x .state ≡ Disconnected
+  pub unheld : x .hold ≡ 0
+  pub now : y ≡ is (Connecting (nextId t)) 0 link 0
+
+abbrev pub CreateWaits : Type 0
+CreateWaits = (link spsm i : ℕ) (c : L2capChannelConfig) (v w : Window) (t : Table) → Fit t → i < t .n → (count room out job : ℕ)
+    → Of t (decide t (bare t (plain (creates link spsm c) v w)) count room out job) i (λ a x y. gives-slot i a ≡ true → Waits t link x y)
 
 -- ---- every call: while a slot is in use its link stays
 

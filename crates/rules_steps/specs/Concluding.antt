@@ -2,7 +2,7 @@
 use mathlib.Core.Path.{_≡_, refl, sym, ap, _∙_}
 use mathlib.Core.Bool.{Bool, true, false, _&&_, _||_, not, false≢true}
 use mathlib.Core.List.{List}
-use Prim.Native.Nat.{ℕ, suc, _+_, _-_, _≤_, _<_}
+use Prim.Native.Nat.{ℕ, suc, _-_, _≤_}
 use native.Mathlib.Nat.{le-refl}
 use native.Mathlib.Omega.{arith}
 use lib.Dec.{eqb}
@@ -15,7 +15,7 @@ use Rattle.channel.specs.declared.ChannelState.the-variants.{Connected, Disconn
 use Rattle.channel.specs.declared.L2capChannelConfig.{L2capChannelConfig}
 use Rattle.channel.specs.declared.Table.{Table}
 use Rattle.definition.specs.Table.{isDisconnected, isConnected, isDisconnecting, isDue, cidOf}
-use Rattle.definition.specs.Calls.{Window, Call, frame, sends, down, plain, Request, accepts, rejects, creates, gives, releases, announces}
+use Rattle.definition.specs.Calls.{Window, Call, frame, plain, Request, accepts, rejects, creates, gives, releases, announces}
 use Rattle.rules_steps.specs.Tools.{is-connected}
 use Rattle.rules_steps.specs.Steps.{Seen, is, free, Row, isNumber, gives-slot, Step, row, stay, link-down, stay-down, overrun, stay-frame, send, stay-send}
 use Rattle.rules_steps.specs.Steps as Steps

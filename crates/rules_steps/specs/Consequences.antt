@@ -1,7 +1,7 @@
 -- What the table of steps (Steps.antt) comes to, call by call, in document 01's words: for every table that has its slots, every size, every slot in use. Each law is a type,
 -- proved in Concluding.antt.
 use mathlib.Core.Path.{_≡_}
-use mathlib.Core.Bool.{Bool, true, false, _||_}
+use mathlib.Core.Bool.{true, false, _||_}
 use mathlib.Core.List.{List}
 use Prim.Native.Nat.{ℕ, _-_, _≤_, _<_}
 use Rattle.codes.specs.declared.LeCreditConnResultCode.{LeCreditConnResultCode}

@@ -1,26 +1,22 @@
 -- A send lowers the peer's credits by the frames that it writes, and a take books the grant that it tells (Credits.antt). Carried by the plan (crate cutting) and
 -- by the account's own rule (crate credit).
 use mathlib.Core.Path.{_≡_, refl, sym, ap, _∙_, subst}
-use mathlib.Core.Bool.{Bool, true, false, _&&_, not, false≢true}
-use mathlib.Core.List.{List, [], _∷_}
+use mathlib.Core.Bool.{false≢true}
 use Prim.Native.Nat.{ℕ, zero, suc, _+_, _-_, _≤_, min}
 use native.Mathlib.Omega.{arith}
-use lib.Dec.{eqb}
 use borrow.Author.Tests.{eqb-false, not-false}
-use Rattle.lists.specs.Choose.{choose, choose-true, choose-false, if-cases}
+use Rattle.lists.specs.Choose.{if-cases}
 use Rattle.credit.specs.declared.CreditFlowControl.{CreditFlowControl}
 use Rattle.credit.specs.declared.Grant.{Grant}
 use Rattle.credit.specs.declared.Grant.the-variants as Grant
-use Rattle.credit.specs.Account.{grantOf, due}
+use Rattle.credit.specs.Account.{grantOf}
 use Rattle.cutting.specs.declared.Plan.{Plan}
 use Rattle.cutting.specs.declared.Plan.the-variants as Plan
 use Rattle.cutting.specs.Cutting.{frameCount, planSend}
 use Rattle.cutting.specs.CutLaws.{count-holds, plan-allowed}
-use Rattle.channel.specs.declared.ChannelState.{ChannelState}
 use Rattle.channel.specs.declared.ChannelState.the-variants.{Connected}
 use Rattle.channel.specs.declared.Slot.{Slot}
 use Rattle.channel.specs.declared.Table.{Table}
-use Rattle.definition.specs.Mem.{Fill}
 use Rattle.definition.specs.Table.{slotAt, isConnected}
 use Rattle.definition.specs.Outcome.{Outcome}
 use Rattle.definition.specs.Frames.{laterFrames, frames, send, planned, receive, taken, grantIn}

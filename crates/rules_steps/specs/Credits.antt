@@ -1,6 +1,5 @@
 -- Credits, where a send uses them and a take grants them, each with the octets that say so. Document 01, 'Cutting, joining, credits'. Proved in Crediting.antt.
 use mathlib.Core.Path.{_≡_}
-use mathlib.Core.Bool.{Bool, true, false}
 use mathlib.Core.List.{List, [], _∷_, _++_}
 use Prim.Native.Nat.{ℕ, zero, suc, _+_, _-_, _≤_}
 use Rattle.octets.specs.Octets.{le16}
@@ -15,7 +14,7 @@ use Rattle.channel.specs.declared.Answer.the-variants.{Done, Refused, Frames, J
 use Rattle.channel.specs.declared.ChannelState.the-variants.{Connected}
 use Rattle.channel.specs.declared.Table.{Table}
 use Rattle.definition.specs.Mem.{Fill, given, job}
-use Rattle.definition.specs.Table.{slotAt, putSlot, withAccount, withPeerCredits, withQueue, isConnected, cidOf, nextId, spent}
+use Rattle.definition.specs.Table.{slotAt, putSlot, withAccount, withPeerCredits, withQueue, cidOf, nextId, spent}
 use Rattle.definition.specs.Outcome.{Outcome}
 use Rattle.definition.specs.Frames.{shifted}
 use Rattle.definition.specs.Calls.{Window, sends, plain, takes, bare, decide}

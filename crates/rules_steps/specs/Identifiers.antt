@@ -1,26 +1,23 @@
 -- An identifier is used up exactly where the table of Told.antt says so. Carried by that table (Telling.antt) and by no row being in both of its parts.
 use mathlib.Core.Path.{_≡_, refl, sym, ap, _∙_, subst}
-use mathlib.Core.Bool.{Bool, true, false, false≢true}
+use mathlib.Core.Bool.{false≢true}
 use mathlib.Core.List.{List, [], _∷_}
 use Prim.Native.Nat.{ℕ, _+_}
 use native.Mathlib.Omega.{arith}
 use lib.Dec.{eqb}
 use lib.ListN.{length}
-use borrow.Author.Tests.{eqb-true, eqb-false}
+use borrow.Author.Tests.{eqb-true}
 use Rattle.lists.specs.Choose.{choose, if-cases}
 use Rattle.signal.specs.declared.forms.Signal.{Signal}
 use Rattle.channel.specs.Limits.{identifierMost}
 use Rattle.channel.specs.declared.Answer.{Answer}
 use Rattle.channel.specs.declared.Answer.the-variants.{Done, Refused, At, Link, Opened, Due, Frames, Job, Attention, Number, Event}
-use Rattle.channel.specs.declared.ChannelState.{ChannelState}
-use Rattle.channel.specs.declared.ChannelState.the-variants.{PeerDisconnecting, Disconnecting}
+use Rattle.channel.specs.declared.ChannelState.the-variants.{PeerDisconnecting}
 use Rattle.channel.specs.declared.Table.{Table}
 use Rattle.definition.specs.Mem.{Fill}
-use Rattle.definition.specs.Table.{slotAt, isDisconnecting, nextId, spent}
-use Rattle.definition.specs.Outcome.{Outcome}
-use Rattle.definition.specs.Calls.{Call, plain, Request}
-use Rattle.definition.specs.Forms.{Fit}
-use Rattle.rules_steps.specs.Told.{Asks, disconnect, Replies, disconnected, speaks, Uses, request, refused-12, refused-13, Keeps, reply, silent, own, Told, uses, keeps, Tells, Exactly, IdentifiersUsed}
+use Rattle.definition.specs.Table.{slotAt, isDisconnecting, spent}
+use Rattle.definition.specs.Calls.{Call, Request}
+use Rattle.rules_steps.specs.Told.{Asks, disconnect, Replies, disconnected, speaks, Uses, request, refused-12, refused-13, Keeps, reply, silent, Told, uses, keeps, IdentifiersUsed}
 use Rattle.rules_steps.specs.Telling.{every-call-tells}
 
 -- the slot whose disconnect is due

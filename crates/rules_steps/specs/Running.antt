@@ -1,11 +1,7 @@
 -- Every run keeps the laws (Runs.antt): they hold of every table that has its slots, a made table has them, and no call takes one away (Safe.antt of the definition).
-use mathlib.Core.Path.{_≡_}
-use mathlib.Core.Bool.{Bool, true, false}
 use mathlib.Core.List.{List, [], _∷_}
 use Prim.Native.Nat.{ℕ, _≤_}
-use native.Mathlib.Omega.{arith}
 use lib.Dec.{leb, lit≤}
-use lib.ListN.{length}
 use borrow.Author.Tests.{leb-true, not-false}
 use Rattle.lists.specs.Choose.{if-cases}
 use Rattle.lists.specs.Both.{and-left, and-right}

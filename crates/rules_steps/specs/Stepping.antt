@@ -1,7 +1,7 @@
 -- Every call makes only the steps of the table (Steps.antt): one lemma a call, its tests in the definition's order.
 use mathlib.Core.Path.{_≡_, refl, sym, ap, _∙_, subst}
 use mathlib.Core.Bool.{Bool, true, false, _&&_, _||_, not, false≢true}
-use mathlib.Core.List.{List, [], _∷_, _++_, map}
+use mathlib.Core.List.{List, [], _∷_}
 use Prim.Native.Nat.{ℕ, zero, suc, _+_, _-_, _≤_, _<_}
 use native.Mathlib.Nat.{not-suc-le-zero, le-of-suc-le-suc}
 use native.Mathlib.Omega.{arith}
@@ -12,7 +12,7 @@ use borrow.Author.Tests.{eqb-true, eqb-false, eq-eqb, ne-eqb, le-leb, lt-ltb, le
 use Rattle.lists.specs.Choose.{choose, if-cases}
 use Rattle.lists.specs.Each.{mapFirst}
 use Rattle.lists.specs.Both.{and-left, and-right}
-use Rattle.codes.specs.Codes.{refusalNumber, resultNumber}
+use Rattle.codes.specs.Codes.{refusalNumber}
 use Rattle.codes.specs.declared.Refusal.{Refusal}
 use Rattle.codes.specs.declared.Refusal.the-variants as Refusal
 use Rattle.codes.specs.declared.ResultRead.{ResultRead}
@@ -51,7 +51,7 @@ use Rattle.cutting.specs.declared.Plan.{Plan}
 use Rattle.cutting.specs.declared.Plan.the-variants as Plan
 use Rattle.cutting.specs.Cutting.{planSend}
 use Rattle.cutting.specs.CutLaws.{plan-allowed}
-use Rattle.channel.specs.Limits.{cidBase, creditsMost, holdsMost}
+use Rattle.channel.specs.Limits.{cidBase}
 use Rattle.channel.specs.declared.Answer.{Answer}
 use Rattle.channel.specs.declared.Answer.the-variants.{Done, Refused, At, Link, Opened, Due, Frames}
 use Rattle.channel.specs.declared.ChannelState.{ChannelState}
@@ -60,13 +60,13 @@ use Rattle.channel.specs.declared.Given.the-variants.{Nothing, Is}
 use Rattle.channel.specs.declared.L2capChannelConfig.{L2capChannelConfig}
 use Rattle.channel.specs.declared.Slot.{Slot}
 use Rattle.channel.specs.declared.Table.{Table}
-use Rattle.definition.specs.Table.{gap, freed, slotAt, found, isDisconnected, isConnecting, isPeerConnecting, isConnected, isConnectFailed, isPeerDisconnecting, isDisconnecting, identifierOf, failureOf, isFree, ofLink, pendingOf, unheldPendingOf, attemptOf, attemptBy, connectedTo, dueSlot, index, cidOf, isCid, slotOf, nextId, withAccount}
-use Rattle.definition.specs.Outcome.{Outcome, still}
+use Rattle.definition.specs.Table.{gap, freed, slotAt, found, isDisconnected, isConnecting, isPeerConnecting, isConnected, isDisconnecting, failureOf, isFree, ofLink, pendingOf, unheldPendingOf, attemptOf, attemptBy, connectedTo, dueSlot, index, cidOf, isCid, slotOf, nextId, withAccount}
+use Rattle.definition.specs.Outcome.{Outcome}
 use Rattle.definition.specs.Pending.{nextPending, rejectAllPending, acceptPending, rejectPending, notCode, rejectRead, dropPending}
 use Rattle.definition.specs.Opening.{create, opened, giveUp}
 use Rattle.definition.specs.Closing.{incRef, decRef, disconnecting, disconnect, disconnectByCid, disconnected, nextDisconnect}
 use Rattle.definition.specs.Signals.{signalled, checked, handled, onReject, onDisconnectionReq, onDisconnectionRes, onParameters, onParameterResponse, onConnReq, onConnRes, onCredits}
-use Rattle.definition.specs.Frames.{dispatch, joined, send, planned, receive, taken, grantIn}
+use Rattle.definition.specs.Frames.{dispatch, joined, send, planned, receive, taken}
 use Rattle.definition.specs.Asking.{registerSpsm, attention, query, sendSignal}
 use Rattle.definition.specs.Calls.{Window, Call, frame, sends, down, plain, Request, register, signals, pends, rejectsAll, accepts, rejects, drops, creates, opens, gives, holds, releases, leaves, leavesCid, announces, takes, attends, asks, sendsSignal, writes, bare, decide, serve}
 use Rattle.definition.specs.Numbers.{refused-not-0}

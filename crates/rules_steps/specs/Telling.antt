@@ -1,16 +1,15 @@
 -- Every call tells what the table says (Told.antt): one lemma a call, its tests in the definition's order.
 use mathlib.Core.Path.{_≡_, refl, sym, ap, _∙_, subst}
-use mathlib.Core.Bool.{Bool, true, false, _||_, not, false≢true}
+use mathlib.Core.Bool.{Bool, true, false, _||_}
 use mathlib.Core.List.{List, [], _∷_}
-use Prim.Native.Nat.{ℕ, _≤_, _<_}
+use Prim.Native.Nat.{ℕ, _≤_}
 use native.Mathlib.Omega.{arith}
-use lib.Dec.{eqb, leb}
+use lib.Dec.{eqb}
 use lib.ListN.{getD}
 use borrow.Author.Tests.{eqb-true, ne-eqb, not-false}
 use Rattle.lists.specs.Choose.{choose, choose-true, choose-false, if-cases}
 use Rattle.lists.specs.Both.{and-left, and-right}
 use Rattle.codes.specs.Codes.{refusalNumber}
-use Rattle.codes.specs.declared.LeCreditConnResultCode.{LeCreditConnResultCode}
 use Rattle.codes.specs.declared.Refusal.{Refusal}
 use Rattle.codes.specs.declared.ResultRead.{ResultRead}
 use Rattle.codes.specs.declared.ResultRead.the-variants.{Known, Unknown}
@@ -44,25 +43,24 @@ use Rattle.cutting.specs.declared.Plan.{Plan}
 use Rattle.cutting.specs.declared.Plan.the-variants as Plan
 use Rattle.channel.specs.declared.Answer.{Answer}
 use Rattle.channel.specs.declared.ChannelState.{ChannelState}
-use Rattle.channel.specs.declared.ChannelState.the-variants.{PeerConnecting}
 use Rattle.channel.specs.declared.Given.the-variants.{Nothing, Is}
 use Rattle.channel.specs.declared.L2capChannelConfig.{L2capChannelConfig}
 use Rattle.channel.specs.declared.Slot.{Slot}
 use Rattle.channel.specs.declared.Table.{Table}
-use Rattle.definition.specs.Mem.{Fill, given}
-use Rattle.definition.specs.Table.{slotAt, found, isPeerConnecting, isConnected, identifierOf, pendingOf, unheldPendingOf, dueSlot}
-use Rattle.definition.specs.Outcome.{Outcome, still}
+use Rattle.definition.specs.Mem.{given}
+use Rattle.definition.specs.Table.{slotAt, found, isPeerConnecting, isConnected, pendingOf, unheldPendingOf, dueSlot}
+use Rattle.definition.specs.Outcome.{Outcome}
 use Rattle.definition.specs.Pending.{nextPending, rejectAllPending, acceptPending, rejectPending, notCode, rejectRead, dropPending}
 use Rattle.definition.specs.Opening.{create, opened, giveUp}
 use Rattle.definition.specs.Closing.{incRef, decRef, disconnecting, disconnect, disconnectByCid, disconnected, nextDisconnect}
-use Rattle.definition.specs.Signals.{signalled, checked, handled, onReject, onDisconnectionReq, onDisconnectionRes, onParameters, onParameterResponse, onConnReq, onConnRes, onCredits, rejectReply}
+use Rattle.definition.specs.Signals.{signalled, checked, handled, onReject, onDisconnectionReq, onDisconnectionRes, onParameters, onParameterResponse, onConnReq, onConnRes, onCredits}
 use Rattle.definition.specs.Frames.{dispatch, joined, send, planned, receive, taken, grantIn}
 use Rattle.definition.specs.Asking.{registerSpsm, attention, query, sendSignal}
-use Rattle.definition.specs.Calls.{Window, Call, frame, sends, down, plain, Request, register, signals, pends, rejectsAll, accepts, rejects, drops, creates, opens, gives, holds, releases, leaves, leavesCid, announces, takes, attends, asks, sendsSignal, writes, bare, decide, serve}
+use Rattle.definition.specs.Calls.{Window, frame, sends, down, plain, Request, register, signals, pends, rejectsAll, accepts, rejects, drops, creates, opens, gives, holds, releases, leaves, leavesCid, announces, takes, attends, asks, sendsSignal, writes, bare, decide, serve}
 use Rattle.definition.specs.Numbers.{refused-not-0}
 use Rattle.definition.specs.Forms.{Fit, found-passes}
 use Rattle.rules_steps.specs.Tools.{gate-cases, is-pending, is-connected, is-peer-leaving, is-unannounced}
-use Rattle.rules_steps.specs.Told.{Asks, connect, credits, parameters, Replies, accepted, rejected, cleared, repliedTo, not-understood, not-connected, not-valid, request, refused-12, refused-13, reply, silent, frame-in, frames-out, link-down, own, Told, uses, keeps, Tells, EveryCallTells}
+use Rattle.rules_steps.specs.Told.{connect, credits, parameters, Replies, accepted, rejected, cleared, repliedTo, not-understood, not-connected, not-valid, request, refused-12, refused-13, reply, silent, frame-in, frames-out, link-down, own, Told, uses, keeps, Tells, EveryCallTells}
 use Rattle.rules_steps.specs.Told as Told
 
 -- the gate's refusals are neither 12 nor 13

@@ -4,7 +4,7 @@ use mathlib.Core.Path.{_≡_, refl, sym, ap, _∙_, subst}
 use mathlib.Core.Bool.{false≢true}
 use Prim.Native.Nat.{ℕ, zero, suc, _+_, _-_, _≤_, min}
 use native.Mathlib.Omega.{arith}
-use borrow.Author.Tests.{eqb-false, not-false}
+use borrow.Author.Tests.{eqb-true, eqb-false, not-false}
 use Rattle.lists.specs.Choose.{if-cases}
 use Rattle.credit.specs.declared.CreditFlowControl.{CreditFlowControl}
 use Rattle.credit.specs.declared.Grant.{Grant}
@@ -106,7 +106,7 @@ module _ (t : Table) (s size : ℕ) where
   receive-takes room signal =
       gate-cases T t _ _ _ _ (λ r h. Credits.Takes.refused)
       (λ _. if-cases T _ (λ _. Credits.Takes.refused)
-      (λ _. if-cases T _ (λ _. none-waits) (λ _. granted-is y (λ g. T (taken t s y size g)) (λ on. on-grant on _ refl) off-grant)))
+      (λ _. if-cases T _ (λ e. none-waits (eqb-true (y .queue .count) 0 e)) (λ _. granted-is y (λ g. T (taken t s y size g)) (λ on. on-grant on _ refl) off-grant)))
 
 pub every-take : EveryTake
 unfolding decide bare serve

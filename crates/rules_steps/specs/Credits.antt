@@ -51,7 +51,7 @@ pub data Takes (t : Table) (s : ℕ) : Answer → Table → List Fill → Type 0
       (given (encodeOf (nextId t) (LeCreditFlowInd (record { cid = cidOf s; credits = n }))) ∷ [])
   grants-none : {copied len : ℕ} → (slotAt t s .state ≡ Connected → grantOf (slotAt t s .account) ≡ Nothing)
       → Takes t s (Job (slotAt t s .link) copied len) (putSlot t s (withQueue (shifted (slotAt t s .queue)) (slotAt t s))) []
-  none-waits : Takes t s Done t []  -- "no job waiting .. writes and grants nothing"
+  none-waits : slotAt t s .queue .count ≡ 0 → Takes t s Done t []  -- "no job waiting .. writes and grants nothing"
   refused : {r : Refusal} → Takes t s (Refused r) t []
 
 abbrev pub TakesAs : Table → (s : ℕ) → Outcome → Type 0

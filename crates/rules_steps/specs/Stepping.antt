@@ -60,7 +60,7 @@ use Rattle.channel.specs.declared.Given.the-variants.{Nothing, Is}
 use Rattle.channel.specs.declared.L2capChannelConfig.{L2capChannelConfig}
 use Rattle.channel.specs.declared.Slot.{Slot}
 use Rattle.channel.specs.declared.Table.{Table}
-use Rattle.definition.specs.Table.{gap, freed, slotAt, found, isDisconnected, isConnecting, isPeerConnecting, isConnected, isDisconnecting, failureOf, isFree, ofLink, pendingOf, unheldPendingOf, attemptOf, attemptBy, connectedTo, dueSlot, index, cidOf, isCid, slotOf, nextId, withAccount}
+use Rattle.definition.specs.Table.{gap, freed, slotAt, found, isDisconnected, isConnecting, isPeerConnecting, isConnected, isDisconnecting, failureOf, isFree, ofLink, pendingOf, unheldPendingOf, attemptOf, attemptBy, connectedTo, dueSlot, index, cidOf, isCid, slotOf, usesPeer, isRegistered, nextId, withAccount}
 use Rattle.definition.specs.Outcome.{Outcome}
 use Rattle.definition.specs.Pending.{nextPending, rejectAllPending, acceptPending, rejectPending, notCode, rejectRead, dropPending}
 use Rattle.definition.specs.Opening.{create, opened, giveUp}
@@ -72,7 +72,7 @@ use Rattle.definition.specs.Calls.{Window, Call, frame, sends, down, plain, Req
 use Rattle.definition.specs.Numbers.{refused-not-0}
 use Rattle.definition.specs.Forms.{Fit, found-passes}
 use Rattle.rules_steps.specs.Tools.{gate-cases, is-pending, is-connected, is-peer-leaving, is-unannounced, is-free, is-attempt, is-failed, leaving-cases, left-cases, given-up-cases, and-off, and-off-right, or-off, or-none, held}
-use Rattle.rules_steps.specs.Steps.{Seen, seen, is, free, Row, byCode, namesAsDcid, namesAsScid, grantsTo, isGood, steps, isNumber, Step, row, stay, stay-down, stay-frame, stay-send, link-down, overrun, Steps, EveryStep}
+use Rattle.rules_steps.specs.Steps.{Seen, seen, is, free, Row, byCode, namesAsDcid, namesAsScid, admits, grantsTo, isGood, steps, isNumber, Step, row, stay, stay-down, stay-frame, stay-send, link-down, overrun, Steps, EveryStep}
 use Rattle.rules_steps.specs.Steps as Steps
 
 -- a slot that was read, by what its tests told
@@ -382,31 +382,45 @@ module _ (t : Table) (fit : Fit t) (v w : Window) where
 
   -- ---- signals
 
-  code-06 : {code : ℕ} (a b c d : Bool) → code ≡ 0x06 → a ≡ false → byCode code a b c d ≡ false
+  code-06 : {code : ℕ} (a b m c d : Bool) → code ≡ 0x06 → a ≡ false → byCode code a b m c d ≡ false
   unfolding byCode
-  code-06 a b c d e f = rw (e, f)
+  code-06 a b m c d e f = rw (e, f)
 
-  code-07 : {code : ℕ} (a b c d : Bool) → code ≡ 0x07 → b ≡ false → byCode code a b c d ≡ false
+  code-07 : {code : ℕ} (a b m c d : Bool) → code ≡ 0x07 → b ≡ false → byCode code a b m c d ≡ false
   unfolding byCode
-  code-07 a b c d e f = rw (e, f)
+  code-07 a b m c d e f = rw (e, f)
 
-  code-15 : {code : ℕ} (a b c d : Bool) → code ≡ 0x15 → c ≡ false → byCode code a b c d ≡ false
+  code-14 : {code : ℕ} (a b m c d : Bool) → code ≡ 0x14 → m ≡ false → byCode code a b m c d ≡ false
   unfolding byCode
-  code-15 a b c d e f = rw (e, f)
+  code-14 a b m c d e f = rw (e, f)
 
-  code-16 : {code : ℕ} (a b c d : Bool) → code ≡ 0x16 → d ≡ false → byCode code a b c d ≡ false
+  code-15 : {code : ℕ} (a b m c d : Bool) → code ≡ 0x15 → c ≡ false → byCode code a b m c d ≡ false
   unfolding byCode
-  code-16 a b c d e f = rw (e, f)
+  code-15 a b m c d e f = rw (e, f)
+
+  code-16 : {code : ℕ} (a b m c d : Bool) → code ≡ 0x16 → d ≡ false → byCode code a b m c d ≡ false
+  unfolding byCode
+  code-16 a b m c d e f = rw (e, f)
 
   -- any other code
-  code-else : (code : ℕ) (a b c d : Bool) → eqb code 0x06 ≡ false → eqb code 0x07 ≡ false → eqb code 0x15 ≡ false → eqb code 0x16 ≡ false → byCode code a b c d ≡ false
+  code-else : (code : ℕ) (a b m c d : Bool) → eqb code 0x06 ≡ false → eqb code 0x07 ≡ false → eqb code 0x14 ≡ false → eqb code 0x15 ≡ false → eqb code 0x16 ≡ false → byCode code a b m c d ≡ false
   unfolding byCode
-  code-else code a b c d e f g h = rw (e, f, g, h)
+  code-else code a b m c d e f j g h = rw (e, f, j, g, h)
 
   -- an answer that moves no slot, whatever the code
-  code-any : (code : ℕ) {a b c d : Bool} → a ≡ false → b ≡ false → c ≡ false → d ≡ false → byCode code a b c d ≡ false
+  code-any : (code : ℕ) {a b m c d : Bool} → a ≡ false → b ≡ false → m ≡ false → c ≡ false → d ≡ false → byCode code a b m c d ≡ false
   unfolding byCode
-  code-any code e f g h = rw (and-off-right (eqb code 0x06) e, and-off-right (eqb code 0x07) f, and-off-right (eqb code 0x15) g, and-off-right (eqb code 0x16) h)
+  code-any code e f j g h = rw (and-off-right (eqb code 0x06) e, and-off-right (eqb code 0x07) f, and-off-right (eqb code 0x14) j, and-off-right (eqb code 0x15) g, and-off-right (eqb code 0x16) h)
+
+  -- the three tests that a connect request must pass
+  refused-2 : (a b c : Bool) → not a ≡ true → (a && (b && not c)) ≡ false
+  refused-2 a b c e = and-off (b && not c) (not-true a e)
+
+  refused-4 : (a b c : Bool) → not b ≡ true → (a && (b && not c)) ≡ false
+  refused-4 a b c e = and-off-right a (and-off (not c) (not-true b e))
+
+  refused-10 : (a b c : Bool) → c ≡ true → (a && (b && not c)) ≡ false
+  refused-10 a b c e = and-off-right a (and-off-right b (ap not e))
 
   module _ (link : ℕ) (listening central : Bool) (pdu : List ℕ) where
     abbrev G : Request
@@ -421,7 +435,7 @@ module _ (t : Table) (fit : Fit t) (v w : Window) where
     -- refusals of the header check and of the body
     not-handled : (a : Answer) → isNumber 0 a ≡ false → isNumber 8 a ≡ false → isNumber 17 a ≡ false → (isNumber 9 a && isGood (headersOf pdu)) ≡ false
         → (i : ℕ) (x : Seen) → steps t i G a x ≡ false
-    not-handled a e f g h i x = code-any (getD pdu 0 0) (and-off _ e) (and-off _ e) (or-none (and-off _ f) (and-off _ (or-none e g))) (and-off _ (or-none e h))
+    not-handled a e f g h i x = code-any (getD pdu 0 0) (and-off _ e) (and-off _ e) (and-off _ e) (or-none (and-off _ f) (and-off _ (or-none e g))) (and-off _ (or-none e h))
 
     -- a slot stays
     rests : {a : Answer} → ((i : ℕ) (x : Seen) → steps t i G a x ≡ false) → (i : ℕ) → i < t .n → Step t i (plain G v w) a (seen (slotAt t i)) (seen (slotAt t i))
@@ -440,19 +454,19 @@ module _ (t : Table) (fit : Fit t) (v w : Window) where
         let s = slotOf (req .dcid) in
         let x = slotAt t s in
         let named : (i : ℕ) → namesAsDcid i (disconnectionReq (bodyIn pdu)) ≡ eqb (cidOf i) (req .dcid) = λ i. ap (namesAsDcid i) q in
-        if-cases (S G) _ (λ e i l. stay (code-06 _ _ _ _ c (and-off _ (named i ∙ no-cid t (req .dcid) (not-true _ e) i l))))
+        if-cases (S G) _ (λ e i l. stay (code-06 _ _ _ _ _ c (and-off _ (named i ∙ no-cid t (req .dcid) (not-true _ e) i l))))
         (λ e.
         let on : isCid t (req .dcid) ≡ true = not-false _ e in
         let back = cid-back t (req .dcid) on in
         let at : (i : ℕ) → namesAsDcid i (disconnectionReq (bodyIn pdu)) ≡ eqb i s = λ i. named i ∙ ap (eqb (cidOf i)) (sym back) ∙ cid-eqb i s in
         if-cases (S G) _
-        (λ f i l. stay (code-06 _ _ _ _ c (ap (λ (z : Bool). z && ofLink link (slotAt t i)) (at i) ∙ only-at s i (ofLink link) (not-true _ f))))
+        (λ f i l. stay (code-06 _ _ _ _ _ c (ap (λ (z : Bool). z && ofLink link (slotAt t i)) (at i) ∙ only-at s i (ofLink link) (not-true _ f))))
         (λ f.
         let its : ofLink link x ≡ true = not-false _ f in
         steps-one G _ s _ (cid-slot t (req .dcid) on)
         (seen-as (λ k h l. Row t s G Done (is k h l (x .peer .credits)) (is (PeerDisconnecting id) h l (x .peer .credits))) x refl refl
         (eqb-true _ _ (and-right (not (isDisconnected (x .state))) _ its)) (Steps.peer-leaves c q (sym back) (not-true _ (and-left (not (isDisconnected (x .state))) _ its))))
-        (λ i z. code-06 _ _ _ _ c (and-off _ (at i ∙ z)))))
+        (λ i z. code-06 _ _ _ _ _ c (and-off _ (at i ∙ z)))))
 
     on-disconnection-res : code ≡ 0x07 → (b : DisconnectionResRead) → disconnectionRes (bodyIn pdu) ≡ b → S G (onDisconnectionRes t link id b)
     unfolding onDisconnectionRes
@@ -461,31 +475,36 @@ module _ (t : Table) (fit : Fit t) (v w : Window) where
         let s = slotOf (res .scid) in
         let x = slotAt t s in
         let named : (i : ℕ) → namesAsScid i (disconnectionRes (bodyIn pdu)) ≡ eqb (cidOf i) (res .scid) = λ i. ap (namesAsScid i) q in
-        if-cases (S G) _ (λ e i l. stay (code-07 _ _ _ _ c (and-off _ (named i ∙ no-cid t (res .scid) (not-true _ e) i l))))
+        if-cases (S G) _ (λ e i l. stay (code-07 _ _ _ _ _ c (and-off _ (named i ∙ no-cid t (res .scid) (not-true _ e) i l))))
         (λ e.
         let on : isCid t (res .scid) ≡ true = not-false _ e in
         let back = cid-back t (res .scid) on in
         let at : (i : ℕ) → namesAsScid i (disconnectionRes (bodyIn pdu)) ≡ eqb i s = λ i. named i ∙ ap (eqb (cidOf i)) (sym back) ∙ cid-eqb i s in
         if-cases (S G) _
-        (λ f i l. stay (code-07 _ _ _ _ c (ap (λ (z : Bool). z && (isDisconnecting (slotAt t i .state) && eqb (slotAt t i .link) link)) (at i) ∙ only-at s i (λ y. isDisconnecting (y .state) && eqb (y .link) link) (not-true _ f))))
+        (λ f i l. stay (code-07 _ _ _ _ _ c (ap (λ (z : Bool). z && (isDisconnecting (slotAt t i .state) && eqb (slotAt t i .link) link)) (at i) ∙ only-at s i (λ y. isDisconnecting (y .state) && eqb (y .link) link) (not-true _ f))))
         (λ f.
         let its : (isDisconnecting (x .state) && eqb (x .link) link) ≡ true = not-false _ f in
         steps-one G _ s _ (cid-slot t (res .scid) on)
         (leaving-cases (λ k. Row t s G Done (is k (x .hold) (x .link) (x .peer .credits)) (free (x .hold))) (x .state) (and-left (isDisconnecting (x .state)) _ its)
         (λ a. subst (λ (l : ℕ). Row t s G Done (is (Disconnecting a) (x .hold) l (x .peer .credits)) (free (x .hold))) (sym (eqb-true _ _ (and-right (isDisconnecting (x .state)) _ its))) (Steps.peer-confirms c q (sym back))))
-        (λ i z. code-07 _ _ _ _ c (and-off _ (at i ∙ z)))))
+        (λ i z. code-07 _ _ _ _ _ c (and-off _ (at i ∙ z)))))
 
     on-conn-req : code ≡ 0x14 → (b : LeCreditConnReqRead) → leCreditConnReq (bodyIn pdu) ≡ b → S G (onConnReq t link listening id b)
     unfolding onConnReq
     on-conn-req c LeCreditConnReq.Decode q = bad-body
     on-conn-req c (LeCreditConnReq.Is req) q =
-        let off : (a : Answer) (i : ℕ) (x : Seen) → steps t i G a x ≡ false = λ a i x. code-else code _ _ _ _ (rw c) (rw c) (rw c) (rw c) in
-        if-cases (S G) _ (λ _. unmoved off)
-        (λ _. if-cases (S G) _ (λ _. unmoved off)
-        (λ n. if-cases (S G) _ (λ _. unmoved off)
-        (λ _. if-cases (S G) _ (λ _. unmoved off)
-        (λ e.
         let s = found isFree t in
+        let known : Bool = isRegistered t (req .spsm) in
+        let shared : Bool = ltb (found (usesPeer link (req .scid)) t) (t .n) in
+        let admitted : Bool = known && (listening && not shared) in
+        let is-admitted : admits t link listening (leCreditConnReq (bodyIn pdu)) ≡ admitted = ap (admits t link listening) q in
+        let off : (i : ℕ) → (admitted && eqb i s) ≡ false → steps t i G Done (seen (slotAt t i)) ≡ false = λ i z. code-14 _ _ _ _ _ c (ap (λ (b : Bool). b && eqb i s) is-admitted ∙ z) in
+        let not-admitted : admitted ≡ false → (i : ℕ) → steps t i G Done (seen (slotAt t i)) ≡ false = λ z i. off i (and-off (eqb i s) z) in
+        if-cases (S G) _ (λ e i l. stay (not-admitted (refused-2 known listening shared e) i))
+        (λ _. if-cases (S G) _ (λ e i l. stay (not-admitted (refused-4 known listening shared e) i))
+        (λ n. if-cases (S G) _ (λ e i l. stay (not-admitted (refused-10 known listening shared e) i))
+        (λ _. if-cases (S G) _ (λ e i l. stay (off i (and-off-right admitted (let z : t .n ≤ s = leb-true _ _ e in ne-eqb i s (λ u. omega arith)))))
+        (λ e.
         let x = slotAt t s in
         let p : isFree x ≡ true = found-passes t fit isFree e in
         let y : Seen = is (PeerConnecting id) 0 link (req .credits) in
@@ -493,7 +512,7 @@ module _ (t : Table) (fit : Fit t) (v w : Window) where
         (subst (λ (u : Bool). Row t s (signals link u central pdu) Done (seen x) y) (sym (not-false _ n))
         (seen-as (λ k h l. Row t s (signals link true central pdu) Done (is k h l (x .peer .credits)) y) x
         (is-free (x .state) (and-left (isDisconnected (x .state)) _ p)) (eqb-true _ _ (and-right (isDisconnected (x .state)) _ p)) refl (Steps.peer-asks c q refl)))
-        (λ i z. off Done i (seen (slotAt t i)))))))
+        (λ i z. off i (and-off-right admitted z))))))
 
     on-conn-res : code ≡ 0x15 → (b : LeCreditConnResRead) → leCreditConnRes (bodyIn pdu) ≡ b → S G (onConnRes t link id b)
     unfolding onConnRes
@@ -506,7 +525,7 @@ module _ (t : Table) (fit : Fit t) (v w : Window) where
         (λ e. all t fit (plain G v w) (Refused Refusal.NotFound) (attemptOf link)
         (λ i z f. row (seen-as (λ k h l. Row t i G (Refused Refusal.NotFound) (is k h l (z .peer .credits)) (free h)) z
         (is-attempt (z .state) (and-left (isConnecting (z .state)) _ f)) refl (eqb-true _ _ (and-right (isConnecting (z .state)) _ f)) (Steps.unmatched c (leb-true _ _ e))))
-        (λ i z f. stay (code-15 _ _ _ _ c (or-off f))))
+        (λ i z f. stay (code-15 _ _ _ _ _ c (or-off f))))
         (λ e.
         let f : attemptBy link id x ≡ true = found-passes t fit (attemptBy link id) e in
         let g : attemptOf link x ≡ true = and-left (attemptOf link x) _ f in
@@ -515,10 +534,10 @@ module _ (t : Table) (fit : Fit t) (v w : Window) where
         if-cases (S G) _
         (λ z. steps-one G _ s _ (leb-false _ _ e)
         (seen-as (λ k h l. Row t s G Done (is k h l p) (is Connected h l (res .credits))) x k-is refl l-is (Steps.peer-accepts c q refl (eqb-true _ _ z)))
-        (λ i u. code-15 _ _ _ _ c u))
+        (λ i u. code-15 _ _ _ _ _ c u))
         (λ z. steps-one G _ s _ (leb-false _ _ e)
         (seen-as (λ k h l. Row t s G (Refused (Refusal.ConnectError (res .result))) (is k h l p) (is (ConnectFailed (res .result)) h l p)) x k-is refl l-is (Steps.peer-refuses c q refl (eqb-false _ _ z)))
-        (λ i u. code-15 _ _ _ _ c u)))
+        (λ i u. code-15 _ _ _ _ _ c u)))
 
     on-credits : code ≡ 0x16 → (b : LeCreditFlowIndRead) → leCreditFlowInd (bodyIn pdu) ≡ b → S G (onCredits t link id b)
     unfolding onCredits
@@ -527,7 +546,7 @@ module _ (t : Table) (fit : Fit t) (v w : Window) where
         let s = found (connectedTo link (ind .cid)) t in
         let x = slotAt t s in
         let p = x .peer .credits in
-        if-cases (S G) _ (λ _ i l. stay (code-16 _ _ _ _ c refl))
+        if-cases (S G) _ (λ _ i l. stay (code-16 _ _ _ _ _ c refl))
         (λ e.
         let f : connectedTo link (ind .cid) x ≡ true = found-passes t fit (connectedTo link (ind .cid)) e in
         let k-is : x .state ≡ Connected = is-connected (x .state) (and-left (isConnected (x .state)) _ f) in
@@ -536,10 +555,10 @@ module _ (t : Table) (fit : Fit t) (v w : Window) where
         if-cases (S G) _
         (λ z. steps-one G _ s _ (leb-false _ _ e)
         (seen-as (λ k h l. Row t s G (Refused Refusal.InvalidValue) (is k h l p) (is (Disconnecting false) h l p)) x k-is refl l-is (Steps.peer-overflows c q refl (ltb-true _ _ z)))
-        (λ i u. code-16 _ _ _ _ c (and-off-right (isGood (headersOf pdu)) (to i ∙ u))))
+        (λ i u. code-16 _ _ _ _ _ c (and-off-right (isGood (headersOf pdu)) (to i ∙ u))))
         (λ z. steps-one G _ s _ (leb-false _ _ e)
         (seen-as (λ k h l. Row t s G Done (is k h l p) (is k h l (p + ind .credits))) x k-is refl l-is (Steps.peer-grants c q refl (ltb-false _ _ z)))
-        (λ i u. code-16 _ _ _ _ c (to i ∙ u))))
+        (λ i u. code-16 _ _ _ _ _ c (to i ∙ u))))
 
     -- signals of the other codes move no slot
     module _ (off : (a : Answer) (i : ℕ) (x : Seen) → steps t i G a x ≡ false) where
@@ -559,21 +578,21 @@ module _ (t : Table) (fit : Fit t) (v w : Window) where
       on-parameter-response (ConnParamUpdateRes.Is res) = unmoved off
 
     -- what is known of a code that is n, other than those that move slots
-    off-code : (n : ℕ) → eqb code n ≡ true → eqb n 0x06 ≡ false → eqb n 0x07 ≡ false → eqb n 0x15 ≡ false → eqb n 0x16 ≡ false → (a : Answer) (i : ℕ) (x : Seen) → steps t i G a x ≡ false
-    off-code n e f g h j a i x = let c = eqb-true code n e in code-else code _ _ _ _ (rw c f) (rw c g) (rw c h) (rw c j)
+    off-code : (n : ℕ) → eqb code n ≡ true → eqb n 0x06 ≡ false → eqb n 0x07 ≡ false → eqb n 0x14 ≡ false → eqb n 0x15 ≡ false → eqb n 0x16 ≡ false → (a : Answer) (i : ℕ) (x : Seen) → steps t i G a x ≡ false
+    off-code n e f g m h j a i x = let c = eqb-true code n e in code-else code _ _ _ _ _ (rw c f) (rw c g) (rw c m) (rw c h) (rw c j)
 
     handled-steps : S G (handled t link listening central code id (bodyIn pdu))
     unfolding handled
     handled-steps =
-        if-cases (S G) _ (λ e. on-reject (off-code 0x01 e refl refl refl refl) _)
+        if-cases (S G) _ (λ e. on-reject (off-code 0x01 e refl refl refl refl refl) _)
         (λ _. if-cases (S G) _ (λ e. on-disconnection-req (eqb-true _ _ e) _ refl)
         (λ a. if-cases (S G) _ (λ e. on-disconnection-res (eqb-true _ _ e) _ refl)
         (λ b. if-cases (S G) _
-        (λ e. if-cases (S G) _ (λ _. on-parameters (off-code 0x12 e refl refl refl refl) _) (λ _. unmoved (off-code 0x12 e refl refl refl refl)))
-        (λ _. if-cases (S G) _ (λ e. on-parameter-response (off-code 0x13 e refl refl refl refl) _)
+        (λ e. if-cases (S G) _ (λ _. on-parameters (off-code 0x12 e refl refl refl refl refl) _) (λ _. unmoved (off-code 0x12 e refl refl refl refl refl)))
+        (λ _. if-cases (S G) _ (λ e. on-parameter-response (off-code 0x13 e refl refl refl refl refl) _)
         (λ _. if-cases (S G) _ (λ e. on-conn-req (eqb-true _ _ e) _ refl)
-        (λ _. if-cases (S G) _ (λ e. on-conn-res (eqb-true _ _ e) _ refl)
-        (λ c. if-cases (S G) _ (λ e. on-credits (eqb-true _ _ e) _ refl) (λ d. rests (λ i x. code-else code _ _ _ _ a b c d)))))))))
+        (λ m. if-cases (S G) _ (λ e. on-conn-res (eqb-true _ _ e) _ refl)
+        (λ c. if-cases (S G) _ (λ e. on-credits (eqb-true _ _ e) _ refl) (λ d. rests (λ i x. code-else code _ _ _ _ _ a b m c d)))))))))
 
     checked-steps : (h : Checked) → headersOf pdu ≡ h → S G (checked t link listening central pdu h)
     unfolding checked
@@ -581,7 +600,7 @@ module _ (t : Table) (fit : Fit t) (v w : Window) where
     checked-steps (Past n) e = rests (not-handled (Refused Refusal.InvalidValue) refl refl refl (ap isGood e))
     checked-steps Good e =
         if-cases (S G) _
-        (λ z. let c = no-code pdu (eqb-true _ _ z) in rests (λ i x. code-else code _ _ _ _ (rw c) (rw c) (rw c) (rw c)))
+        (λ z. let c = no-code pdu (eqb-true _ _ z) in rests (λ i x. code-else code _ _ _ _ _ (rw c) (rw c) (rw c) (rw c) (rw c)))
         (λ _. handled-steps)
 
     signalled-steps : (room signal : ℕ) → S G (signalled t room signal link listening central pdu)

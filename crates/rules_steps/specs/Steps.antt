@@ -4,7 +4,7 @@ use mathlib.Core.Path.{_≡_}
 use mathlib.Core.Bool.{Bool, true, false, _&&_, _||_, not}
 use mathlib.Core.List.{List}
 use Prim.Native.Nat.{ℕ, suc, _+_, _-_, _≤_, _<_}
-use lib.Dec.{eqb}
+use lib.Dec.{eqb, ltb}
 use lib.ListN.{getD}
 use Rattle.codes.specs.declared.LeCreditConnResultCode.{LeCreditConnResultCode}
 use Rattle.codes.specs.Codes.{resultNumber}
@@ -20,6 +20,7 @@ use Rattle.bodies.specs.declared.DisconnectionReqRead.{DisconnectionReqRead}
 use Rattle.bodies.specs.declared.DisconnectionReqRead.the-variants as DisconnectionReq
 use Rattle.bodies.specs.declared.DisconnectionResRead.{DisconnectionResRead}
 use Rattle.bodies.specs.declared.DisconnectionResRead.the-variants as DisconnectionRes
+use Rattle.le_credit_bodies.specs.declared.LeCreditConnReqRead.{LeCreditConnReqRead}
 use Rattle.le_credit_bodies.specs.declared.LeCreditConnReqRead.the-variants as LeCreditConnReq
 use Rattle.le_credit_bodies.specs.declared.LeCreditConnResRead.the-variants as LeCreditConnRes
 use Rattle.le_credit_bodies.specs.declared.LeCreditFlowIndRead.{LeCreditFlowIndRead}
@@ -37,7 +38,7 @@ use Rattle.channel.specs.declared.ChannelState.the-variants.{Disconnected, Conn
 use Rattle.channel.specs.declared.L2capChannelConfig.{L2capChannelConfig}
 use Rattle.channel.specs.declared.Slot.{Slot}
 use Rattle.channel.specs.declared.Table.{Table}
-use Rattle.definition.specs.Table.{slotAt, found, isDisconnected, isConnecting, isPeerConnecting, isConnected, isDisconnecting, isFree, pendingOf, unheldPendingOf, attemptBy, connectedTo, dueSlot, index, cidOf, nextId}
+use Rattle.definition.specs.Table.{slotAt, found, isDisconnected, isConnecting, isPeerConnecting, isConnected, isDisconnecting, isFree, pendingOf, unheldPendingOf, attemptBy, connectedTo, usesPeer, dueSlot, index, cidOf, nextId, isRegistered}
 use Rattle.definition.specs.Outcome.{Outcome}
 use Rattle.definition.specs.Calls.{Window, Call, frame, sends, down, plain, Request, register, signals, pends, rejectsAll, accepts, rejects, drops, creates, opens, gives, holds, releases, leaves, leavesCid, announces, takes, attends, asks, sendsSignal, writes, bare, decide}
 use Rattle.definition.specs.Numbers.{answerNumber}
@@ -145,10 +146,10 @@ gives-slot i (Event min max latency timeout) = false
 abbrev pub isNumber : ℕ → Answer → Bool
 isNumber n a = eqb (answerNumber a) n
 
--- A signal: which slots its first code must have moved, given the answer. (0x14 answers 0 whatever comes of it: what is written tells, Told.antt.)
+-- A signal: which slots its code must have moved, given the answer.
 
-unfoldable pub byCode : (code : ℕ) (x06 x07 x15 x16 : Bool) → Bool
-byCode code x06 x07 x15 x16 = (eqb code 0x06 && x06) || ((eqb code 0x07 && x07) || ((eqb code 0x15 && x15) || (eqb code 0x16 && x16)))
+unfoldable pub byCode : (code : ℕ) (x06 x07 x14 x15 x16 : Bool) → Bool
+byCode code x06 x07 x14 x15 x16 = (eqb code 0x06 && x06) || ((eqb code 0x07 && x07) || ((eqb code 0x14 && x14) || ((eqb code 0x15 && x15) || (eqb code 0x16 && x16))))
 
 abbrev pub namesAsDcid : (i : ℕ) → DisconnectionReqRead → Bool
 namesAsDcid i DisconnectionReq.Decode = false
@@ -157,6 +158,11 @@ namesAsDcid i (DisconnectionReq.Is req) = eqb (cidOf i) (req .dcid)
 abbrev pub namesAsScid : (i : ℕ) → DisconnectionResRead → Bool
 namesAsScid i DisconnectionRes.Decode = false
 namesAsScid i (DisconnectionRes.Is res) = eqb (cidOf i) (res .scid)
+
+-- "SPSM not registered → result 2; not listening → 4; peer CID used on this link by a slot not Disconnected → 10": none of these
+abbrev pub admits : Table → (link : ℕ) (listening : Bool) → LeCreditConnReqRead → Bool
+admits t l listening LeCreditConnReq.Decode = false
+admits t l listening (LeCreditConnReq.Is req) = isRegistered t (req .spsm) && (listening && not (ltb (found (usesPeer l (req .scid)) t) (t .n)))
 
 abbrev pub grantsTo : Table → (i link : ℕ) → LeCreditFlowIndRead → Bool
 grantsTo t i l LeCreditFlowInd.Decode = false
@@ -167,17 +173,18 @@ isGood Good = true
 isGood Cut = false
 isGood (Past id) = false
 
-abbrev pub signalSteps : Table → (i link : ℕ) → (pdu : List ℕ) → Answer → Seen → Bool
-signalSteps t i l pdu a x =
+abbrev pub signalSteps : Table → (i link : ℕ) (listening : Bool) (pdu : List ℕ) → Answer → Seen → Bool
+signalSteps t i l listening pdu a x =
     byCode (getD pdu 0 0)
     (isNumber 0 a && (namesAsDcid i (disconnectionReq (bodyIn pdu)) && (not (isDisconnected (x .state)) && eqb (x .link) l)))
     (isNumber 0 a && (namesAsScid i (disconnectionRes (bodyIn pdu)) && (isDisconnecting (x .state) && eqb (x .link) l)))
+    (isNumber 0 a && (admits t l listening (leCreditConnReq (bodyIn pdu)) && eqb i (found isFree t)))
     ((isNumber 8 a && (isConnecting (x .state) && eqb (x .link) l)) || ((isNumber 0 a || isNumber 17 a) && eqb i (found (attemptBy l (getD pdu 1 0)) t)))
     ((isNumber 0 a || (isNumber 9 a && isGood (headersOf pdu))) && grantsTo t i l (leCreditFlowInd (bodyIn pdu)))
 
 abbrev pub steps : Table → (i : ℕ) → Request → Answer → Seen → Bool
 steps t i (register spsm) a x = false
-steps t i (signals link listening central pdu) a x = signalSteps t i link pdu a x
+steps t i (signals link listening central pdu) a x = signalSteps t i link listening pdu a x
 steps t i (pends link up) a x = gives-slot i a
 steps t i (rejectsAll link) a x = gives-slot i a
 steps t i (accepts s c) a x = isNumber 0 a && eqb i s

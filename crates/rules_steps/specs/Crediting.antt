@@ -1,0 +1,113 @@
+-- A send lowers the peer's credits by the frames that it writes, and a take books the grant that it tells (Credits.antt). Carried by the plan (crate cutting) and
+-- by the account's own rule (crate credit).
+use mathlib.Core.Path.{_≡_, refl, sym, ap, _∙_, subst}
+use mathlib.Core.Bool.{false≢true}
+use Prim.Native.Nat.{ℕ, zero, suc, _+_, _-_, _≤_, min}
+use native.Mathlib.Omega.{arith}
+use borrow.Author.Tests.{eqb-true, eqb-false, not-false}
+use Rattle.lists.specs.Choose.{if-cases}
+use Rattle.credit.specs.declared.CreditFlowControl.{CreditFlowControl}
+use Rattle.credit.specs.declared.Grant.{Grant}
+use Rattle.credit.specs.declared.Grant.the-variants as Grant
+use Rattle.credit.specs.Account.{grantOf}
+use Rattle.cutting.specs.declared.Plan.{Plan}
+use Rattle.cutting.specs.declared.Plan.the-variants as Plan
+use Rattle.cutting.specs.Cutting.{frameCount, planSend}
+use Rattle.cutting.specs.CutLaws.{count-holds, plan-allowed}
+use Rattle.channel.specs.declared.ChannelState.the-variants.{Connected}
+use Rattle.channel.specs.declared.Slot.{Slot}
+use Rattle.channel.specs.declared.Table.{Table}
+use Rattle.definition.specs.Table.{slotAt, isConnected}
+use Rattle.definition.specs.Outcome.{Outcome}
+use Rattle.definition.specs.Frames.{laterFrames, frames, send, planned, receive, taken, grantIn}
+use Rattle.definition.specs.Calls.{bare, decide, serve}
+use Rattle.rules_steps.specs.Tools.{gate-cases, is-connected}
+use Rattle.rules_steps.specs.Credits.{LaterFrames, none, more, AllFrames, first, sent, SendsAs, EverySend, grants, grants-none, none-waits, TakesAs, EveryTake}
+use Rattle.rules_steps.specs.Credits as Credits
+
+-- ---- what is written is n frames
+
+later-frames : (cid mps l n from : ℕ) → LaterFrames cid n (laterFrames cid mps l n from)
+unfolding laterFrames
+later-frames cid mps l zero from = none
+later-frames cid mps l (suc n) from = more (later-frames cid mps l n (from + min mps (l - from)))
+
+all-frames : (cid mps l n : ℕ) → AllFrames cid l (suc n) (frames cid mps l (suc n))
+unfolding frames
+all-frames cid mps l n =
+    let p : ℕ = min l (mps - 2) in
+    let e : n ≡ suc n - 1 = omega arith in
+    first (subst (λ (k : ℕ). LaterFrames cid n (laterFrames cid mps l k p)) e (later-frames cid mps l n p))
+
+some-frames : (cid mps l n : ℕ) → 1 ≤ n → AllFrames cid l n (frames cid mps l n)
+some-frames cid mps l zero h = absurd (omega arith)
+some-frames cid mps l (suc n) h = all-frames cid mps l n
+
+-- ---- send
+
+module _ (t : Table) (s l out : ℕ) where
+  abbrev x : Slot
+  x = slotAt t s
+
+  abbrev N : Outcome → Type 0
+  N o = SendsAs t s l o
+
+  planned-sends : x .state ≡ Connected → (p : Plan) → planSend l (x .peer .mtu) (x .peer .mps) (x .peer .credits) out ≡ p → N (planned t s x l p)
+  unfolding planned
+  planned-sends on (Plan.Refused r) e = Credits.Sends.refused
+  planned-sends on (Plan.Frames n octets) e =
+      let a = plan-allowed l (x .peer .mtu) (x .peer .mps) (x .peer .credits) out n octets e in
+      let some : 1 ≤ frameCount l (x .peer .mps) = count-holds l (x .peer .mps) (let w = a .wide in omega arith) .some in
+      sent on (a .frames) (some-frames (x .peer .cid) (x .peer .mps) l n (let f = a .frames in omega arith)) (let f = a .frames in let c = a .paid in omega arith)
+
+  send-sends : N (send t s l out)
+  unfolding send
+  send-sends = gate-cases N t _ _ _ _ (λ r h. Credits.Sends.refused) (λ _. if-cases N _ (λ _. Credits.Sends.refused) (λ e. planned-sends (is-connected (x .state) (not-false _ e)) _ refl))
+
+pub every-send : EverySend
+unfolding decide bare
+every-send t s sdu w count room out job = send-sends t s count out
+
+-- ---- take
+
+-- a grant is never of 0 credits
+grant-some : (a : CreditFlowControl) (n : ℕ) → grantOf a ≡ Grant.Credits n → 1 ≤ n
+unfolding grantOf
+grant-some a n =
+    if-cases (λ g. g ≡ Grant.Credits n → 1 ≤ n) _ (λ _ e. nothing e)
+    (λ f. if-cases (λ g. g ≡ Grant.Credits n → 1 ≤ n) _ (λ _ e. let z : a .received ≡ n = cc in let y = eqb-false (a .received) 0 f in omega arith) (λ _ e. nothing e))
+  where
+    nothing : Grant.Nothing ≡ Grant.Credits n → 1 ≤ n
+    nothing e = let no : _≡_ {A = ℕ} 0 1 = cc in absurd (omega arith)
+
+-- what is granted: the policy's grant in Connected, nothing elsewhere
+granted-is : (x : Slot) (P : Grant → Type 0) → (x .state ≡ Connected → P (grantOf (x .account))) → ((x .state ≡ Connected → ⊥) → P Grant.Nothing) → P (grantIn x)
+unfolding grantIn
+granted-is x P f g = if-cases P _ (λ e. f (is-connected (x .state) e)) (λ e. g (λ on. false≢true (sym e ∙ ap isConnected on)))
+
+module _ (t : Table) (s size : ℕ) where
+  abbrev y : Slot
+  y = slotAt t s
+
+  abbrev T : Outcome → Type 0
+  T o = TakesAs t s o
+
+  on-grant : y .state ≡ Connected → (g : Grant) → grantOf (y .account) ≡ g → T (taken t s y size g)
+  unfolding taken
+  on-grant on Grant.Nothing e = grants-none (λ _. e)
+  on-grant on (Grant.Credits n) e = grants on e (grant-some (y .account) n e)
+
+  off-grant : (y .state ≡ Connected → ⊥) → T (taken t s y size Grant.Nothing)
+  unfolding taken
+  off-grant off = grants-none (λ on. absurd (off on))
+
+  receive-takes : (room signal : ℕ) → T (receive t room signal s size)
+  unfolding receive
+  receive-takes room signal =
+      gate-cases T t _ _ _ _ (λ r h. Credits.Takes.refused)
+      (λ _. if-cases T _ (λ _. Credits.Takes.refused)
+      (λ _. if-cases T _ (λ e. none-waits (eqb-true (y .queue .count) 0 e)) (λ _. granted-is y (λ g. T (taken t s y size g)) (λ on. on-grant on _ refl) off-grant)))
+
+pub every-take : EveryTake
+unfolding decide bare serve
+every-take t s v w count room out job = receive-takes t s job room out

@@ -151,6 +151,10 @@ t ⊢ c ⇒ e =
 abbrev pub Hold : List Line → Type 0
 Hold ls = map (λ (l : Line). l .does) ls ≡ map (λ (l : Line). l .due) ls
 
+-- lines of an answer alone
+abbrev pub Agree : List (Told × Told) → Type 0
+Agree ls = map (λ (l : Told × Told). l .0) ls ≡ map (λ (l : Told × Told). l .1) ls
+
 -- a call with the two buffers lent
 abbrev pub ask : Request → Call
 ask r = plain r (window 0 18) (window 18 4)

@@ -49,7 +49,7 @@ use Rattle.definition.specs.Asking.{make, registerSpsm, attention, lowes
 use Rattle.definition.specs.Calls.{Call, Request, frame, sends, down, plain, register, signals, pends, rejectsAll, accepts, rejects, drops, creates, opens, gives, holds, releases, leaves, leavesCid, announces, takes, attends, asks, sendsSignal, jobs, bare, serve, decide}
 use Rattle.definition.specs.Numbers.{answerNumber}
 use Rattle.definition.specs.Run.{State, outcome, after, made, run, outcomes}
-use Rattle.definition.specs.Line.{_⊢_⇒_, _&_, Hold, Told, refused, answered, told, ask, start, window, three, two, counting, knowing, place, begins, no, yes, slots, next, part0, part1, wiped0, wiped1, cleared0, cleared1, writes, hands, peer, nobody, every, threshold, idle, partly, none, one, both, free, wish, asked, attempt, ours, failed, granted, channel, quiet, connected, usual, sized, request, response, credits, leaving, gone, parameters, reject, refusal}
+use Rattle.definition.specs.Line.{_⊢_⇒_, _&_, Hold, Agree, Told, refused, answered, told, ask, start, window, three, two, counting, knowing, place, begins, no, yes, slots, next, part0, part1, wiped0, wiped1, cleared0, cleared1, writes, hands, peer, nobody, every, threshold, idle, partly, none, one, both, free, wish, asked, attempt, ours, failed, granted, channel, quiet, connected, usual, sized, request, response, credits, leaving, gone, parameters, reject, refusal}
 
 -- ---- a run: two phones, each on its link, with the same identifier and the same CID. The first's job comes in three frames, the second's
 -- between them; the first is sent a job in three frames. What a phone says of the CID that both use, or of the other's slot, touches its
@@ -511,23 +511,22 @@ abbrev sent : Slot → (l out : ℕ) → Told
 sent x l out = told (send (two x (free 0)) 0 l out .answer)
 
 record Send-lines : Type 0 where
-  order : map (λ (a : Told). a)
-      (sent (quiet (Disconnecting false) 1 1) 2 8  -- 11
-      ∷ sent (asked 1 7 1) 31 0  -- 11 before 12
-      ∷ sent (to 30 23 3) 31 99  -- 12
-      ∷ sent (to 65533 22 0) 65534 0  -- 12 before 23
-      ∷ sent (to 65535 65535 3) 65534 80000  -- 23
-      ∷ sent (to 65535 22 3) 65534 0  -- 23 before 20
-      ∷ sent (to 30 22 3) 2 99  -- 20
-      ∷ sent (to 30 22 0) 2 0  -- 20 before 14
-      ∷ sent (to 30 23 1) 22 99  -- 14
-      ∷ sent (to 30 23 1) 22 0  -- 14 before 3
-      ∷ sent (to 30 23 2) 22 31  -- 3
-      ∷ sent (to 30 23 2) 22 32
-      ∷ sent (to 65535 65535 1) 65533 65539
+  order : Agree (
+      (sent (quiet (Disconnecting false) 1 1) 2 8, refused 11)  -- state
+      ∷ (sent (asked 1 7 1) 31 0, refused 11)  -- 11 before 12
+      ∷ (sent (to 30 23 3) 31 99, refused 12)  -- MTU
+      ∷ (sent (to 65533 22 0) 65534 0, refused 12)  -- 12 before 23
+      ∷ (sent (to 65535 65535 3) 65534 80000, refused 23)  -- longer than 65,533
+      ∷ (sent (to 65535 22 3) 65534 0, refused 23)  -- 23 before 20
+      ∷ (sent (to 30 22 3) 2 99, refused 20)  -- MPS
+      ∷ (sent (to 30 22 0) 2 0, refused 20)  -- 20 before 14
+      ∷ (sent (to 30 23 1) 22 99, refused 14)  -- credits
+      ∷ (sent (to 30 23 1) 22 0, refused 14)  -- 14 before 3
+      ∷ (sent (to 30 23 2) 22 31, refused 3)  -- output: 22 + 2 + 4 · 2
+      ∷ (sent (to 30 23 2) 22 32, answered (Frames 1 2))
+      ∷ (sent (to 30 23 2) 30 40, answered (Frames 1 2))
+      ∷ (sent (to 65535 65535 1) 65533 65539, answered (Frames 1 1))
       ∷ [])
-      ≡ refused 11 ∷ refused 11 ∷ refused 12 ∷ refused 12 ∷ refused 23 ∷ refused 23 ∷ refused 20 ∷ refused 20 ∷ refused 14 ∷ refused 14 ∷ refused 3
-      ∷ answered (Frames 1 2) ∷ answered (Frames 1 1) ∷ []
   frames-out : Hold (
       two (free 0) (connected 2 1) ⊢ sends 1 (7 ∷ 8 ∷ []) (window 0 8) ⇒ yes (Frames 2 1) & slots (free 0) (channel Connected 2 1 (every 1 3 0) (peer 2) idle none)
       & writes (4 ∷ 0 ∷ 0x40 ∷ 0 ∷ 2 ∷ 0 ∷ 7 ∷ 8 ∷ [])
@@ -598,18 +597,22 @@ record Asking-lines : Type 0 where
       ∷ [])
   registered : map (λ n. outcome (start (two (free 0) (free 0))) (ask (register n)) .table .spsms) (1 ∷ 0x81 ∷ 255 ∷ [])
       ≡ (2 ∷ replicate 15 0 ++ (1 ∷ replicate 15 0)) ∷ (replicate 16 0 ++ (3 ∷ replicate 15 0)) ∷ (replicate 16 0 ++ (1 ∷ replicate 14 0 ++ (128 ∷ []))) ∷ []
-  attentions : map (λ (a : Told). a)
-      (attended (asked 1 7 0) (ours 1 8 0)  -- none, whatever stands past N
-      ∷ attended (connected 1 1) (quiet (Disconnecting true) 1 1)  -- none: announced already
-      ∷ attended (at 2 1 idle (one 0)) (free 0)  -- a job waits
-      ∷ attended (free 0) (failed 1 NoResources 0)  -- ConnectFailed
-      ∷ attended (quiet (Disconnecting false) 1 1) (quiet (PeerDisconnecting 8) 2 1)  -- both disconnects
+  attentions : Agree (
+      (attended (asked 1 7 0) (ours 1 8 0), answered (Attention 0 0 2))  -- none, whatever stands past N
+      ∷ (attended (connected 1 1) (quiet (Disconnecting true) 1 1), answered (Attention 0 0 2))  -- none: announced already
+      ∷ (attended (at 2 1 idle (one 0)) (free 0), answered (Attention 1 1 0))  -- a job waits
+      ∷ (attended (free 0) (failed 1 NoResources 0), answered (Attention 2 1 1))  -- ConnectFailed
+      ∷ (attended (quiet (Disconnecting false) 1 1) (quiet (PeerDisconnecting 8) 2 1), answered (Attention 3 2 0))  -- a disconnect is due
       ∷ [])
-      ≡ answered (Attention 0 0 2) ∷ answered (Attention 0 0 2) ∷ answered (Attention 1 1 0) ∷ answered (Attention 2 1 1) ∷ answered (Attention 3 2 0) ∷ []
   lowest-free : lowestFree [] ∷ lowestFree (free 1 ∷ connected 1 0 ∷ []) ∷ lowestFree (free 1 ∷ connected 1 0 ∷ free 0 ∷ free 0 ∷ []) ∷ [] ≡ 0 ∷ 2 ∷ 2 ∷ []
-  queries : asking (λ x. x .spsm) 1 (two (free 0) (connected 1 1)) ∷ asking (λ x. x .mtu) 1 (two (free 0) (connected 1 1)) ∷ asking (λ x. x .mps) 0 (two (connected 1 1) (free 0))
-      ∷ asking (λ x. x .peer .mtu) 0 (two (asked 1 7 0) (free 0)) ∷ asking (λ x. x .peer .mps) 0 (two (asked 1 7 0) (free 0)) ∷ asking (λ x. x .mtu) 0 (two (free 0) (free 0)) ∷ []
-      ≡ answered (Number 0x80) ∷ answered (Number 23) ∷ answered (Number 25) ∷ answered (Number 30) ∷ answered (Number 23) ∷ answered (Number 0) ∷ []
+  queries : Agree (
+      (asking (λ x. x .spsm) 1 (two (free 0) (connected 1 1)), answered (Number 0x80))
+      ∷ (asking (λ x. x .mtu) 1 (two (free 0) (connected 1 1)), answered (Number 23))
+      ∷ (asking (λ x. x .mps) 0 (two (connected 1 1) (free 0)), answered (Number 25))
+      ∷ (asking (λ x. x .peer .mtu) 0 (two (asked 1 7 0) (free 0)), answered (Number 30))
+      ∷ (asking (λ x. x .peer .mps) 0 (two (asked 1 7 0) (free 0)), answered (Number 23))
+      ∷ (asking (λ x. x .mtu) 0 (two (free 0) (free 0)), answered (Number 0))
+      ∷ [])
   senders : Hold (
       two (free 0) (free 0) ⊢ ask (sendsSignal 1 (Signal.ConnParamUpdateReq (record { min = 6; max = 8; latency = 0; timeout = 10 })))
       ⇒ yes Done & next 6 & writes (12 ∷ 0 ∷ 5 ∷ 0 ∷ 0x12 ∷ 5 ∷ 8 ∷ 0 ∷ 6 ∷ 0 ∷ 8 ∷ 0 ∷ 0 ∷ 0 ∷ 10 ∷ 0 ∷ [])
@@ -743,3 +746,38 @@ record Making-lines : Type 0 where
 making-lines : Making-lines
 unfolding make choose
 making-lines = record { limits = refl; short = refl; no-slots = refl; left = refl; made-table = refl; made-room = refl; answer = refl }
+
+-- ---- every test, and the lines that break when it is dropped, or swapped with the next ("a > b": a line in which both hold and a decides)
+--
+-- all calls      table > room > signal buffer > link > slot > the call's own: Gate-lines, a row a call; what a row-1 table is: unfit, fit
+-- making         sizes > room: limits 2 to 6; sizes: limits; room: short
+-- register       1 ≤ SPSM: registers 1; SPSM ≤ 255: 2; registered already: 3
+-- next pending   PeerConnecting 2; link 5; none > held 1; link down 2, and only if none 4; held 6
+-- reject-all     PeerConnecting, no hold 1, 3; link 4; none 1
+-- accept         MPS 1, > state 3; MTU 2, > state 4, > hold 5; state 6, > hold 7; hold 8
+-- reject         no code 5, > state 6, codes; state 1, > hold 2; hold 3
+-- drop           Connected 1, > hold 2; hold 4, > PeerConnecting 3; PeerConnecting 5, 6
+-- create         MPS 1, > 13 3; MTU 2, > 13 4; 13 5; identifier 255 7, 0 8
+-- opened         free 1, > link 2, > down 3; link 4, > down 5, > disconnecting 6; down 7, > failed 8, > nothing yet 9; PeerDisconnecting 10, Disconnecting 11;
+--                failed > nothing yet > hold 12; nothing yet 14, > hold 13; hold 15
+-- give-up        Connecting 1; ConnectFailed 2; Connected 3, and no hold 4; no other state 5 to 8
+-- add hold       255: 1, 2. Release: hold 0 2; Connected 5, to 0 4, both 3
+-- disconnect     Connected: by-slot 1 to 4; CID ≥ 0x40: by-CID 2; CID < 0x40 + N: 3
+-- link down      not Disconnected 3; link 2
+-- next disconnect  announced 1; none > PeerDisconnecting 2; PeerDisconnecting 3, 5
+-- headers        empty 1; under 4 > past 3; past 4. Codes: each in its own lines; unknown codes 6, 7
+-- 0x14           body > all 17; SPSM 1, > listening 2; listening 3, > peer CID 4; peer CID 5, > no slot 6, not Disconnected 11, link 10, 12; no slot 13
+-- 0x15           body, code > match 9, 8; Connecting 7; link 1, 5; identifier 2; none > result 6; result 4; freed: link 5, Connecting 7
+-- 0x16           body 8; Connected 5; link 1; peer CID 4; none > sum 5; sum 6, 7
+-- 0x06           body 8; CID 4, 5; link 6; not Disconnected 7. 0x07: body 8; CID 3, 4; Disconnecting 5, 6; link 7
+-- 0x12           Central 1, > body 2; body 3; the seven conditions: invalid, and their limits 4 to 6. 0x01, 0x13: bodies codes 1 to 5
+-- frame in       CID 1, 2, > state 3; state 4, > link 5; link 6, > credit 7; credit 8, > 19 9
+-- first frame    19 1, > MTU 2; MTU 3, 4; more 5, > 21 6; fewer 7, > 21 8; 21 9. Joining: idle 3, 4, 6; overrun 1, > 21 2; fewer 3, > 21 3; 21 5
+-- send           11 1, > 12 2; 12 3, > 23 4; 23 5, > 20 6; 20 7, > 14 8; 14 9, > 3 10; 3 11
+-- take           each state > none: states 1 to 4; none 5; grants Connected only 7, 8; never 0 policies 3, 6; Every 1, 2; MinThreshold 4, 5
+-- attention      a job 3; a disconnect due 2, 5; ConnectFailed 4. Lowest free: Disconnected, no hold: lowest-free
+--
+-- What no line can tell, on any table: where two neighbours give one answer and leave the same (MPS and MTU; link down and disconnecting in the
+-- opened query; CID and link of 0x06; CID and state of 0x07; an SDU length above the MTU and more octets than it; the two reasons for no
+-- grant), or exclude one another (signal codes, result codes; disconnecting and failed; hold 0 and 1 in a release; overrun and fewer), their
+-- order. And that an SPSM above 255 is not registered: its bit would stand past the 32 octets.

@@ -484,6 +484,10 @@ record Frame-lines : Type 0 where
       & part0 (place 1) (begins (7 ∷ 8 ∷ []) 2) (place 3)  -- equal
       ∷ two (at 3 0 idle (one 4)) (free 0) ⊢ frame 1 0x40 (2 ∷ 0 ∷ 7 ∷ 8 ∷ []) ⇒ yes Done & slots (at 2 1 idle (both 4 2)) (free 0)
       & part0 (place 1) (place 2) (begins (7 ∷ 8 ∷ []) 3)
+      ∷ two (at 3 0 (partly 4 0) none) (free 0) ⊢ frame 1 0x40 (3 ∷ 0 ∷ 7 ∷ 8 ∷ []) ⇒ yes Done & slots (at 2 1 (partly 2 3) none) (free 0)
+      & part0 (begins (7 ∷ 8 ∷ []) 1) (place 2) (place 3)  -- nothing wanted: no assembly is open, whatever is had
+      ∷ two (at 3 0 (partly 4 0) none) (free 0) ⊢ frame 1 0x40 (2 ∷ 0 ∷ 7 ∷ 8 ∷ []) ⇒ yes Done & slots (at 2 1 idle (one 2)) (free 0)
+      & part0 (place 1) (begins (7 ∷ 8 ∷ []) 2) (place 3)
       ∷ two (free 0) (connected 2 1) ⊢ frame 2 0x41 (0 ∷ 0 ∷ []) ⇒ yes Done & slots (free 0) (channel Connected 2 1 (every 1 2 1) (peer 3) idle (one 0))  -- a job of 0 octets
       ∷ [])
   joining-frames : Hold (

@@ -38,7 +38,7 @@ use Rattle.channel.specs.declared.Queue.{Queue}
 use Rattle.channel.specs.declared.Slot.{Slot}
 use Rattle.channel.specs.declared.Table.{Table}
 use Rattle.definition.specs.Mem.{fill, move, moves, parts, fills, written}
-use Rattle.definition.specs.Table.{index, slotFits, wellFormed}
+use Rattle.definition.specs.Table.{index, slotAt, slotFits, wellFormed}
 use Rattle.definition.specs.Outcome.{only, verdict}
 use Rattle.definition.specs.Pending.{nextPending, rejectAllPending, acceptPending, rejectPending, notCode, dropPending}
 use Rattle.definition.specs.Opening.{create, opened, giveUp}
@@ -366,6 +366,7 @@ record Signal-lines : Type 0 where
       ∷ two (ours 2 5 0) (free 0) ⊢ hear 1 (request 7 0x80 0) ⇒ yes Done & slots (ours 2 5 0) (wish (PeerConnecting 7) 1 0 (record { cid = 0; mps = 23; mtu = 30; credits = 3 }))  -- .. on its link
       ∷ two (free 0) (free 0) ⊢ hear 0 (request 7 0x80 0) ⇒ yes Done & slots (wish (PeerConnecting 7) 0 0 (record { cid = 0; mps = 23; mtu = 30; credits = 3 })) (free 0)  -- a Disconnected slot uses none
       ∷ two (connected 2 1) (free 0) ⊢ hear 1 (request 7 0x80 0x40) ⇒ yes Done & slots (connected 2 1) (asked 1 7 0)  -- another link's 0x40
+      ∷ two (connected 1 1) (free 0) ⊢ hear 1 (request 7 0x80 0x41) ⇒ yes Done & slots (connected 1 1) (wish (PeerConnecting 7) 1 0 (record { cid = 0x41; mps = 23; mtu = 30; credits = 3 }))  -- another CID
       ∷ three (asked 2 7 0) (free 1) (free 0) ⊢ hear 1 (request 7 0x80 0x40) ⇒ yes Done & writes (refusal 7 4)  -- no free slot: used, held, past N
       ∷ two (free 1) (free 0) ⊢ hear 1 (request 7 0x80 0x40) ⇒ yes Done & slots (free 1) (asked 1 7 0)  -- the lowest free
       ∷ knowing (replicate 32 255) (two (free 0) (free 0)) ⊢ hear 1 (request 7 0 0x40) ⇒ yes Done & writes (refusal 7 2)  -- SPSM 0, whatever its bit says
@@ -414,6 +415,7 @@ record Signal-lines : Type 0 where
       ∷ two (connected 1 1) (free 0) ⊢ hear 1 (gone 0x40 0x40) ⇒ yes Done  -- not Disconnecting
       ∷ two (quiet (PeerDisconnecting 8) 1 1) (free 0) ⊢ hear 1 (gone 0x40 0x40) ⇒ yes Done
       ∷ two (quiet (Disconnecting true) 1 1) (free 0) ⊢ hear 2 (gone 0x40 0x40) ⇒ yes Done  -- link
+      ∷ two (free 1) (free 0) ⊢ hear 0 (gone 0x40 0x40) ⇒ yes Done  -- a Disconnected slot is no link's: nothing is zeroed
       ∷ two (quiet (Disconnecting true) 1 1) (free 0) ⊢ hear 1 (0x07 ∷ 7 ∷ 3 ∷ 0 ∷ 0x40 ∷ 0 ∷ 0x40 ∷ []) ⇒ no 15 & writes (reject 7 0)  -- bad body
       ∷ [])
   parameter-request : Hold (
@@ -627,6 +629,78 @@ asking-lines : Asking-lines
 unfolding after decide serve jobs bare registerSpsm attention bitset count query sendSignal verdict wellFormed slotFits Each.every first only choose parts moves move fill fills written encodeOf
 asking-lines = record { registers = refl; registered = refl; attentions = refl; lowest-free = refl; queries = refl; senders = refl }
 
+-- ---- every state, in every call that asks for it
+
+-- A slot of link 1 in each of the states, with so many holds: what a call answers, and the state that it leaves.
+abbrev each-state : List ChannelState
+each-state = Disconnected ∷ Connecting 7 ∷ PeerConnecting 7 ∷ Connected ∷ ConnectFailed NoResources ∷ PeerDisconnecting 8 ∷ Disconnecting false ∷ Disconnecting true ∷ []
+
+abbrev in-each : (hold : ℕ) → Call → List ℕ
+in-each h c = map (λ k. answerNumber (outcome (start (two (quiet k 1 h) (free 0))) c .answer)) each-state
+
+abbrev left-by : (hold : ℕ) → Call → List ChannelState
+left-by h c = map (λ k. slotAt (outcome (start (two (quiet k 1 h) (free 0))) c .table) 0 .state) each-state
+
+record State-lines : Type 0 where
+  --                                               Disconnected, Connecting, PeerConnecting, Connected, ConnectFailed, PeerDisconnecting, Disconnecting (new, announced)
+  next-pending : in-each 1 (ask (pends 1 true)) ≡ 0 ∷ 0 ∷ 22 ∷ 0 ∷ 0 ∷ 0 ∷ 0 ∷ 0 ∷ []
+  accept : in-each 1 (ask (accepts 0 usual)) ≡ 8 ∷ 8 ∷ 0 ∷ 8 ∷ 8 ∷ 8 ∷ 8 ∷ 8 ∷ []
+  reject-one : in-each 1 (ask (rejects 0 (Known Success))) ≡ 8 ∷ 8 ∷ 0 ∷ 8 ∷ 8 ∷ 8 ∷ 8 ∷ 8 ∷ []
+  drop-pending : in-each 0 (ask (drops 0)) ≡ 22 ∷ 22 ∷ 22 ∷ 0 ∷ 22 ∷ 22 ∷ 22 ∷ 22 ∷ []
+  opened-query : in-each 1 (ask (opens 0 1 true)) ≡ 18 ∷ 0 ∷ 0 ∷ 22 ∷ 17 ∷ 18 ∷ 18 ∷ 18 ∷ []
+  give-up : in-each 0 (ask (gives 0)) ≡ 8 ∷ 0 ∷ 8 ∷ 0 ∷ 0 ∷ 8 ∷ 8 ∷ 8 ∷ []
+  response-in : in-each 0 (hear 1 (response 7 0)) ≡ 8 ∷ 0 ∷ 8 ∷ 8 ∷ 8 ∷ 8 ∷ 8 ∷ 8 ∷ []
+  credits-in : in-each 0 (hear 1 (credits 0x40 1)) ≡ 8 ∷ 8 ∷ 8 ∷ 0 ∷ 8 ∷ 8 ∷ 8 ∷ 8 ∷ []
+  frame-in : in-each 0 (frame 1 0x40 []) ≡ 0 ∷ 0 ∷ 0 ∷ 19 ∷ 0 ∷ 0 ∷ 0 ∷ 0 ∷ []
+  sending : in-each 0 (sends 0 [] (window 0 18)) ≡ 11 ∷ 11 ∷ 11 ∷ 0 ∷ 11 ∷ 11 ∷ 11 ∷ 11 ∷ []
+  taking : in-each 0 (ask (takes 0)) ≡ 11 ∷ 11 ∷ 11 ∷ 0 ∷ 11 ∷ 0 ∷ 0 ∷ 0 ∷ []
+  -- a hold released, to 0; a disconnect; a response that matches none; 0x06 and 0x07; link down; a disconnect announced or answered
+  released : left-by 1 (ask (releases 0))
+      ≡ Disconnected ∷ Connecting 7 ∷ PeerConnecting 7 ∷ Disconnecting false ∷ ConnectFailed NoResources ∷ PeerDisconnecting 8 ∷ Disconnecting false ∷ Disconnecting true ∷ []
+  by-slot : left-by 1 (ask (leaves 0))
+      ≡ Disconnected ∷ Connecting 7 ∷ PeerConnecting 7 ∷ Disconnecting false ∷ ConnectFailed NoResources ∷ PeerDisconnecting 8 ∷ Disconnecting false ∷ Disconnecting true ∷ []
+  unmatched : left-by 1 (hear 1 (response 9 0))
+      ≡ Disconnected ∷ Disconnected ∷ PeerConnecting 7 ∷ Connected ∷ ConnectFailed NoResources ∷ PeerDisconnecting 8 ∷ Disconnecting false ∷ Disconnecting true ∷ []
+  request-in : left-by 1 (hear 1 (leaving 9 0x40 0x40)) ≡ Disconnected ∷ replicate 7 (PeerDisconnecting 9)
+  gone-in : left-by 1 (hear 1 (gone 0x40 0x40))
+      ≡ Disconnected ∷ Connecting 7 ∷ PeerConnecting 7 ∷ Connected ∷ ConnectFailed NoResources ∷ PeerDisconnecting 8 ∷ Disconnected ∷ Disconnected ∷ []
+  link-down : left-by 1 (down 1) ≡ replicate 8 Disconnected
+  announced : left-by 1 (ask announces)
+      ≡ Disconnected ∷ Connecting 7 ∷ PeerConnecting 7 ∷ Connected ∷ ConnectFailed NoResources ∷ Disconnected ∷ Disconnecting true ∷ Disconnecting true ∷ []
+  -- who calls; whose peer CID is in use (the other slot is given out, or not)
+  attending : map (λ k. attended (quiet k 1 1) (free 0)) each-state
+      ≡ replicate 4 (answered (Attention 0 0 2)) ++ replicate 3 (answered (Attention 1 1 0)) ++ (answered (Attention 0 0 2) ∷ [])
+  used : map (λ k. slotAt (outcome (start (two (quiet k 1 1) (free 0))) (hear 1 (request 7 0x80 0x40)) .table) 1 .state) each-state ≡ PeerConnecting 7 ∷ replicate 7 Disconnected
+  -- no slot but a Disconnected one is given out
+  no-free-slot : map (λ k. answerNumber (outcome (start (two (free 1) (quiet k 1 0))) (ask (creates 2 0x81 usual)) .answer)) each-state ≡ 0 ∷ replicate 7 13
+
+state-lines : State-lines
+unfolding after decide serve jobs bare nextPending acceptPending rejectPending dropPending create opened giveUp decRef disconnecting disconnect disconnected nextDisconnect signalled checked headersOf whole handled onDisconnectionReq disconnectionReq onDisconnectionRes disconnectionRes onConnReq leCreditConnReq onConnRes leCreditConnRes resultOf onCredits leCreditFlowInd dispatch joined joinStep firstStep reached assembled send planned planSend frameCount ceil framesLength frames laterFrames receive attention bitset count verdict wellFormed slotFits Each.every first only choose encodeOf
+state-lines =
+    record {
+      next-pending = refl;
+      accept = refl;
+      reject-one = refl;
+      drop-pending = refl;
+      opened-query = refl;
+      give-up = refl;
+      response-in = refl;
+      credits-in = refl;
+      frame-in = refl;
+      sending = refl;
+      taking = refl;
+      released = refl;
+      by-slot = refl;
+      unmatched = refl;
+      request-in = refl;
+      gone-in = refl;
+      link-down = refl;
+      announced = refl;
+      attending = refl;
+      used = refl;
+      no-free-slot = refl;
+    }
+
 -- ---- the refusals that come first
 
 -- A table that is none: D 5.
@@ -770,16 +844,17 @@ making-lines = record { limits = refl; short = refl; no-slots = refl; left = ref
 -- link down      not Disconnected 3; link 2
 -- next disconnect  announced 1; none > PeerDisconnecting 2; PeerDisconnecting 3, 5
 -- headers        empty 1; under 4 > past 3; past 4. Codes: each in its own lines; unknown codes 6, 7
--- 0x14           body > all 17; SPSM 1, > listening 2; listening 3, > peer CID 4; peer CID 5, > no slot 6, not Disconnected 11, link 10, 12; no slot 13
+-- 0x14           body > all 18; SPSM 1, > listening 2; listening 3, > peer CID 4; peer CID 5, 13, > no slot 6, not Disconnected 11, link 10, 12; no slot 14
 -- 0x15           body, code > match 9, 8; Connecting 7; link 1, 5; identifier 2; none > result 6; result 4; freed: link 5, Connecting 7
 -- 0x16           body 8; Connected 5; link 1; peer CID 4; none > sum 5; sum 6, 7
--- 0x06           body 8; CID 4, 5; link 6; not Disconnected 7. 0x07: body 8; CID 3, 4; Disconnecting 5, 6; link 7
+-- 0x06           body 8; CID 4, 5; link 6; not Disconnected 7. 0x07: body 9; CID 3, 4; Disconnecting 5, 6, 8; link 7
 -- 0x12           Central 1, > body 2; body 3; the seven conditions: invalid, and their limits 4 to 6. 0x01, 0x13: bodies codes 1 to 5
 -- frame in       CID 1, 2, > state 3; state 4, > link 5; link 6, > credit 7; credit 8, > 19 9
 -- first frame    19 1, > MTU 2; MTU 3, 4; more 5, > 21 6; fewer 7, > 21 8; 21 9. Joining: idle 3, 4, 6; overrun 1, > 21 2; fewer 3, > 21 3; 21 5
 -- send           11 1, > 12 2; 12 3, > 23 4; 23 5, > 20 6; 20 7, > 14 8; 14 9, > 3 10; 3 11
 -- take           each state > none: states 1 to 4; none 5; grants Connected only 7, 8; never 0 policies 3, 6; Every 1, 2; MinThreshold 4, 5
 -- attention      a job 3; a disconnect due 2, 5; ConnectFailed 4. Lowest free: Disconnected, no hold: lowest-free
+-- every state    of each test of a state, in each of the states: State-lines
 --
 -- What no line can tell, on any table: where two neighbours give one answer and leave the same (MPS and MTU; link down and disconnecting in the
 -- opened query; CID and link of 0x06; CID and state of 0x07; an SDU length above the MTU and more octets than it; the two reasons for no

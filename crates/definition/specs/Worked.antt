@@ -8,7 +8,6 @@ use Prim.Native.Nat.{ℕ}
 use lib.ListN.{replicate, take, drop}
 use Rattle.lists.specs.Bits.{bitset, count}
 use Rattle.lists.specs.Choose.{choose}
-use Rattle.lists.specs.Each.{mapFirst}
 use Rattle.lists.specs.Every as Each
 use Rattle.lists.specs.First.{first}
 use Rattle.lists.specs.Fuel.{whole}
@@ -28,7 +27,6 @@ use Rattle.le_credit_bodies.specs.LeCreditBodies.{leCreditConnReq, leCreditConn
 use Rattle.parameter_rule.specs.Parameters.{parametersValid}
 use Rattle.signal.specs.declared.forms.Signal.the-variants as Signal
 use Rattle.writer.specs.Writer.{encodeOf}
-use Rattle.channel.specs.declared.Answer.{Answer}
 use Rattle.channel.specs.declared.Answer.the-variants.{Done, Refused, At, Link, Opened, Due, Frames, Job, Attention, Number, Event}
 use Rattle.channel.specs.declared.ChannelState.{ChannelState}
 use Rattle.channel.specs.declared.ChannelState.the-variants.{Disconnected, Connecting, PeerConnecting, Connected, ConnectFailed, PeerDisconnecting, Disconnecting}
@@ -49,7 +47,7 @@ use Rattle.definition.specs.Asking.{make, registerSpsm, attention, lowes
 use Rattle.definition.specs.Calls.{Call, Request, frame, sends, down, plain, register, signals, pends, rejectsAll, accepts, rejects, drops, creates, opens, gives, holds, releases, leaves, leavesCid, announces, takes, attends, asks, sendsSignal, jobs, bare, serve, decide}
 use Rattle.definition.specs.Numbers.{answerNumber}
 use Rattle.definition.specs.Run.{State, outcome, after, made, run, outcomes}
-use Rattle.definition.specs.Line.{_⊢_⇒_, _&_, Hold, Agree, Told, refused, answered, told, ask, start, window, three, two, counting, knowing, place, begins, no, yes, slots, next, part0, part1, wiped0, wiped1, cleared0, cleared1, writes, hands, peer, nobody, every, threshold, idle, partly, none, one, both, free, wish, asked, attempt, ours, failed, granted, channel, quiet, connected, usual, sized, request, response, credits, leaving, gone, parameters, reject, refusal}
+use Rattle.definition.specs.Line.{_⊢_⇒_, _&_, Hold, Agree, Told, refused, answered, told, ask, start, window, three, two, counting, knowing, place, begins, no, yes, slots, next, part0, part1, wiped0, wiped1, cleared0, cleared1, writes, hands, peer, every, threshold, idle, partly, none, one, both, free, wish, asked, ours, failed, granted, channel, quiet, connected, usual, sized, request, response, credits, leaving, gone, parameters, reject, refusal}
 
 -- ---- a run: two phones, each on its link, with the same identifier and the same CID. The first's job comes in three frames, the second's
 -- between them; the first is sent a job in three frames. What a phone says of the CID that both use, or of the other's slot, touches its
@@ -373,6 +371,9 @@ record Signal-lines : Type 0 where
       ∷ two (free 0) (free 0) ⊢ hear 1 (request 7 0x180 0x40) ⇒ yes Done & writes (refusal 7 2)
       ∷ two (free 0) (free 0) ⊢ deaf 1 (0x14 ∷ 7 ∷ 9 ∷ 0 ∷ replicate 9 0) ⇒ no 15 & writes (reject 7 0)  -- bad body, before all
       ∷ [])
+  -- with every bit set: of the SPSMs 0, 1, 255 and 256 those that are registered
+  spsms : map (λ n. slotAt (outcome (start (knowing (replicate 32 255) (two (free 0) (free 0)))) (hear 1 (request 7 n 0x40)) .table) 0 .state) (0 ∷ 1 ∷ 255 ∷ 256 ∷ [])
+      ≡ Disconnected ∷ PeerConnecting 7 ∷ PeerConnecting 7 ∷ Disconnected ∷ []
   connect-response : Hold (
       two (ours 1 7 0) (ours 2 7 0) ⊢ hear 2 (response 7 0) ⇒ yes Done & slots (ours 1 7 0) (granted 2 0)  -- link
       ∷ two (ours 1 7 1) (ours 1 8 0) ⊢ hear 1 (response 8 0) ⇒ yes Done & slots (ours 1 7 1) (granted 1 0)  -- identifier
@@ -439,6 +440,7 @@ signal-lines =
       headers = refl;
       codes = refl;
       connect-request = refl;
+      spsms = refl;
       connect-response = refl;
       code = refl;
       credit-signal = refl;
@@ -844,7 +846,7 @@ making-lines = record { limits = refl; short = refl; no-slots = refl; left = ref
 -- link down      not Disconnected 3; link 2
 -- next disconnect  announced 1; none > PeerDisconnecting 2; PeerDisconnecting 3, 5
 -- headers        empty 1; under 4 > past 3; past 4. Codes: each in its own lines; unknown codes 6, 7
--- 0x14           body > all 18; SPSM 1, > listening 2; listening 3, > peer CID 4; peer CID 5, 13, > no slot 6, not Disconnected 11, link 10, 12; no slot 14
+-- 0x14           body > all 18; SPSM 1, spsms, > listening 2; listening 3, > peer CID 4; peer CID 5, 13, > no slot 6, not Disconnected 11, link 10, 12; no slot 14
 -- 0x15           body, code > match 9, 8; Connecting 7; link 1, 5; identifier 2; none > result 6; result 4; freed: link 5, Connecting 7
 -- 0x16           body 8; Connected 5; link 1; peer CID 4; none > sum 5; sum 6, 7
 -- 0x06           body 8; CID 4, 5; link 6; not Disconnected 7. 0x07: body 9; CID 3, 4; Disconnecting 5, 6, 8; link 7

@@ -1,6 +1,6 @@
--- Worked lines in which every test of every call decides: drop a test, or swap it with the next, and a line breaks. Two slots, two links
--- whose peers both use CID 0x40, D 2. Each line stands by itself (Line.antt) and is computed; the note says which test decides in it.
--- "a before b" is a line in which both hold. At the end, the tests that no line can tell apart, and why.
+-- A worked run, and worked lines in which every test of every call decides: drop a test, or swap it with the next, and a line breaks. Two
+-- slots, two links whose peers both use CID 0x40, D 2. Each line stands by itself (Line.antt) and is computed; its note says which test
+-- decides ("a before b": both hold). At the end, test by test, the lines that break, and what no line can tell.
 use mathlib.Core.Path.{_≡_, refl}
 use mathlib.Core.Bool.{Bool, true, false}
 use mathlib.Core.List.{List, [], _∷_, _++_, map}
@@ -329,7 +329,7 @@ deaf link pdu = ask (signals link false true pdu)
 abbrev peripheral : (link : ℕ) → List ℕ → Call
 peripheral link pdu = ask (signals link true false pdu)
 
--- the channel of Closing-lines' release, in another state
+-- half a job has come, and another waits
 abbrev half : Slot
 half = channel Connected 1 1 (every 1 2 1) (peer 3) (partly 2 5) (one 4)
 
@@ -815,7 +815,8 @@ making n d m = answerNumber (make n d m [] .answer)
 record Making-lines : Type 0 where
   -- with no room: 1 where a size is out of its limits, 2 where all are within
   limits : making 0 1 29 ∷ making 17 1 29 ∷ making 1 0 29 ∷ making 1 5 29 ∷ making 1 1 28 ∷ making 1 1 1025 ∷ making 1 1 29 ∷ making 16 4 1024 ∷ [] ≡ 1 ∷ 1 ∷ 1 ∷ 1 ∷ 1 ∷ 1 ∷ 2 ∷ 2 ∷ []
-  short : make 1 1 29 (replicate 45 5) .answer ∷ make 1 1 29 (replicate 47 5) .answer ∷ [] ≡ make 1 1 29 [] .answer ∷ make 1 1 29 [] .answer ∷ []
+  -- one octet too few, one too many
+  short : told (make 1 1 29 (replicate 45 5) .answer) ∷ told (make 1 1 29 (replicate 47 5) .answer) ∷ [] ≡ refused 2 ∷ refused 2 ∷ []
   -- a refused making gives a table of no slots, and leaves the room
   no-slots : make 1 1 29 (replicate 45 5) .table ∷ make 1 1 28 [] .table ∷ [] ≡ replicate 2 (record { slots = replicate 16 (free 0); n = 0; d = 0; m = 0; identifier = 1; spsms = replicate 32 0 })
   left : make 1 1 29 (replicate 3 5) .room ∷ make 0 1 29 (replicate 3 5) .room ∷ [] ≡ replicate 2 (replicate 3 5)
@@ -861,4 +862,5 @@ making-lines = record { limits = refl; short = refl; no-slots = refl; left = ref
 -- What no line can tell, on any table: where two neighbours give one answer and leave the same (MPS and MTU; link down and disconnecting in the
 -- opened query; CID and link of 0x06; CID and state of 0x07; an SDU length above the MTU and more octets than it; the two reasons for no
 -- grant), or exclude one another (signal codes, result codes; disconnecting and failed; hold 0 and 1 in a release; overrun and fewer), their
--- order. And that an SPSM above 255 is not registered: its bit would stand past the 32 octets.
+-- order. And two tests that a test before them leaves nothing to: that an SPSM above 255 is not registered (its bit would stand past the 32
+-- octets), that a Disconnected slot is not PeerDisconnecting (a free slot is never asked).

@@ -19,3 +19,5 @@ pub mod Handed
 pub mod Roomless
 pub mod Lift
 pub mod Example
+pub mod Line
+pub mod Worked

@@ -1,0 +1,4 @@
+-- Laws of the slots, over the definition of the calls: each stated on a page of its own, in document 01's words, and proved in another file.
+pub mod Lists
+pub mod Attention
+pub mod Attends

@@ -1,26 +1,25 @@
 -- The attention set's law, proved: `calls` of the definition says what `Calling` says, state by state, and the laws of `bitset`, `count` and
 -- `first` (crate lists) do the rest.
 use mathlib.Core.Path.{_≡_, refl, sym, ap, subst, _∙_}
-use mathlib.Core.Bool.{Bool, true, false, _||_, not, false≢true}
-use mathlib.Core.List.{List, []}
+use mathlib.Core.Bool.{Bool, true, false, _||_, false≢true}
+use mathlib.Core.List.{[]}
 use Prim.Native.Nat.{ℕ, zero, suc, _+_, _/_, _%_, _^_, _≤_, _<_}
 use native.Mathlib.Omega.{arith}
 use lib.Dec.{ltb}
 use lib.ListN.{length, take, getD, length-take}
 use lib.Seq.{getD-take}
 use borrow.Author.Tests.{ltb-true, lt-ltb, not-true}
-use Rattle.lists.specs.Choose.{choose, if-cases}
+use Rattle.lists.specs.Choose.{if-cases}
 use Rattle.lists.specs.First.{first, first-passes}
 use Rattle.lists.specs.Bits.{bit, bitset, count, bitset-width, bit-says}
-use Rattle.codes.specs.declared.Refusal.{Refusal}
 use Rattle.channel.specs.declared.Answer.the-variants.{Attention}
 use Rattle.channel.specs.declared.ChannelState.{ChannelState}
 use Rattle.channel.specs.declared.ChannelState.the-variants.{Disconnected, Connecting, PeerConnecting, Connected, ConnectFailed, PeerDisconnecting, Disconnecting}
 use Rattle.channel.specs.declared.Slot.{Slot}
 use Rattle.channel.specs.declared.Table.{Table}
 use Rattle.channel.specs.declared.Verdict.{Verdict}
-use Rattle.definition.specs.Table.{gap, slotAt, live, isDue, isConnectFailed, calls, wellFormed}
-use Rattle.definition.specs.Outcome.{Outcome, verdict, passed, still}
+use Rattle.definition.specs.Table.{gap, slotAt, live, isDue, isConnectFailed, calls}
+use Rattle.definition.specs.Outcome.{verdict, passed, still}
 use Rattle.definition.specs.Asking.{attention}
 use Rattle.definition.specs.Calls.{bare, serve, decide}
 use Rattle.definition.specs.Forms.{Fit}

@@ -2,8 +2,8 @@
 -- stands; the number of slots calling and the lowest of them are given (N when none calls)." Said of the states by name, and of no test
 -- that the definition makes. Proved in Attends.antt.
 use mathlib.Core.Path.{_≡_}
-use mathlib.Core.Bool.{true, false}
-use Prim.Native.Nat.{ℕ, zero, suc, _/_, _%_, _^_, _≤_, _<_}
+use mathlib.Core.Bool.{false}
+use Prim.Native.Nat.{ℕ, suc, _/_, _%_, _^_, _≤_, _<_}
 use Rattle.codes.specs.declared.LeCreditConnResultCode.{LeCreditConnResultCode}
 use Rattle.codes.specs.declared.Refusal.the-variants.{BadTable}
 use Rattle.channel.specs.declared.Answer.{Answer}

@@ -56,7 +56,7 @@ use Rattle.definition.specs.Frames.{joined, dispatch, planned, send, shifted, m
 use Rattle.definition.specs.Asking.{registerSpsm, attention, query, sendSignal}
 use Rattle.definition.specs.Calls.{Window, Call, frame, sends, down, plain, Request, register, signals, pends, rejectsAll, accepts, rejects, drops, creates, opens, gives, holds, releases, leaves, leavesCid, announces, takes, attends, asks, sendsSignal, writes, bare, serve, decide}
 use Rattle.definition.specs.Forms.{Fit}
-use Rattle.rules_slots.specs.Words.{Free, Of, Pending, Unheld, Attempt, Open, OpenTo, Due, Lowest}
+use Rattle.rules_slots.specs.Words.{Free, Pending, Unheld, Attempt, OpenTo, Due, Lowest}
 use Rattle.rules_slots.specs.States.{free-says, free-said, used-says, of-says, pending-says, pending-said, unheld-says, unheld-said, attempt-says, matched-says, matched-said, open-says, openTo-says, openTo-said, leaving-says, due-says, due-said, found-lowest, found-none}
 use Rattle.rules_slots.specs.Change.{BySignal, disconnects, frees, connects, matches, unmatched, credits, Asking, MayChange, Registers, registers, ChangeLaw}
 use Rattle.rules_slots.specs.Kept.{Like, as-is, with-id, Keeps, still-keeps, change-keeps, sweep-keeps, if-keeps, else-keeps, gate-keeps, gate-at, part-kept}

@@ -1,5 +1,5 @@
 -- Laws of lists that the proofs rest on: what a search passed over, two lists that are searched alike, and a count from the front.
-use mathlib.Core.Path.{_≡_, refl, ap, _∙_}
+use mathlib.Core.Path.{_≡_, refl, ap, ap₂, _∙_}
 use mathlib.Core.Bool.{Bool, true, false}
 use mathlib.Core.List.{List, [], _∷_, _++_}
 use Prim.Native.Nat.{ℕ, zero, suc, _+_, _≤_, _<_}
@@ -36,6 +36,16 @@ module _ {A : Type 0} (p : A → Bool) where
       go : (b : Bool) → suc k < choose b 0 (suc (first p xs)) → k < first p xs
       go true l = absurd (not-suc-le-zero l)
       go false l = le-of-suc-le-suc l
+
+  -- two lists whose elements pass alike, one by one, are searched alike
+  pub first-same : (d : A) (n : ℕ) (xs ys : List A) → n ≤ length xs → n ≤ length ys → ((i : ℕ) → i < n → p (getD ys i d) ≡ p (getD xs i d))
+      → first p (take n ys) ≡ first p (take n xs)
+  unfolding first
+  first-same d zero xs ys h k e = refl
+  first-same d (suc n) [] ys h k e = absurd (not-suc-le-zero h)
+  first-same d (suc n) (x ∷ xs) [] h k e = absurd (not-suc-le-zero k)
+  first-same d (suc n) (x ∷ xs) (y ∷ ys) h k e =
+      ap₂ (λ (b : Bool) (i : ℕ). choose b 0 (suc i)) (e 0 (omega arith)) (first-same d n xs ys (le-of-suc-le-suc h) (le-of-suc-le-suc k) (λ i l. e (suc i) (omega arith)))
 
   count-append : (xs : List A) (y : A) → count p (xs ++ y ∷ []) ≡ count p xs + bit (p y)
   unfolding count

@@ -12,7 +12,7 @@ use Rattle.channel.specs.declared.ChannelState.{ChannelState}
 use Rattle.channel.specs.declared.ChannelState.the-variants.{Disconnected, Connecting, PeerConnecting, Connected, ConnectFailed, PeerDisconnecting, Disconnecting}
 use Rattle.channel.specs.declared.Slot.{Slot}
 use Rattle.channel.specs.declared.Table.{Table}
-use Rattle.definition.specs.Table.{gap, slotAt, live, found, identifierOf, isDisconnected, isConnecting, isPeerConnecting, isConnected, isDisconnecting, isDue, isFree, ofLink, pendingOf, unheldPendingOf, attemptOf, attemptBy, connectedTo, dueSlot}
+use Rattle.definition.specs.Table.{gap, slotAt, live, found, identifierOf, isDisconnected, isConnecting, isPeerConnecting, isConnected, isDisconnecting, isDue, isFree, ofLink, pendingOf, unheldPendingOf, attemptOf, attemptBy, connectedTo, usesPeer, dueSlot}
 use Rattle.definition.specs.Forms.{Fit, found-passes}
 use Rattle.rules_slots.specs.Words.{Free, Of, Pending, Unheld, Attempt, Open, OpenTo, Leaving, Due, answer, request, Lowest}
 use Rattle.rules_slots.specs.Lists.{first-below, first-within}
@@ -22,7 +22,7 @@ both e f = ap₂ (λ (a b : Bool). a && b) e f
 
 -- ---- states
 
-free-is : (k : ChannelState) → isDisconnected k ≡ true → k ≡ Disconnected
+pub free-is : (k : ChannelState) → isDisconnected k ≡ true → k ≡ Disconnected
 free-is Disconnected e = refl
 free-is (Connecting i) e = absurd (false≢true e)
 free-is (PeerConnecting i) e = absurd (false≢true e)
@@ -49,7 +49,7 @@ pending-is (ConnectFailed c) e = absurd (false≢true e)
 pending-is (PeerDisconnecting i) e = absurd (false≢true e)
 pending-is (Disconnecting a) e = absurd (false≢true e)
 
-connected-is : (k : ChannelState) → isConnected k ≡ true → k ≡ Connected
+pub connected-is : (k : ChannelState) → isConnected k ≡ true → k ≡ Connected
 connected-is Disconnected e = absurd (false≢true e)
 connected-is (Connecting i) e = absurd (false≢true e)
 connected-is (PeerConnecting i) e = absurd (false≢true e)
@@ -150,6 +150,26 @@ due-says x e = go (x .state) refl e
 pub due-said : (x : Slot) → Due x → dueSlot x ≡ true
 due-said x (answer e) = ap isDue e
 due-said x (request e) = ap isDue e
+
+-- ---- what the searches of a link find is its own
+
+in-use : {k : ChannelState} (x : Slot) → x .state ≡ k → isDisconnected k ≡ false → ¬ (x .state ≡ Disconnected)
+in-use x e f g = false≢true (sym f ∙ ap isDisconnected (sym e ∙ g))
+
+pub pending-of : (l : ℕ) (x : Slot) → Pending l x → Of l x
+pending-of l x h = record { state = in-use x (h .state) refl; link = h .link }
+
+pub attempt-of : (l id : ℕ) (x : Slot) → Attempt l id x → Of l x
+attempt-of l id x h = record { state = in-use x (h .state) refl; link = h .link }
+
+pub open-of : (l : ℕ) (x : Slot) → Open l x → Of l x
+open-of l x h = record { state = in-use x (h .state) refl; link = h .link }
+
+pub leaving-of : (l : ℕ) (x : Slot) → Leaving l x → Of l x
+leaving-of l x h = record { state = in-use x (h .state) refl; link = h .link }
+
+pub uses-of : (l cid : ℕ) (x : Slot) → usesPeer l cid x ≡ true → Of l x
+uses-of l cid x e = of-says l x (and-left (ofLink l x) _ e)
 
 -- ---- a search
 

@@ -1,7 +1,7 @@
--- WHAT AN ANSWER HANGS ON, two laws. What a call that names a link answers and writes hangs on that link's own slots and on the free ones
--- alone; what a call that names a slot answers and writes, on that slot alone. Each says: two tables that agree there, and may differ in
--- all other slots, are told apart by no such call. Of every call, with every size, on every table that has its N slots; so of every call of
--- every run. Proved in Linked.antt and Named.antt.
+-- WHAT AN ANSWER HANGS ON, two laws. What a call that names a link answers, writes and leaves hangs on that link's own slots and on the free
+-- ones alone; what a call that names a slot does, on that slot alone. Each says: two tables that agree there, and may differ in all other
+-- slots, are told apart by no such call, nor by what it leaves of those slots. Of every call, with every size, on every table that has its N
+-- slots; so of every call of every run. Proved in Linked.antt and Named.antt.
 use mathlib.Core.Path.{_≡_}
 use mathlib.Core.Bool.{Bool}
 use mathlib.Core.List.{List}
@@ -25,12 +25,15 @@ use Rattle.rules_slots.specs.Words.{Free, Of}
 abbrev pub called : Table → Call → (room out job : ℕ) → Outcome
 called t c room out job = decide t (bare t c) (length (jobs t c)) room out job
 
--- Two outcomes are the same to the caller: the answer, what is written to the signal buffer or frame output, and what to the job buffer.
--- (What is written is a list of octets, and of places of the call's job and of the slot's own part of the room: Mem.antt.)
+-- Two outcomes are the same: the answer, what is moved in the room, what is written to the signal buffer or frame output, and what to the job
+-- buffer, and the identifier that comes next. (Moved and written are octets, and places of the call's job and of the slot's own part of the room:
+-- Mem.antt of crate definition.)
 pub record Same (o p : Outcome) : Type 0 where
   pub answer : o .answer ≡ p .answer
+  pub parts : o .parts ≡ p .parts
   pub out : o .out ≡ p .out
   pub job : o .job ≡ p .job
+  pub identifier : o .table .identifier ≡ p .table .identifier
 
 -- Two tables of the same sizes, with the same next identifier. Both are well formed, or neither (then every call answers 1).
 pub record Alike (t u : Table) : Type 0 where
@@ -64,11 +67,13 @@ pub record Exceptions (c : Call) (t u : Table) : Type 0 where
   pub framed : {l cid : ℕ} {payload : List ℕ} → c ≡ frame l cid payload → (i : ℕ) → i < t .n → cid ≡ cidBase + i → BothIn Connected (slotAt t i) (slotAt u i)
   pub queried : {s l : ℕ} {up : Bool} {out tray : Window} → c ≡ plain (opens s l up) out tray → s < t .n → BothIn Disconnected (slotAt t s) (slotAt u s)
 
--- (`calledBy`, crate definition: the link that a call names.)
+-- The two outcomes are the same, and the tables that they leave are so to link l again. (`calledBy`, crate definition: the link that a call
+-- names. That the sizes and SPSMs stay is in Change.antt.)
 abbrev pub LinkLaw : Type 0
 LinkLaw =
-    (l : ℕ) (t u : Table) → Fit t → Fit u → Seen l t u → (c : Call) → calledBy c ≡ by l → Exceptions c t u
-    → (room out job : ℕ) → Same (called t c room out job) (called u c room out job)
+    (l : ℕ) (t u : Table) → Fit t → Fit u → Seen l t u → (c : Call) → calledBy c ≡ by l → Exceptions c t u → (room out job : ℕ)
+    → Same (called t c room out job) (called u c room out job)
+    × ((i : ℕ) → i < t .n → SameTo l (slotAt (called t c room out job .table) i) (slotAt (called u c room out job .table) i))
 
 -- ---- 2. A call that names a slot, by its number or by its CID
 
@@ -87,7 +92,8 @@ pub data Names (s : ℕ) : Call → Type 0 where
   sending : {sdu : List ℕ} {out : Window} → Names s (sends s sdu out)
   framing : {l cid : ℕ} {payload : List ℕ} → cid ≡ cidBase + s → Names s (frame l cid payload)
 
+-- The two outcomes are the same, and so is the slot that they leave. (No other slot changes: Change.antt.)
 abbrev pub SlotLaw : Type 0
 SlotLaw =
-    (s : ℕ) (t u : Table) → Alike t u → slotAt u s ≡ slotAt t s → (c : Call) → Names s c
-    → (room out job : ℕ) → Same (called t c room out job) (called u c room out job)
+    (s : ℕ) (t u : Table) → Fit t → Fit u → Alike t u → s < t .n → slotAt u s ≡ slotAt t s → (c : Call) → Names s c → (room out job : ℕ)
+    → Same (called t c room out job) (called u c room out job) × (slotAt (called u c room out job .table) s ≡ slotAt (called t c room out job .table) s)

@@ -1,12 +1,10 @@
 -- The laws hold of every call of every run: a table that was made has its N slots, and every call keeps that (`safe`, crate definition), so that
 -- each law's premise `Fit` is met wherever a run has come to.
-use mathlib.Core.Path.{_≡_}
-use mathlib.Core.Bool.{Bool, true, not}
 use mathlib.Core.List.{List, [], _∷_}
 use Prim.Native.Nat.{ℕ, _≤_}
 use native.Mathlib.Omega.{arith}
 use lib.Dec.{leb}
-use lib.ListN.{length, length-replicate}
+use lib.ListN.{length-replicate}
 use borrow.Author.Tests.{leb-true, not-false}
 use Rattle.lists.specs.Choose.{if-cases}
 use Rattle.lists.specs.Both.{and-left, and-right}

@@ -117,6 +117,11 @@ module _ {s s′ : State} {c : Call} {r : Served} (p : Called s c r s′) where
       ∙ ap (λ (n : ℕ). take n (drop (jobWindow c .from) trayed)) (sym tray-size)
       ∙ part-same 0 (s .memory) (jobWindow c .from) (p .tray) (omega (arith, tray-size, p .lends .tray))
 
+-- ---- "that two results meeting it coincide is proved": of every call, what is given back and every octet that is left
+
+pub called-coincide : {s s₁ s₂ : State} {c : Call} {r₁ r₂ : Served} → Called s c r₁ s₁ → Called s c r₂ s₂ → (r₁ ≡ r₂) × (s₁ ≡ s₂)
+called-coincide p q = (called-served p ∙ sym (called-served q), called-after p ∙ sym (called-after q))
+
 -- ---- and every call can so end: what the definition has for it meets the contract
 
 pub meets : (s : State) (c : Call) → Lends s c → Called s c (servedOf (outcome s c)) (after s c)

@@ -20,7 +20,8 @@ use Rattle.definition.specs.Table.{placeOf, width, roomSize, gap, fresh, slotAt
 use Rattle.definition.specs.Outcome.{Outcome}
 use Rattle.definition.specs.Asking.{Made, make, blank}
 use Rattle.definition.specs.Calls.{Call, jobs, bare, decide}
-use Rattle.rules.specs.Run.{State, Asked, after, Fits, Reached, start, next}
+use Rattle.definition.specs.Run.{State, outcome, after}
+use Rattle.rules.specs.Run.{Fits, Reached, start, next}
 use Rattle.lists.specs.Both.{and-left, and-right}
 use Rattle.rules.specs.Tests.{and-both}
 use Rattle.rules.specs.Step.{Numbered, kept, refused, told, Stepped}
@@ -144,9 +145,13 @@ good-stepped {t} {room} g {k} {o} p js =
       size = length-parts js (width t) (o .parts) room ∙ g .size ∙ rw (p .n, p .d, p .m) refl;
     }
 
-pub good-after : (s : State) (a : Asked) → Good (s .table) (s .room) → Fits (a .call) → Good (after s a .table) (after s a .room)
+-- the steps of a call in a run
+pub call-steps : (s : State) → Good (s .table) (s .room) → (c : Call) → Fits c → Stepped (s .table) (length (jobs (s .table) c)) (outcome s c)
+call-steps s g c f = good-steps g c f _ _
+
+pub good-after : (s : State) (c : Call) → Good (s .table) (s .room) → Fits c → Good (after s c .table) (after s c .room)
 unfolding after
-good-after s a g f = good-stepped g (good-steps g (a .call) f (a .out) (a .job)) (jobs (s .table) (a .call))
+good-after s c g f = good-stepped g (call-steps s g c f) (jobs (s .table) c)
 
 -- no call changes the sizes
 pub record Sized (t u : Table) : Type 0 where
@@ -154,9 +159,9 @@ pub record Sized (t u : Table) : Type 0 where
   pub d : u .d ≡ t .d
   pub m : u .m ≡ t .m
 
-pub same-sizes : (s : State) (a : Asked) → Good (s .table) (s .room) → Fits (a .call) → Sized (s .table) (after s a .table)
+pub same-sizes : (s : State) (c : Call) → Good (s .table) (s .room) → Fits c → Sized (s .table) (after s c .table)
 unfolding after
-same-sizes s a g f = let p = good-steps g (a .call) f (a .out) (a .job) in record { n = p .n; d = p .d; m = p .m }
+same-sizes s c g f = let p = call-steps s g c f in record { n = p .n; d = p .d; m = p .m }
 
 -- ---- a made table has it
 
@@ -187,5 +192,5 @@ good-made n d m room =
     P o = o .answer ≡ Done → Good (o .table) (o .room)
 
 pub reached-good : {s : State} → Reached s → Good (s .table) (s .room)
-reached-good (start n d m room e) = good-made n d m room e
-reached-good (next {s} a r f) = good-after s a (reached-good r) f
+reached-good (start n d m room memory e) = good-made n d m room e
+reached-good (next {s} c r f) = good-after s c (reached-good r) f

@@ -21,15 +21,16 @@ use Rattle.channel.specs.declared.Table.{Table}
 use Rattle.definition.specs.Mem.{Move, move, moves, parts}
 use Rattle.definition.specs.Table.{placeOf, width, roomSize, gap, fresh, slotAt, live, isDisconnected, sizesFit}
 use Rattle.definition.specs.Asking.{Made, make, blank}
-use Rattle.definition.specs.Calls.{jobs}
-use Rattle.rules.specs.Run.{State, Asked, after, Fits, Reached, start}
+use Rattle.definition.specs.Calls.{Call, jobs}
+use Rattle.definition.specs.Run.{State, after}
+use Rattle.rules.specs.Run.{Fits, Reached, start}
 use Rattle.rules.specs.Run as Run
 use Rattle.rules.specs.Tests.{begun, pending-live}
 use Rattle.rules.specs.Step.{Step, hold, go, accept, free, allocate, Steps, rest, next}
 use Rattle.rules.specs.Forms.{live-at, live-length}
 use Rattle.rules.specs.Sound.{Sound, AllSound}
 use Rattle.rules.specs.Keep.{jobs-quiet}
-use Rattle.rules.specs.Good.{Good, sizes-read, within, slot-sound, good-steps, same-sizes, length-moves, reached-good}
+use Rattle.rules.specs.Good.{Good, sizes-read, within, slot-sound, call-steps, same-sizes, length-moves, reached-good}
 use Rattle.rules.specs.Rules.{call-change}
 use Rattle.rules.specs.Places.{jobIn, Clean, no-job, clean-jobs}
 
@@ -74,14 +75,14 @@ module _ (t : Table) (k : ℕ) (js : List ℕ) (d : t .d ≤ depthMost) where
         subst (λ (rest : List ℕ). AllClean w (placeOf t) ys rest) (sym (drop-at first others w same)) (steps-clean (drop w room) r (s .1) short (c .1)),
       )
 
-pub clean-after : (s : State) (a : Asked) → Good (s .table) (s .room) → Fits (a .call) → AllClean (width (s .table)) (placeOf (s .table)) (live (s .table)) (s .room)
+pub clean-after : (s : State) (a : Call) → Good (s .table) (s .room) → Fits a → AllClean (width (s .table)) (placeOf (s .table)) (live (s .table)) (s .room)
     → AllClean (width (after s a .table)) (placeOf (after s a .table)) (live (after s a .table)) (after s a .room)
 unfolding after
 clean-after s a g f c =
     let t = s .table in
-    let p = good-steps g (a .call) f (a .out) (a .job) in
+    let p = call-steps s g a f in
     rw (p .d, p .m)
-    (steps-clean t (length (jobs t (a .call))) (jobs t (a .call)) (sizes-read (t .n) (t .d) (t .m) (g .sizes) .d-most) (s .room) (p .slots) (g .slots)
+    (steps-clean t (length (jobs t a)) (jobs t a) (sizes-read (t .n) (t .d) (t .m) (g .sizes) .d-most) (s .room) (p .slots) (g .slots)
     (g .size ∙ ap (λ (n : ℕ). n * width t) (sym (live-length t (within g)))) c)
 
 -- a made room is all zero
@@ -107,7 +108,7 @@ clean-made n d m room =
     P o = o .answer ≡ Done → AllClean (width (o .table)) (placeOf (o .table)) (live (o .table)) (o .room)
 
 pub reached-clean : {s : State} → Reached s → AllClean (width (s .table)) (placeOf (s .table)) (live (s .table)) (s .room)
-reached-clean (start n d m room e) = clean-made n d m room e
+reached-clean (start n d m room memory e) = clean-made n d m room e
 reached-clean (Run.next {s} a r f) = clean-after s a (reached-good r) f (reached-clean r)
 
 -- ---- the rule, octet by octet
@@ -178,7 +179,7 @@ beginner (accept c) e f q = (c .assembly ∙ q .0, ap (λ (z : Queue). z .count)
 beginner (free h) e f q = (refl, refl)
 beginner (allocate c) e f q = (c .assembly, ap (λ (z : Queue). z .count) (c .queue))
 
-module _ {s : State} (r : Reached s) (a : Asked) (f : Fits (a .call)) (i : ℕ) (h : i < s .table .n) where
+module _ {s : State} (r : Reached s) (a : Call) (f : Fits a) (i : ℕ) (h : i < s .table .n) where
   still-in : i < after s a .table .n
   still-in = subst (λ (n : ℕ). i < n) (sym (same-sizes s a (reached-good r) f .n)) h
 

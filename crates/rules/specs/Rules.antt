@@ -27,16 +27,17 @@ use Rattle.channel.specs.declared.Table.{Table}
 use Rattle.definition.specs.Mem.{given, Move}
 use Rattle.definition.specs.Table.{gap, slotAt, found, isFree, isDisconnected, isPeerConnecting, identifierOf, index, cidOf, nextId, spent, wellFormed}
 use Rattle.definition.specs.Outcome.{Outcome, refuse}
-use Rattle.definition.specs.Calls.{jobs}
+use Rattle.definition.specs.Calls.{Call, jobs}
+use Rattle.definition.specs.Run.{State, outcome, after, run}
 use Rattle.definition.specs.Pending.{acceptPending, mtuOf, mpsOf, creditsOf}
 use Rattle.definition.specs.Opening.{create}
-use Rattle.rules.specs.Run.{State, Asked, outcome, after, run, Fits, AllFit, Reached, next}
+use Rattle.rules.specs.Run.{Fits, AllFit, Reached, next}
 use Rattle.lists.specs.Both.{and-left, and-right}
 use Rattle.rules.specs.Step.{number, Step, hold, go, accept, free, allocate, Steps, Numbered}
 use Rattle.rules.specs.Step as Step
 use Rattle.rules.specs.Forms.{live-at, gate-cases}
 use Rattle.rules.specs.Keep.{accounting-sum}
-use Rattle.rules.specs.Good.{Good, within, slot-sound, good-formed, good-steps, same-sizes, next-id, reached-good}
+use Rattle.rules.specs.Good.{Good, within, slot-sound, good-formed, call-steps, same-sizes, next-id, reached-good}
 
 -- ---- A. "the table never becomes one that refusal 1 refuses"
 
@@ -44,10 +45,10 @@ pub well-formed : {s : State} → Reached s → wellFormed (s .table) ≡ true
 well-formed r = good-formed (reached-good r)
 
 -- So no call of the run answers 1; nor 2, since the room is always the run's.
-pub never-1-nor-2 : {s : State} → Reached s → (a : Asked) → Fits (a .call) → (number (outcome s a .answer) ≡ 1 → ⊥) × (number (outcome s a .answer) ≡ 2 → ⊥)
+pub never-1-nor-2 : {s : State} → Reached s → (a : Call) → Fits a → (number (outcome s a .answer) ≡ 1 → ⊥) × (number (outcome s a .answer) ≡ 2 → ⊥)
 never-1-nor-2 {s} r a f =
     let n = number (outcome s a .answer) in
-    let p : (not (eqb n 1) && not (eqb n 2)) ≡ true = good-steps (reached-good r) (a .call) f (a .out) (a .job) .answer in
+    let p : (not (eqb n 1) && not (eqb n 2)) ≡ true = call-steps s (reached-good r) a f .answer in
     (eqb-false n 1 (not-true _ (and-left (not (eqb n 1)) _ p)), eqb-false n 2 (not-true _ (and-right (not (eqb n 1)) _ p)))
 
 -- "a credit sum never passes 65,535"
@@ -60,9 +61,9 @@ pub identifiers : {s : State} → Reached s → (1 ≤ nextId (s .table)) × (ne
 identifiers {s} r = let g = reached-good r .identifier in next-id (s .table) (g .0) (g .1)
 
 -- Each call keeps the next identifier or uses it; if it uses it, it writes nothing or one signal that carries it.
-pub identifier-used : {s : State} → Reached s → (a : Asked) → Fits (a .call) → Numbered (s .table) (after s a .table .identifier) (outcome s a .out)
+pub identifier-used : {s : State} → Reached s → (a : Call) → Fits a → Numbered (s .table) (after s a .table .identifier) (outcome s a .out)
 unfolding after
-identifier-used r a f = good-steps (reached-good r) (a .call) f (a .out) (a .job) .identifier
+identifier-used {s} r a f = call-steps s (reached-good r) a f .identifier
 
 -- Once used, the next one follows; after 255 comes 1.
 pub identifier-follows : (t : Table) → (nextId t ≡ identifierMost → spent t .identifier ≡ 1) × ((nextId t ≡ identifierMost → ⊥) → spent t .identifier ≡ nextId t + 1)
@@ -117,30 +118,30 @@ steps-at {xs = xs} Step.rest i = record { moves = []; step = hold (getD xs i gap
 steps-at (Step.next {ms = ms} p r) zero = record { moves = ms; step = p }
 steps-at (Step.next p r) (suc i) = steps-at r i
 
-pub call-change : (s : State) (a : Asked) → Good (s .table) (s .room) → Fits (a .call) → (i : ℕ) → i < s .table .n
-    → Change (s .table) (length (jobs (s .table) (a .call))) (slotAt (s .table) i) (slotAt (after s a .table) i)
+pub call-change : (s : State) (a : Call) → Good (s .table) (s .room) → Fits a → (i : ℕ) → i < s .table .n
+    → Change (s .table) (length (jobs (s .table) a)) (slotAt (s .table) i) (slotAt (after s a .table) i)
 unfolding after
 call-change s a g f i h =
-    let p = good-steps g (a .call) f (a .out) (a .job) in
-    subst₂ (λ (x y : Slot). Change (s .table) (length (jobs (s .table) (a .call))) x y) (live-at (s .table) i h) (live-at (outcome s a .table) i (rw (p .n) h))
+    let p = call-steps s g a f in
+    subst₂ (λ (x y : Slot). Change (s .table) (length (jobs (s .table) a)) x y) (live-at (s .table) i h) (live-at (outcome s a .table) i (rw (p .n) h))
     (steps-at (p .slots) i)
 
 -- One call: while the connection in slot i lasts, the sum stays.
-pub credits-step : (s : State) (a : Asked) → Good (s .table) (s .room) → Fits (a .call) → (i : ℕ) → i < s .table .n
+pub credits-step : (s : State) (a : Call) → Good (s .table) (s .room) → Fits a → (i : ℕ) → i < s .table .n
     → lasts (slotAt (s .table) i .state) ≡ true → lasts (slotAt (after s a .table) i .state) ≡ true
     → creditSum (slotAt (after s a .table) i .account) ≡ creditSum (slotAt (s .table) i .account)
 credits-step s a g f i h e e′ = step-sum (call-change s a g f i h .step) (slot-sound g i h .sum) e e′
 
 -- The connection in slot i lasts through all these calls.
-abbrev pub Lasts : ℕ → State → List Asked → Type 0
+abbrev pub Lasts : ℕ → State → List Call → Type 0
 Lasts i s [] = lasts (slotAt (s .table) i .state) ≡ true
 Lasts i s (a ∷ as′) = (lasts (slotAt (s .table) i .state) ≡ true) × Lasts i (after s a) as′
 
-lasts-now : (i : ℕ) (s : State) (as′ : List Asked) → Lasts i s as′ → lasts (slotAt (s .table) i .state) ≡ true
+lasts-now : (i : ℕ) (s : State) (as′ : List Call) → Lasts i s as′ → lasts (slotAt (s .table) i .state) ≡ true
 lasts-now i s [] l = l
 lasts-now i s (a ∷ as′) l = l .0
 
-pub credits-last : (i : ℕ) (s : State) (as′ : List Asked) → Reached s → AllFit as′ → i < s .table .n → Lasts i s as′
+pub credits-last : (i : ℕ) (s : State) (as′ : List Call) → Reached s → AllFit as′ → i < s .table .n → Lasts i s as′
     → creditSum (slotAt (run s as′ .table) i .account) ≡ creditSum (slotAt (s .table) i .account)
 unfolding run
 credits-last i s [] r f h l = refl

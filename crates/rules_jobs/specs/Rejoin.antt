@@ -26,10 +26,11 @@ use Rattle.channel.specs.declared.Verdict.the-variants.{Pass}
 use Rattle.definition.specs.Mem.{Move, put, job, fill, move, moves, parts}
 use Rattle.definition.specs.Table.{placeOf, width, roomSize, gap, slotAt, isConnected, withAccount, withAssembly, withQueue, cidOf, isCid, slotOf, wellFormed}
 use Rattle.definition.specs.Outcome.{Outcome, change, only, verdict}
-use Rattle.definition.specs.Calls.{jobs, bare, decide, joining}
+use Rattle.definition.specs.Calls.{Call, jobs, bare, decide, joining}
 use Rattle.definition.specs.Calls as Calls
+use Rattle.definition.specs.Run.{State, outcome, after}
 use Rattle.definition.specs.Frames.{queued, finishing, joined, dispatch}
-use Rattle.rules.specs.Run.{State, Asked, outcome, after, Fits, Reached, next}
+use Rattle.rules.specs.Run.{Fits, Reached, next}
 use Rattle.rules.specs.Tests.{and-both}
 use Rattle.rules.specs.Sound.{Sound}
 use Rattle.rules.specs.Join.{Reaches, reaches-first, reaches-next, joined-part, joined-whole}
@@ -67,11 +68,11 @@ pub part-long : (s : State) → Good (s .table) (s .room) → (i : ℕ) → i < 
 part-long s g i h = part-length (s .room) (i * width (s .table)) (width (s .table)) (part-fits g i h)
 
 -- a call that changes slot i alone: the slot and its part after it
-pub record Becomes (s : State) (a : Asked) (i : ℕ) (y : Slot) (ms : List Move) : Type 0 where
+pub record Becomes (s : State) (a : Call) (i : ℕ) (y : Slot) (ms : List Move) : Type 0 where
   pub slot : slotAt (after s a .table) i ≡ y
-  pub room : partOf (after s a) i ≡ moves (λ x. x) (jobs (s .table) (a .call)) (partOf s i) ms
+  pub room : partOf (after s a) i ≡ moves (λ x. x) (jobs (s .table) a) (partOf s i) ms
 
-pub changes : (s : State) (a : Asked) → Good (s .table) (s .room) → Fits (a .call) → (i : ℕ) → i < s .table .n → (y : Slot) (ms : List Move)
+pub changes : (s : State) (a : Call) → Good (s .table) (s .room) → Fits a → (i : ℕ) → i < s .table .n → (y : Slot) (ms : List Move)
     → outcome s a .table .slots ≡ set (s .table .slots) i y → outcome s a .parts ≡ only i ms → Becomes s a i y ms
 unfolding after
 changes s a g f i h y ms e e′ =
@@ -81,13 +82,13 @@ changes s a g f i h y ms e e′ =
     record {
       slot = ap (λ (xs : List Slot). getD xs i gap) e ∙ getD-set-same (t .slots) i y gap (let l = within g in omega arith);
       room =
-          ap (λ (n : ℕ). part (parts (λ x. x) (jobs t (a .call)) (width t) (outcome s a .parts) (s .room)) (i * n) n) w
-          ∙ ap (λ (mss : List (List Move)). part (parts (λ x. x) (jobs t (a .call)) (width t) mss (s .room)) (i * width t) (width t)) e′
-          ∙ parts-only (jobs t (a .call)) (width t) i ms (s .room) (part-fits g i h);
+          ap (λ (n : ℕ). part (parts (λ x. x) (jobs t a) (width t) (outcome s a .parts) (s .room)) (i * n) n) w
+          ∙ ap (λ (mss : List (List Move)). part (parts (λ x. x) (jobs t a) (width t) mss (s .room)) (i * width t) (width t)) e′
+          ∙ parts-only (jobs t a) (width t) i ms (s .room) (part-fits g i h);
     }
 
 -- a job of the slot after it
-pub job-after : (s : State) (a : Asked) → Good (s .table) (s .room) → Fits (a .call) → (i : ℕ) (y : Slot) (new : List ℕ) → slotAt (after s a .table) i ≡ y → partOf (after s a) i ≡ new → (k : ℕ)
+pub job-after : (s : State) (a : Call) → Good (s .table) (s .room) → Fits a → (i : ℕ) (y : Slot) (new : List ℕ) → slotAt (after s a .table) i ≡ y → partOf (after s a) i ≡ new → (k : ℕ)
     → jobAt (after s a) i k ≡ jobOf (placeOf (s .table)) (y .queue) new k
 job-after s a g f i y new e r k =
     ap (λ (m : ℕ). part (partOf (after s a) i) (suc k * (m - jobHead)) (getD (slotAt (after s a .table) i .queue .lens) k 0)) (same-sizes s a g f .m)
@@ -96,8 +97,8 @@ job-after s a g f i y new e r k =
 
 -- ---- a frame that comes to a Connected slot of its link, with a credit left
 
-abbrev pub framing : (link i : ℕ) → List ℕ → (out jobs : ℕ) → Asked
-framing link i payload out size = record { call = Calls.frame link (cidOf i) payload; out = out; job = size }
+abbrev pub framing : (link i : ℕ) → List ℕ → Call
+framing link i payload = Calls.frame link (cidOf i) payload
 
 cid-slot : (i : ℕ) → slotOf (cidOf i) ≡ i
 cid-slot i = omega arith
@@ -172,15 +173,15 @@ module _ (s : State) (g : Good (s .table) (s .room)) (i link n : ℕ) (handle : 
       let e : isIdle (slotAt t (slotOf (cidOf i)) .assembly) ≡ true = subst (λ (k : ℕ). isIdle (slotAt t k .assembly) ≡ true) (sym (cid-slot i)) (eq-eqb (x .assembly .want) 0 z) in
       ap (λ (b : Bool). isCid t (cidOf i) && not b) e ∙ and-false (isCid t (cidOf i))
 
-  first-jobs : (len : ℕ) (js : List ℕ) (out size : ℕ) → x .assembly .want ≡ 0 → jobs t (framing link i (le16 len ++ js) out size .call) ≡ js
+  first-jobs : (len : ℕ) (js : List ℕ) → x .assembly .want ≡ 0 → jobs t (framing link i (le16 len ++ js)) ≡ js
   unfolding jobs
-  first-jobs len js out size z = choose-false _ _ _ (idle-joining z)
+  first-jobs len js z = choose-false _ _ _ (idle-joining z)
 
-  first-outcome : (len : ℕ) (js : List ℕ) (out size : ℕ) → x .assembly .want ≡ 0
-      → outcome s (framing link i (le16 len ++ js) out size)
+  first-outcome : (len : ℕ) (js : List ℕ) → x .assembly .want ≡ 0
+      → outcome s (framing link i (le16 len ++ js))
       ≡ joined t i x′ (length js) (joinStep (x .mtu) (x .mps) (t .d) (x .assembly) (x .queue .count) (2 + length js) len)
   unfolding decide bare jobs choose
-  first-outcome len js out size z =
+  first-outcome len js z =
       let l : len % 256 + 256 * (len / 256) ≡ len = omega arith in
       ap (λ (b : Bool). dispatch t (length (s .room)) link (cidOf i) (choose b [] (le16 len)) (length (choose b (le16 len ++ js) js))) (idle-joining z)
       ∙ dispatched (le16 len) (length js)
@@ -192,21 +193,21 @@ module _ (s : State) (g : Good (s .table) (s .room)) (i link n : ℕ) (handle : 
       let e : isIdle (slotAt t (slotOf (cidOf i)) .assembly) ≡ false = subst (λ (k : ℕ). isIdle (slotAt t k .assembly) ≡ false) (sym (cid-slot i)) (ne-eqb (x .assembly .want) 0 z) in
       and-both (isCid t (cidOf i)) _ (cid-names t i (r .used)) (ap not e)
 
-  next-jobs : (js : List ℕ) (out size : ℕ) → (x .assembly .want ≡ 0 → ⊥) → jobs t (framing link i js out size .call) ≡ js
+  next-jobs : (js : List ℕ) → (x .assembly .want ≡ 0 → ⊥) → jobs t (framing link i js) ≡ js
   unfolding jobs
-  next-jobs js out size z = choose-true _ _ _ (open-joining z)
+  next-jobs js z = choose-true _ _ _ (open-joining z)
 
-  next-outcome : (js : List ℕ) (out size : ℕ) → (x .assembly .want ≡ 0 → ⊥)
-      → outcome s (framing link i js out size) ≡ joined t i x′ (length js) (joinStep (x .mtu) (x .mps) (t .d) (x .assembly) (x .queue .count) (length js) 0)
+  next-outcome : (js : List ℕ) → (x .assembly .want ≡ 0 → ⊥)
+      → outcome s (framing link i js) ≡ joined t i x′ (length js) (joinStep (x .mtu) (x .mps) (t .d) (x .assembly) (x .queue .count) (length js) 0)
   unfolding decide bare jobs choose
-  next-outcome js out size z =
+  next-outcome js z =
       ap (λ (b : Bool). dispatch t (length (s .room)) link (cidOf i) (choose b [] (take 2 js)) (length (choose b js (drop 2 js)))) (open-joining z)
       ∙ dispatched [] (length js)
       ∙ ap (λ (len : ℕ). joined t i x′ (length js) (joinStep (x .mtu) (x .mps) (t .d) (x .assembly) (x .queue .count) len 0)) (zero-add (length js))
 
   -- ---- what the call leaves, by what it comes to
 
-  module _ (a : Asked) (f : Fits (a .call)) (js : List ℕ) (carries : jobs t (a .call) ≡ js) where
+  module _ (a : Call) (f : Fits a) (js : List ℕ) (carries : jobs t a ≡ js) where
     -- after the call, the receiver still is one, for one frame fewer
     still-receives : (y : Slot) → slotAt (after s a .table) i ≡ y → isConnected (y .state) ≡ true → y .link ≡ x .link → y .account .credits ≡ x .account .credits - 1
         → y .queue .count < t .d → Receiver (after s a) i link n
@@ -232,7 +233,7 @@ module _ (s : State) (g : Good (s .table) (s .room)) (i link n : ℕ) (handle : 
           let xs = partOf s i in
           let long = part-long s g i (r .used) in
           let m = length-append done js in
-          let put-there : sets xs (x .assembly .have) (take (length js) (jobs t (a .call))) ≡ sets xs (length done) js = rw (carries, have) (ap (sets xs (length done)) (take-all (length js) js (omega arith))) in
+          let put-there : sets xs (x .assembly .have) (take (length js) (jobs t a)) ≡ sets xs (length done) js = rw (carries, have) (ap (sets xs (length done)) (take-all (length js) js (omega arith))) in
           let new : partOf (after s a) i ≡ sets xs (length done) js = b .room ∙ put-there in
           record {
             receiver = still-receives y (b .slot) (r .on) refl refl (r .place);
@@ -261,53 +262,52 @@ module _ (s : State) (g : Good (s .table) (s .room)) (i link n : ℕ) (handle : 
 
   -- ---- the four cases of a frame
 
-  module _ (out size : ℕ) where
-    -- a first frame that carries a part of its job, or all of it
-    module _ (z : x .assembly .want ≡ 0) where
-      first-grows : (js rest : List ℕ) → length (js ++ rest) ≤ x .mtu → 0 < length rest
-          → Open (after s (framing link i (le16 (length (js ++ rest)) ++ js) out size)) i link n js (length (js ++ rest)) (x .queue .count) (jobAt s i)
-      first-grows js rest m more =
-          let len = length (js ++ rest) in
-          let l : length js < len = rw (length-append js rest) (omega arith) in
-          grows (framing link i (le16 len ++ js) out size) tt js (first-jobs len js out size z) [] (ok .holding .closed z) refl len l (let w = ok .mtu in omega arith)
-          (first-outcome len js out size z
-          ∙ joined-part t i x′ (length js) (t .d) (x .queue .count) (length js) len _ (reaches-first (x .mtu) (x .mps) (t .d) (x .assembly) (x .queue .count) (length js) len z m) (ok .holding .closed) l)
+  -- a first frame that carries a part of its job, or all of it
+  module _ (z : x .assembly .want ≡ 0) where
+    first-grows : (js rest : List ℕ) → length (js ++ rest) ≤ x .mtu → 0 < length rest
+        → Open (after s (framing link i (le16 (length (js ++ rest)) ++ js))) i link n js (length (js ++ rest)) (x .queue .count) (jobAt s i)
+    first-grows js rest m more =
+        let len = length (js ++ rest) in
+        let l : length js < len = rw (length-append js rest) (omega arith) in
+        grows (framing link i (le16 len ++ js)) tt js (first-jobs len js z) [] (ok .holding .closed z) refl len l (let w = ok .mtu in omega arith)
+        (first-outcome len js z
+        ∙ joined-part t i x′ (length js) (t .d) (x .queue .count) (length js) len _ (reaches-first (x .mtu) (x .mps) (t .d) (x .assembly) (x .queue .count) (length js) len z m) (ok .holding .closed) l)
 
-      first-finishes : (sdu : List ℕ) → length sdu ≤ x .mtu
-          → Rejoined (after s (framing link i (le16 (length sdu) ++ sdu) out size)) i sdu (x .queue .count) (jobAt s i)
-      first-finishes sdu m =
-          let len = length sdu in
-          finishes (framing link i (le16 len ++ sdu) out size) tt sdu (first-jobs len sdu out size z) sdu
-          (finish-alone t x′ (partOf s i) (ok .holding) (part-long s g i (r .used)) most (r .place) sdu z (let w = ok .mtu in omega arith))
-          (first-outcome len sdu out size z
-          ∙ joined-whole t i x′ len (t .d) (x .queue .count) len len _ (reaches-first (x .mtu) (x .mps) (t .d) (x .assembly) (x .queue .count) len len z m) refl (r .place))
+    first-finishes : (sdu : List ℕ) → length sdu ≤ x .mtu
+        → Rejoined (after s (framing link i (le16 (length sdu) ++ sdu))) i sdu (x .queue .count) (jobAt s i)
+    first-finishes sdu m =
+        let len = length sdu in
+        finishes (framing link i (le16 len ++ sdu)) tt sdu (first-jobs len sdu z) sdu
+        (finish-alone t x′ (partOf s i) (ok .holding) (part-long s g i (r .used)) most (r .place) sdu z (let w = ok .mtu in omega arith))
+        (first-outcome len sdu z
+        ∙ joined-whole t i x′ len (t .d) (x .queue .count) len len _ (reaches-first (x .mtu) (x .mps) (t .d) (x .assembly) (x .queue .count) len len z m) refl (r .place))
 
-    -- a later one
-    module _ (done js : List ℕ) (want : ℕ) (is : x .assembly ≡ record { have = length done; want = want }) (wants : 0 < want) (there : take (length done) (partOf s i) ≡ done) where
-      some : x .assembly .want ≡ 0 → ⊥
-      some e = let f = ap (λ (b : Assembly). b .want) is in omega arith
+  -- a later one
+  module _ (done js : List ℕ) (want : ℕ) (is : x .assembly ≡ record { have = length done; want = want }) (wants : 0 < want) (there : take (length done) (partOf s i) ≡ done) where
+    some : x .assembly .want ≡ 0 → ⊥
+    some e = let f = ap (λ (b : Assembly). b .want) is in omega arith
 
-      small : want ≤ placeOf t
-      small = let f = ap (λ (b : Assembly). b .want) is in let w = ok .holding .want in omega arith
+    small : want ≤ placeOf t
+    small = let f = ap (λ (b : Assembly). b .want) is in let w = ok .holding .want in omega arith
 
-      reaches : Reaches (t .d) (x .queue .count) (joinStep (x .mtu) (x .mps) (t .d) (x .assembly) (x .queue .count) (length js) 0) (length (done ++ js)) want
-      reaches =
-          let e : x .assembly .have + length js ≡ length (done ++ js) = ap (λ (b : Assembly). b .have + length js) is ∙ sym (length-append done js) in
-          subst₂ (λ (h w : ℕ). Reaches (t .d) (x .queue .count) (joinStep (x .mtu) (x .mps) (t .d) (x .assembly) (x .queue .count) (length js) 0) h w) e (ap (λ (b : Assembly). b .want) is)
-          (reaches-next (x .mtu) (x .mps) (t .d) (x .assembly) (x .queue .count) (length js) 0 some)
+    reaches : Reaches (t .d) (x .queue .count) (joinStep (x .mtu) (x .mps) (t .d) (x .assembly) (x .queue .count) (length js) 0) (length (done ++ js)) want
+    reaches =
+        let e : x .assembly .have + length js ≡ length (done ++ js) = ap (λ (b : Assembly). b .have + length js) is ∙ sym (length-append done js) in
+        subst₂ (λ (h w : ℕ). Reaches (t .d) (x .queue .count) (joinStep (x .mtu) (x .mps) (t .d) (x .assembly) (x .queue .count) (length js) 0) h w) e (ap (λ (b : Assembly). b .want) is)
+        (reaches-next (x .mtu) (x .mps) (t .d) (x .assembly) (x .queue .count) (length js) 0 some)
 
-      next-grows : length (done ++ js) < want → Open (after s (framing link i js out size)) i link n (done ++ js) want (x .queue .count) (jobAt s i)
-      next-grows l =
-          grows (framing link i js out size) tt js (next-jobs js out size some) done (ap (λ (b : Assembly). b .have) is) there want l small
-          (next-outcome js out size some ∙ joined-part t i x′ (length js) (t .d) (x .queue .count) (length (done ++ js)) want _ reaches (ok .holding .closed) l)
+    next-grows : length (done ++ js) < want → Open (after s (framing link i js)) i link n (done ++ js) want (x .queue .count) (jobAt s i)
+    next-grows l =
+        grows (framing link i js) tt js (next-jobs js some) done (ap (λ (b : Assembly). b .have) is) there want l small
+        (next-outcome js some ∙ joined-part t i x′ (length js) (t .d) (x .queue .count) (length (done ++ js)) want _ reaches (ok .holding .closed) l)
 
-      next-finishes : length (done ++ js) ≡ want → Rejoined (after s (framing link i js out size)) i (done ++ js) (x .queue .count) (jobAt s i)
-      next-finishes e =
-          finishes (framing link i js out size) tt js (next-jobs js out size some) (done ++ js)
-          (finish-joined t x′ (partOf s i) (ok .holding) (part-long s g i (r .used)) most (r .place) done js some (ap (λ (b : Assembly). b .have) is) there (let w = small in omega arith))
-          (next-outcome js out size some
-          ∙ joined-whole t i x′ (length js) (t .d) (x .queue .count) (length (done ++ js)) want _ reaches e (r .place)
-          ∙ ap (λ (len : ℕ). change t i (withQueue (queued len (x .queue)) (withAssembly idle x′)) (finishing t x′ (length js)) Done []) (sym e))
+    next-finishes : length (done ++ js) ≡ want → Rejoined (after s (framing link i js)) i (done ++ js) (x .queue .count) (jobAt s i)
+    next-finishes e =
+        finishes (framing link i js) tt js (next-jobs js some) (done ++ js)
+        (finish-joined t x′ (partOf s i) (ok .holding) (part-long s g i (r .used)) most (r .place) done js some (ap (λ (b : Assembly). b .have) is) there (let w = small in omega arith))
+        (next-outcome js some
+        ∙ joined-whole t i x′ (length js) (t .d) (x .queue .count) (length (done ++ js)) want _ reaches e (r .place)
+        ∙ ap (λ (len : ℕ). change t i (withQueue (queued len (x .queue)) (withAssembly idle x′)) (finishing t x′ (length js)) Done []) (sym e))
 
 -- ---- the frames of a job, as they come
 
@@ -324,12 +324,12 @@ pub record Unchanged (s s′ : State) (i : ℕ) : Type 0 where
 -- From state s to state s′ these payloads come, in this order, to slot i on its link; and other calls, that leave the slot unchanged.
 pub data Arrives (i link : ℕ) : List (List ℕ) → State → State → Type 0 where
   all : {s : State} → Arrives i link [] s s
-  between : {ps : List (List ℕ)} {s s′ : State} (a : Asked) → Fits (a .call) → Unchanged s (after s a) i → Arrives i link ps (after s a) s′ → Arrives i link ps s s′
-  comes : {ps : List (List ℕ)} {s s′ : State} (p : List ℕ) (out size : ℕ) → Arrives i link ps (after s (framing link i p out size)) s′ → Arrives i link (p ∷ ps) s s′
+  between : {ps : List (List ℕ)} {s s′ : State} (a : Call) → Fits a → Unchanged s (after s a) i → Arrives i link ps (after s a) s′ → Arrives i link ps s s′
+  comes : {ps : List (List ℕ)} {s s′ : State} (p : List ℕ) → Arrives i link ps (after s (framing link i p)) s′ → Arrives i link (p ∷ ps) s s′
 
 -- ---- such a call keeps all of this
 
-module _ (s : State) (g : Good (s .table) (s .room)) (a : Asked) (f : Fits (a .call)) (i : ℕ) (u : Unchanged s (after s a) i) where
+module _ (s : State) (g : Good (s .table) (s .room)) (a : Call) (f : Fits a) (i : ℕ) (u : Unchanged s (after s a) i) where
   job-kept : (k : ℕ) → jobAt (after s a) i k ≡ jobAt s i k
   job-kept k = job-after s a g f i (slotAt (s .table) i) (partOf s i) (u .slot) (u .room) k
 
@@ -394,18 +394,18 @@ module _ (i link : ℕ) (handle : link ≤ handleMost) where
   rest-arrives : {s s′ : State} {done rest : List ℕ} {ps : List (List ℕ)} {c : ℕ} {jobs : ℕ → List ℕ} → Arrives i link ps s s′ → Rest rest ps → Reached s → 0 < length rest
       → Open s i link (length ps) done (length (done ++ rest)) c jobs → Rejoined s′ i (done ++ rest) c jobs
   rest-arrives {s} {done = done} {c = c} {jobs = jobs} (between a f u v) q r h o = rest-arrives {done = done} {c = c} {jobs = jobs} v q (next a r f) h (open-kept s (reached-good r) a f i u o)
-  rest-arrives {s} {done = done} (comes p out size v) (last p′) r h o =
+  rest-arrives {s} {done = done} (comes p v) (last p′) r h o =
       let wants : 0 < length (done ++ p) = rw (length-append done p) (omega arith) in
-      settled v (next (framing link i p out size) r tt)
-      (rejoined-as (o .count) (o .olds) (next-finishes s (reached-good r) i link 0 handle (o .receiver) out size done p (length (done ++ p)) (o .assembly) wants (o .there) refl))
-  rest-arrives {s} {s′} {done} {c = c} {jobs = jobs} (comes {ps = ps} p out size v) (more p′ {rest} m q) r h o =
+      settled v (next (framing link i p) r tt)
+      (rejoined-as (o .count) (o .olds) (next-finishes s (reached-good r) i link 0 handle (o .receiver) done p (length (done ++ p)) (o .assembly) wants (o .there) refl))
+  rest-arrives {s} {s′} {done} {c = c} {jobs = jobs} (comes {ps = ps} p v) (more p′ {rest} m q) r h o =
       let wants : 0 < length (done ++ (p ++ rest)) = rw (length-append done (p ++ rest)) (omega arith) in
       let e = append-assoc done p rest in
       let l : length (done ++ p) < length (done ++ (p ++ rest)) = rw (← e, length-append (done ++ p) rest) (omega arith) in
       subst (λ (sdu : List ℕ). Rejoined s′ i sdu c jobs) e
-      (rest-arrives {done = done ++ p} {c = c} {jobs = jobs} v q (next (framing link i p out size) r tt) m
-      (subst (λ (sdu : List ℕ). Open (after s (framing link i p out size)) i link (length ps) (done ++ p) (length sdu) c jobs) (sym e)
-      (open-as (o .count) (o .olds) (next-grows s (reached-good r) i link (length ps) handle (o .receiver) out size done p (length (done ++ (p ++ rest))) (o .assembly) wants (o .there) l))))
+      (rest-arrives {done = done ++ p} {c = c} {jobs = jobs} v q (next (framing link i p) r tt) m
+      (subst (λ (sdu : List ℕ). Open (after s (framing link i p)) i link (length ps) (done ++ p) (length sdu) c jobs) (sym e)
+      (open-as (o .count) (o .olds) (next-grows s (reached-good r) i link (length ps) handle (o .receiver) done p (length (done ++ (p ++ rest))) (o .assembly) wants (o .there) l))))
 
   -- "Rejoining is exact when the receiver is Connected and idle with n credits, a free queue place, MTU ≥ L, .. and the frames arrive in order
   -- on their own link with no other change of that slot between": then the job waits, whole, behind those that waited.
@@ -416,7 +416,7 @@ module _ (i link : ℕ) (handle : link ≤ handleMost) where
       rejoined-as (ap (λ (x : Slot). x .queue .count) (u .slot)) (λ k _. job-kept s (reached-good r) a f i u k)
       (rejoins v w (next a r f) (receiver-kept s (reached-good r) a f i u n) (ap (λ (x : Slot). x .assembly .want) (u .slot) ∙ z)
       (subst (λ (x : Slot). length sdu ≤ x .mtu) (sym (u .slot)) m))
-  rejoins {s} (comes p out size v) (last sdu′) r n z m =
-      settled v (next (framing link i p out size) r tt) (first-finishes s (reached-good r) i link 0 handle n out size z sdu′ m)
-  rejoins {s} (comes p out size v) (more q {rest} {ps} h w) r n z m =
-      rest-arrives {done = q} {c = slotAt (s .table) i .queue .count} {jobs = jobAt s i} v w (next (framing link i p out size) r tt) h (first-grows s (reached-good r) i link (length ps) handle n out size z q rest m h)
+  rejoins {s} (comes p v) (last sdu′) r n z m =
+      settled v (next (framing link i p) r tt) (first-finishes s (reached-good r) i link 0 handle n z sdu′ m)
+  rejoins {s} (comes p v) (more q {rest} {ps} h w) r n z m =
+      rest-arrives {done = q} {c = slotAt (s .table) i .queue .count} {jobs = jobAt s i} v w (next (framing link i p) r tt) h (first-grows s (reached-good r) i link (length ps) handle n z q rest m h)

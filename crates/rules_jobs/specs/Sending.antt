@@ -23,11 +23,12 @@ use Rattle.definition.specs.Table.{slotAt}
 use Rattle.definition.specs.Outcome.{Outcome, refuse}
 use Rattle.definition.specs.Frames.{frames, laterFrames, send}
 use Rattle.definition.specs.Calls.{Window, sends, jobs, bare, decide}
-use Rattle.rules.specs.Run.{State, Asked, outcome, Reached}
+use Rattle.definition.specs.Run.{State, outcome}
+use Rattle.rules.specs.Run.{Reached}
 use Rattle.rules.specs.Forms.{gate-cases}
 use Rattle.rules.specs.Join.{planned-frames}
 use Rattle.rules_jobs.specs.Rejoin.{Rest, last, more, Arrives, Receiver, Rejoined, jobAt, rejoins}
-use Rattle.rules_jobs.specs.Taking.{taking, rejoined-taken}
+use Rattle.rules_jobs.specs.Taking.{taking, sized, rejoined-taken}
 
 -- ---- the payloads of a job carry it, and only the last completes it
 
@@ -89,24 +90,21 @@ module _ (sdu room : List ℕ) (cid m : ℕ) (wide : 2 ≤ m) where
 
 -- ---- a send that is answered 0
 
-abbrev pub sending : ℕ → List ℕ → (out size : ℕ) → Window → Asked
-sending j sdu out size w = record { call = sends j sdu w; out = out; job = size }
-
 -- It writes the n frames of the SDU for the peer's MPS. x is the slot that is sent on, o what the call comes to.
 pub record Sends (x : Slot) (sdu room : List ℕ) (n : ℕ) (o : Outcome) : Type 0 where
   pub octets : fills (λ x. x) sdu room (o .out) ≡ framesOf (x .peer .cid) (x .peer .mps) sdu
   pub count : length (payloads (x .peer .mps) sdu) ≡ n
   pub wide : 2 ≤ x .peer .mps
 
-pub sends-frames : (s : State) (j : ℕ) (sdu : List ℕ) (out size : ℕ) (w : Window) (link n : ℕ) → outcome s (sending j sdu out size w) .answer ≡ Frames link n
-    → Sends (slotAt (s .table) j) sdu (s .room) n (outcome s (sending j sdu out size w))
+pub sends-frames : (s : State) (j : ℕ) (sdu : List ℕ) (w : Window) (link n : ℕ) → outcome s (sends j sdu w) .answer ≡ Frames link n
+    → Sends (slotAt (s .table) j) sdu (s .room) n (outcome s (sends j sdu w))
 unfolding decide bare jobs send
-sends-frames s j sdu out size w link n =
+sends-frames s j sdu w link n =
     gate-cases P (s .table) _ _ _ _ (λ r. never)
     (λ _. if-cases P _ (λ _. never)
     (λ _ e.
     let x = slotAt (s .table) j in
-    let z = planned-frames (s .table) j x (length sdu) out link n e in
+    let z = planned-frames (s .table) j x (length sdu) (sized w s) link n e in
     let wide : 2 ≤ x .peer .mps = (let y = z .wide in omega arith) in
     record {
       octets = ap (fills (λ x. x) sdu (s .room)) (z .out) ∙ frames-written sdu (s .room) (x .peer .cid) (x .peer .mps) wide n (z .count);
@@ -125,12 +123,12 @@ sends-frames s j sdu out size w link n =
 -- A send was answered 0 with n frames, anywhere. The receiver, in a run of its own, is Connected and idle with n credits, a free queue place and
 -- MTU ≥ L; the frames' payloads come in order on their own link, and other calls between them leave that slot unchanged. Then the job waits there,
 -- whole, behind those that waited before, which are unchanged.
-pub exact-rejoining : (sender : State) (j : ℕ) (sdu : List ℕ) (out size : ℕ) (w : Window) (link′ n : ℕ) → outcome sender (sending j sdu out size w) .answer ≡ Frames link′ n
+pub exact-rejoining : (sender : State) (j : ℕ) (sdu : List ℕ) (w : Window) (link′ n : ℕ) → outcome sender (sends j sdu w) .answer ≡ Frames link′ n
     → {s s′ : State} (i link : ℕ) → link ≤ handleMost → Reached s → Receiver s i link n → slotAt (s .table) i .assembly .want ≡ 0 → length sdu ≤ slotAt (s .table) i .mtu
     → Arrives i link (payloads (slotAt (sender .table) j .peer .mps) sdu) s s′
     → Rejoined s′ i sdu (slotAt (s .table) i .queue .count) (jobAt s i)
-exact-rejoining sender j sdu out size w link′ n answered {s} {s′} i link handle r v z m a =
-    let f = sends-frames sender j sdu out size w link′ n answered in
+exact-rejoining sender j sdu w link′ n answered {s} {s′} i link handle r v z m a =
+    let f = sends-frames sender j sdu w link′ n answered in
     let mps = slotAt (sender .table) j .peer .mps in
     let e = payloads-is mps sdu (f .wide) in
     let wide : 0 < mps = (let y = f .wide in omega arith) in
@@ -139,8 +137,8 @@ exact-rejoining sender j sdu out size w link′ n answered {s} {s′} i link han
     (subst (λ (k : ℕ). Receiver s i link k) (sym (f .count) ∙ ap length e) v) z m
 
 -- Where no job waited before it, the next take hands out the SDU and reports its length.
-pub exact-taking : {s : State} → Reached s → (i : ℕ) (sdu : List ℕ) (others : ℕ → List ℕ) → Rejoined s i sdu 0 others → (out size : ℕ) → signalMost ≤ out → length sdu ≤ size → (w v : Window)
-    → (fills (λ x. x) [] (s .room) (outcome s (taking i out size w v) .job) ≡ sdu)
-    × (outcome s (taking i out size w v) .answer ≡ Job (slotAt (s .table) i .link) (length sdu) (length sdu))
+pub exact-taking : {s : State} → Reached s → (i : ℕ) (sdu : List ℕ) (others : ℕ → List ℕ) → Rejoined s i sdu 0 others → (w v : Window) → signalMost ≤ sized w s → length sdu ≤ sized v s
+    → (fills (λ x. x) [] (s .room) (outcome s (taking i w v) .job) ≡ sdu)
+    × (outcome s (taking i w v) .answer ≡ Job (slotAt (s .table) i .link) (length sdu) (length sdu))
 unfolding jobs
-exact-taking {s} r i sdu others j out size l big w v = rejoined-taken s r i sdu others j out size l big w v
+exact-taking {s} r i sdu others j w v l big = rejoined-taken s r i sdu others j w v l big

@@ -24,9 +24,10 @@ use Rattle.channel.specs.declared.Verdict.the-variants.{Pass}
 use Rattle.definition.specs.Mem.{Fill, held, fill, fills, moves}
 use Rattle.definition.specs.Table.{placeOf, width, roomSize, slotAt, wellFormed}
 use Rattle.definition.specs.Outcome.{Outcome, only, verdict}
-use Rattle.definition.specs.Calls.{Window, plain, takes, jobs, bare, decide, serve}
+use Rattle.definition.specs.Calls.{Window, Call, plain, takes, jobs, bare, decide, serve}
+use Rattle.definition.specs.Run.{State, lent, jobWindow, outcome, after}
 use Rattle.definition.specs.Frames.{shifted, movingUp, grantIn, taken, receive}
-use Rattle.rules.specs.Run.{State, Asked, outcome, after, Reached}
+use Rattle.rules.specs.Run.{Reached}
 use Rattle.rules.specs.Tests.{begun, begun-takes, connected-begun}
 use Rattle.rules.specs.Sound.{Sound}
 use Rattle.rules.specs.Good.{Good, sizes-read, slot-sound, good-formed, reached-good}
@@ -55,8 +56,13 @@ take-both m n xs =
 
 -- ---- the call
 
-abbrev pub taking : (i out size : ℕ) → Window → Window → Asked
-taking i out size w v = record { call = plain (takes i) w v; out = out; job = size }
+-- a take of slot i, with signal buffer w and job buffer v
+abbrev pub taking : ℕ → (w v : Window) → Call
+taking i w v = plain (takes i) w v
+
+-- how many octets a buffer has
+abbrev pub sized : Window → State → ℕ
+sized w s = length (lent w (s .memory))
 
 -- what it comes to, whatever is granted
 record Hands (t : Table) (i : ℕ) (x : Slot) (size : ℕ) (o : Outcome) : Type 0 where
@@ -80,37 +86,38 @@ verdict-passes t room signal i well size l h =
 
 -- the tests that a take passes
 received-is : (s : State) → Good (s .table) (s .room) → (i : ℕ) → i < s .table .n → begun (slotAt (s .table) i .state) ≡ true → 0 < slotAt (s .table) i .queue .count
-    → (out size : ℕ) → signalMost ≤ out → (w v : Window) → outcome s (taking i out size w v) ≡ taken (s .table) i (slotAt (s .table) i) size (grantIn (slotAt (s .table) i))
+    → (w v : Window) → signalMost ≤ sized w s → outcome s (taking i w v) ≡ taken (s .table) i (slotAt (s .table) i) (sized v s) (grantIn (slotAt (s .table) i))
 unfolding decide serve bare receive
-received-is s g i h b c out size l w v =
-    rw (verdict-passes (s .table) (length (s .room)) out i (good-formed g) (g .size) l h)
+received-is s g i h b c w v l =
+    rw (verdict-passes (s .table) (length (s .room)) (sized w s) i (good-formed g) (g .size) l h)
     (choose-false _ _ _ (begun-takes (slotAt (s .table) i .state) b) ∙ choose-false _ _ _ (ne-eqb (slotAt (s .table) i .queue .count) 0 (λ z. omega arith)))
 
-pub record Taken (s : State) (a : Asked) (i : ℕ) : Type 0 where
+pub record Taken (s : State) (a : Call) (i : ℕ) : Type 0 where
   -- "copies min(job, buffer) octets .. and reports both lengths"
-  pub answer : outcome s a .answer ≡ Job (slotAt (s .table) i .link) (min (length (jobAt s i 0)) (a .job)) (length (jobAt s i 0))
-  pub octets : fills (λ x. x) (jobs (s .table) (a .call)) (s .room) (outcome s a .job) ≡ take (a .job) (jobAt s i 0)
+  pub answer : outcome s a .answer ≡ Job (slotAt (s .table) i .link) (min (length (jobAt s i 0)) (sized (jobWindow a) s)) (length (jobAt s i 0))
+  pub octets : fills (λ x. x) (jobs (s .table) a) (s .room) (outcome s a .job) ≡ take (sized (jobWindow a) s) (jobAt s i 0)
   -- ".. in order of arrival": the others are one nearer
   pub count : slotAt (after s a .table) i .queue .count ≡ slotAt (s .table) i .queue .count - 1
   pub others : (k : ℕ) → suc k < slotAt (s .table) i .queue .count → jobAt (after s a) i k ≡ jobAt s i (suc k)
 
 pub takes-oldest : (s : State) → Good (s .table) (s .room) → (i : ℕ) → i < s .table .n → begun (slotAt (s .table) i .state) ≡ true → 0 < slotAt (s .table) i .queue .count
-    → (out size : ℕ) → signalMost ≤ out → (w v : Window) → Taken s (taking i out size w v) i
+    → (w v : Window) → signalMost ≤ sized w s → Taken s (taking i w v) i
 unfolding fills fill
-takes-oldest s g i h b c out size l w v =
+takes-oldest s g i h b c w v l =
+    let size = sized v s in
     let len = getD (x .queue .lens) 0 0 in
-    let o = outcome s (taking i out size w v) in
+    let o = outcome s (taking i w v) in
     let z = subst (λ (o : Outcome). Hands t i x size o) (sym is) (hands t i x size (grantIn x)) in
-    let n = changes s (taking i out size w v) g tt i h (z .slot) (movingUp t x) (z .slots) (z .parts) in
+    let n = changes s (taking i w v) g tt i h (z .slot) (movingUp t x) (z .slots) (z .parts) in
     let q = ap (λ (y : Slot). y .queue) (n .slot) ∙ z .queue in
     record {
       answer = z .answer ∙ rw long refl;
-      octets = ap (λ (fs : List Fill). fills (λ x. x) (jobs t (taking i out size w v .call)) (s .room) fs) (z .job) ∙ append-nil _ ∙ take-both size len (drop (i * width t + p) (s .room)) ∙ ap (take size) (sym whole);
+      octets = ap (λ (fs : List Fill). fills (λ x. x) (jobs t (taking i w v)) (s .room) fs) (z .job) ∙ append-nil _ ∙ take-both size len (drop (i * width t + p) (s .room)) ∙ ap (take size) (sym whole);
       count = ap (λ (r : Queue). r .count) q;
       others = λ k m.
-          let js = jobs t (taking i out size w v .call) in
+          let js = jobs t (taking i w v) in
           let new = moves (λ y. y) js (partOf s i) (movingUp t x) in
-          job-after s (taking i out size w v) g tt i (z .slot) new (n .slot) (n .room) k ∙ ap (λ (r : Queue). jobOf p r new k) (z .queue)
+          job-after s (taking i w v) g tt i (z .slot) new (n .slot) (n .room) k ∙ ap (λ (r : Queue). jobOf p r new k) (z .queue)
           ∙ moved-up t x (partOf s i) (ok .holding) (part-long s g i h) most js k m;
     }
   where
@@ -145,17 +152,18 @@ takes-oldest s g i h b c out size l w v =
     long : length (jobAt s i 0) ≡ getD (x .queue .lens) 0 0
     long = part-length (partOf s i) (1 * p) (getD (x .queue .lens) 0 0) (rw (part-long s g i h) inside)
 
-    is : outcome s (taking i out size w v) ≡ taken t i x size (grantIn x)
-    is = received-is s g i h b c out size l w v
+    is : outcome s (taking i w v) ≡ taken t i x (sized v s) (grantIn x)
+    is = received-is s g i h b c w v l
 
 -- ---- the job that was rejoined is the job taken
 
 -- With no other job before it, and a buffer that holds it: exactly its octets, and its length twice.
-pub rejoined-taken : (s : State) → Reached s → (i : ℕ) (sdu : List ℕ) (jobs′ : ℕ → List ℕ) → Rejoined s i sdu 0 jobs′ → (out size : ℕ) → signalMost ≤ out → length sdu ≤ size → (w v : Window)
-    → (fills (λ x. x) (jobs (s .table) (taking i out size w v .call)) (s .room) (outcome s (taking i out size w v) .job) ≡ sdu)
-    × (outcome s (taking i out size w v) .answer ≡ Job (slotAt (s .table) i .link) (length sdu) (length sdu))
-rejoined-taken s r i sdu jobs′ j out size l big w v =
+pub rejoined-taken : (s : State) → Reached s → (i : ℕ) (sdu : List ℕ) (jobs′ : ℕ → List ℕ) → Rejoined s i sdu 0 jobs′ → (w v : Window) → signalMost ≤ sized w s → length sdu ≤ sized v s
+    → (fills (λ x. x) (jobs (s .table) (taking i w v)) (s .room) (outcome s (taking i w v) .job) ≡ sdu)
+    × (outcome s (taking i w v) .answer ≡ Job (slotAt (s .table) i .link) (length sdu) (length sdu))
+rejoined-taken s r i sdu jobs′ j w v l big =
+    let size = sized v s in
     let c = j .count in
-    let z = takes-oldest s (reached-good r) i (j .used) (connected-begun (slotAt (s .table) i .state) (j .on)) (omega arith) out size l w v in
+    let z = takes-oldest s (reached-good r) i (j .used) (connected-begun (slotAt (s .table) i .state) (j .on)) (omega arith) w v l in
     let e : min (length sdu) size ≡ length sdu = omega arith in
     (z .octets ∙ ap (take size) (j .whole) ∙ take-all size sdu big, z .answer ∙ ap (λ (xs : List ℕ). Job (slotAt (s .table) i .link) (min (length xs) size) (length xs)) (j .whole) ∙ rw e refl)

@@ -1,12 +1,11 @@
 -- The worked run of crate definition meets the premises of demand 3, whatever its job octets; and where its marks stand: on the job that
 -- was taken and on the payload of the frame that was sent, on nothing else.
 use Rattle.writer.specs.Writer.{encodeOf}
-use mathlib.Core.Path.{_≡_, refl}
-use mathlib.Core.Bool.{true, false}
+use mathlib.Core.Path.{_≡_, refl, sym}
+use mathlib.Core.Bool.{true, false, false≢true}
 use mathlib.Core.List.{[], _∷_, _++_}
 use Prim.Native.Nat.{ℕ}
 use lib.ListN.{replicate, take}
-use native.Mathlib.Omega.{arith}
 use Rattle.lists.specs.Choose.{choose}
 use Rattle.lists.specs.First.{first}
 use Rattle.lists.specs.Every.{every}
@@ -24,7 +23,8 @@ use Rattle.definition.specs.Closing.{decRef, disconnecting, disconnect, disconn
 use Rattle.definition.specs.Signals.{onConnReq, handled, checked, signalled}
 use Rattle.definition.specs.Frames.{joined, dispatch, laterFrames, frames, planned, send, grantIn, taken, receive}
 use Rattle.definition.specs.Asking.{make, registerSpsm}
-use Rattle.definition.specs.Calls.{jobs, bare, carrier, serve, decide}
+use Rattle.definition.specs.Calls as Calls
+use Rattle.definition.specs.Calls.{bare, serve, decide}
 use Rattle.definition.specs.Numbers.{answerNumber}
 use Rattle.definition.specs.Run.{after}
 use Rattle.definition.specs.Example.{start, calls}
@@ -36,7 +36,7 @@ made-well = refl
 
 -- Two such runs with different job octets are alike: in life 0 of link 1.
 alike : (id a b c x y e a′ b′ c′ x′ y′ e′ : ℕ) → AlikeRuns 1 0 0 start (calls id a b c x y e) (calls id a′ b′ c′ x′ y′ e′)
-unfolding encodeOf overAfter after decide serve registerSpsm signalled checked headersOf whole handled onConnReq leCreditConnReq nextPending acceptPending dispatch joined joinStep firstStep reached assembled receive taken grantIn grantOf due send planned planSend frameCount ceil framesLength frames laterFrames disconnect disconnecting nextDisconnect disconnected decRef jobs bare verdict wellFormed slotFits every first only choose make parts moves move fill fills written
+unfolding encodeOf overAfter after decide serve registerSpsm signalled checked headersOf whole handled onConnReq leCreditConnReq nextPending acceptPending dispatch joined joinStep firstStep reached assembled receive taken grantIn grantOf due send planned planSend frameCount ceil framesLength frames laterFrames disconnect disconnecting nextDisconnect disconnected decRef Calls.jobs bare verdict wellFormed slotFits every first only choose make parts moves move fill fills written
 alike id a b c x y e a′ b′ c′ x′ y′ e′ = (
   same,
   (
@@ -48,7 +48,7 @@ alike id a b c x y e a′ b′ c′ x′ y′ e′ = (
         (
           exchanged refl (framed refl (λ _. refl)),
           (
-            exchanged refl (framed refl (λ none. absurd (none (record { slot = 0; named = refl; within = omega arith; wants = λ (z : _≡_ {A = ℕ} 3 0). omega arith })))),
+            exchanged refl (framed refl (λ (e : true ≡ false). absurd (false≢true (sym e)))),
             (same, (exchanged refl (sent {s = 0} refl refl), (exchanged refl (framed refl (λ _. refl)), (same, (same, (same, (same, tt))))))),
           ),
         ),
@@ -67,5 +67,5 @@ module _ (id a b c x y e : ℕ) where
     over : marksOf 1 0 start (calls id a b c x y e) .over ≡ 1
 
   marks : Marked
-  unfolding encodeOf marksFrom marked overAfter after decide serve registerSpsm signalled checked headersOf whole handled onConnReq leCreditConnReq nextPending acceptPending dispatch joined joinStep firstStep reached assembled receive taken grantIn grantOf due send planned planSend frameCount ceil framesLength frames laterFrames disconnect disconnecting nextDisconnect disconnected decRef jobs bare carrier verdict wellFormed slotFits every first only choose make parts moves move fill fills written
+  unfolding encodeOf marksFrom marked overAfter after decide serve registerSpsm signalled checked headersOf whole handled onConnReq leCreditConnReq nextPending acceptPending dispatch joined joinStep firstStep reached assembled receive taken grantIn grantOf due send planned planSend frameCount ceil framesLength frames laterFrames disconnect disconnecting nextDisconnect disconnected decRef Calls.jobs bare verdict wellFormed slotFits every first only choose make parts moves move fill fills written
   marks = record { half = refl; memory = refl; room = refl; over = refl }

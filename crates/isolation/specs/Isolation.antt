@@ -3,7 +3,7 @@
 use mathlib.Core.Path.{_≡_, refl, sym, _∙_, ap, ap₂, subst}
 use mathlib.Core.Bool.{Bool, true, false, _&&_, and-false, false≢true}
 use mathlib.Core.List.{List, [], _∷_, map}
-use Prim.Native.Nat.{ℕ, zero, suc, _*_, _≤_}
+use Prim.Native.Nat.{ℕ, zero, suc, _*_, _≤_, _<_}
 use native.Mathlib.Omega.{arith}
 use lib.Dec.{eqb, leb}
 use lib.ListN.{length, take, getD, length-map, length-replicate}
@@ -17,7 +17,7 @@ use Rattle.channel.specs.declared.Table.{Table}
 use Rattle.definition.specs.Table.{fresh, gap, slotAt, live, width, roomSize}
 use Rattle.definition.specs.Outcome.{Outcome}
 use Rattle.definition.specs.Asking.{Made, blank, make}
-use Rattle.definition.specs.Calls.{Window, Call, frame, sends, down, plain, jobs, bare, carrier, framesOut, jobOut, decide, Holder, nobody, by, holder, isBy}
+use Rattle.definition.specs.Calls.{Window, Call, frame, sends, down, plain, jobs, bare, carrier, framesOut, jobOut, decide, nobody, holder, isBy}
 use Rattle.definition.specs.Numbers.{answerNumber}
 use Rattle.definition.specs.Ending.{itself}
 use Rattle.definition.specs.Run.{State, lent, outWindow, jobWindow, outcome, roomLeft, memoryLeft, after, made, run, outcomes}
@@ -26,7 +26,8 @@ use Rattle.definition.specs.Forms.{Fit}
 use Rattle.definition.specs.Safe.{Safe, Without, safe, down-clears}
 use Rattle.definition.specs.Mem.{Fill, fills}
 use Rattle.definition.specs.Handed.{OwnFills, none, Hands, hands}
-use Rattle.isolation.specs.Statement.{isDown, overAfter, Exchanged, sent, framed, Alike, same, exchanged, AlikeRuns, Marks, carries, unmarked, memoryMarks, signalFills, signalOf, signals, marked, marksFrom, marksOf, Isolated, Demand3}
+use Rattle.isolation.specs.Statement.{carries, isDown, overAfter, Exchanged, sent, framed, Alike, same, exchanged, AlikeRuns, Marks, unmarked, memoryMarks, signalFills, signalOf, signalsOf, marked, marksFrom, marksOf, Isolated, Demand3}
+use Rattle.isolation.specs.Words.{owns-is, jobs-is, carries-is, framesOut-is, jobOut-is, not-assembling}
 use Rattle.isolation.specs.Same.{Rel, nil, cons, rel-take, rel-drop, rel-map, rel-lent, rel-length, rel-parts, rel-fills, rel-memory}
 use Rattle.isolation.specs.Contained.{Off, Clean, clean-dark, length-parts, Contained, contained-step, contained-without, contained-dead, contained-clean, contained-slot}
 use Rattle.isolation.specs.Masked.{clean-stretch, clean-nobodys, memory-masked}
@@ -61,10 +62,6 @@ agree-clean (cons h r) (cons e c) = ap₂ (λ (x : ℕ) (xs : List ℕ). x ∷ x
 clean-jobs : (xs : List ℕ) (b : Bool) → b ≡ false → Clean (map (λ _. b) xs)
 clean-jobs xs b e = rel-map Off (λ _. b) (λ _. b) (λ _. b) (λ x. e) xs
 
-not-by : (k : ℕ) (h : Holder) → ¬ (h ≡ by k) → isBy k h ≡ false
-not-by k nobody e = refl
-not-by k (by l) e = ne-eqb k l (λ q. e (ap by (sym q)))
-
 abbrev state : Table → List ℕ → List ℕ → State
 state t r m = record { table = t; room = r; memory = m }
 
@@ -79,21 +76,24 @@ record Common (t : Table) (c d : Call) : Type 0 where
 
 exchanged-common : {k : ℕ} {t : Table} {c d : Call} → Exchanged k t c d → Common t c d
 exchanged-common {t = t} (sent {s = s} {x = x} {y = y} {out = o} h e) = record { bare = sent-bare t s x y o; count = sent-count t s x y o e; out = refl; job = refl; signal = λ _. refl }
-exchanged-common {k} {t} (framed {cid = cid} {x = x} {y = y} e f) = record { bare = framed-bare t k cid x y f; count = framed-count t k cid x y e; out = refl; job = refl; signal = λ _. refl }
+exchanged-common {k} {t} (framed {cid = cid} {x = x} {y = y} e f) = record { bare = framed-bare t k cid x y (λ n. f (not-assembling t cid n)); count = framed-count t k cid x y e; out = refl; job = refl; signal = λ _. refl }
 
-exchanged-carrier : {k : ℕ} {t : Table} {c d : Call} → Exchanged k t c d → carrier t c ≡ by k
-unfolding carrier
-exchanged-carrier (sent h e) = h
-exchanged-carrier (framed e f) = refl
+exchanged-carries : {k : ℕ} {t : Table} {c d : Call} → Exchanged k t c d → carries k t c ≡ true
+exchanged-carries (sent h e) = h
+exchanged-carries {k} (framed e f) = eq-eqb k k refl
+
+-- does the call carry job octets of that life?
+abbrev hot : (k j over : ℕ) → Table → Call → Bool
+hot k j over t c = eqb over j && isBy k (carrier t c)
 
 module _ {k j over : ℕ} {t : Table} {c : Call} where
   alike-common : {d : Call} → Alike k j over t c d → Common t c d
   alike-common same = record { bare = refl; count = refl; out = refl; job = refl; signal = λ _. refl }
   alike-common (exchanged g h) = exchanged-common h
 
-  alike-jobs : {d : Call} → Alike k j over t c d → carries k j over t c ≡ false → jobs t c ≡ jobs t d
+  alike-jobs : {d : Call} → Alike k j over t c d → hot k j over t c ≡ false → jobs t c ≡ jobs t d
   alike-jobs same f = refl
-  alike-jobs (exchanged g h) f = absurd (false≢true (sym f ∙ ap₂ (λ (a b : Bool). a && b) (eq-eqb over j g) (ap (isBy k) (exchanged-carrier h) ∙ eq-eqb k k refl)))
+  alike-jobs (exchanged g h) f = absurd (false≢true (sym f ∙ ap₂ (λ (a b : Bool). a && b) (eq-eqb over j g) (sym (carries-is k t c) ∙ exchanged-carries h)))
 
 -- a link-down that ends a life leaves no slot of its link
 clears : (k : ℕ) (t : Table) (c : Call) (count room out job : ℕ) → isDown k c ≡ true
@@ -112,12 +112,32 @@ own-signal t (down link) o p = p .out
 own-signal t (plain r v w) o p = p .out
 
 module _ (k j : ℕ) where
+  -- what a call does to the marks, in the definition's words
+  abbrev told : State → Marks → Call → Marks
+  told s m c =
+      let js = map (λ _. hot k j (m .over) (s .table) c) (jobs (s .table) c) in
+      record {
+        over = overAfter k (m .over) s c;
+        room = roomLeft unmarked js (s .table) (outcome s c) (m .room);
+        memory = memoryMarks (outcome s c) (outWindow c) (jobWindow c) (isBy k (framesOut (s .table) c)) (isBy k (jobOut (s .table) c)) js (m .room) (m .memory);
+      }
+
+  marked-told : (s : State) (m : Marks) (c : Call) → marked k j s m c ≡ told s m c
+  unfolding marked
+  marked-told s m c = rw (carries-is k (s .table) c, jobs-is (s .table) c, framesOut-is k (s .table) c, jobOut-is k (s .table) c) refl
+
   record Kept (t : Table) (ra rb ma mb : List ℕ) (m : Marks) : Type 0 where
     room : Rel Agree ra rb (m .room)
     memory : Rel Agree ma mb (m .memory)
     contained : Contained k (width t) (eqb (m .over) j) (live t) (m .room)
     sized : length ra ≡ roomSize t
     fit : Fit t
+    early : m .over < j → Clean (m .memory)
+
+  -- no mark stands in the room outside that life
+  room-clean : {t : Table} {ra rb ma mb : List ℕ} {m : Marks} → Kept t ra rb ma mb m → ¬ (m .over ≡ j) → Clean (m .room)
+  room-clean {t} {m = m} h n =
+      contained-dead k (width t) (live t) (m .room) (subst (λ (b : Bool). Contained k (width t) b (live t) (m .room)) (ne-eqb (m .over) j n) (h .contained))
 
   isolated : {t : Table} {ra rb ma mb : List ℕ} {m : Marks} → Kept t ra rb ma mb m → Isolated k j m (state t ra ma) (state t rb mb)
   isolated {t} {ra} {rb} {ma} {mb} {m} h =
@@ -128,9 +148,10 @@ module _ (k j : ℕ) where
         sizes = (h .sized, sym (rel-length Agree (h .room)) ∙ h .sized);
         room = λ s lt e. agree-clean (rel-take Agree (width t) (rel-drop Agree (s * width t) (h .room)))
             (contained-slot k (width t) _ (live t) (m .room) s (h .contained)
-            (rw (getD-take (t .n) (t .slots) s gap lt) (not-by k (holder (slotAt t s)) e)));
-        down = λ lt. agree-clean (h .room) (contained-dead k (width t) (live t) (m .room)
-            (subst (λ (b : Bool). Contained k (width t) b (live t) (m .room)) (ne-eqb (m .over) j (λ e. omega arith)) (h .contained)));
+            (rw (getD-take (t .n) (t .slots) s gap lt) (sym (owns-is k t s) ∙ e)));
+        places = agree-at (h .room);
+        before = λ lt. ap₂ (state t) (agree-clean (h .room) (room-clean h (λ e. omega arith))) (agree-clean (h .memory) (h .early lt));
+        down = λ lt. agree-clean (h .room) (room-clean h (λ e. omega arith));
       }
 
   -- One call. The second run's outcome and windows are the first's.
@@ -158,12 +179,12 @@ module _ (k j : ℕ) where
         ap (λ (p : Outcome). state (p .table) (roomLeft itself (jobs t d) t p rb) (memoryLeft itself (jobs t d) p (outWindow d) (jobWindow d) rb mb)) agreed
         ∙ ap₂ (λ (v w : Window). state (o .table) (roomLeft itself (jobs t d) t o rb) (memoryLeft itself (jobs t d) o v w rb mb)) (sym (q .out)) (sym (q .job))
 
-    jobs-agree : Rel Agree (jobs t c) (jobs t d) (map (λ _. carries k j (m .over) t c) (jobs t c))
-    jobs-agree = agree-jobs (jobs t c) (jobs t d) (carries k j (m .over) t c) (alike-common e .count) (alike-jobs e)
+    jobs-agree : Rel Agree (jobs t c) (jobs t d) (map (λ _. hot k j (m .over) t c) (jobs t c))
+    jobs-agree = agree-jobs (jobs t c) (jobs t d) (hot k j (m .over) t c) (alike-common e .count) (alike-jobs e)
 
     -- what the call hands out is marked only where it is that link's
-    handed-out : memoryLeft unmarked (map (λ _. carries k j (m .over) t c) (jobs t c)) o (outWindow c) (jobWindow c) (m .room) (m .memory)
-        ≡ memoryMarks o (outWindow c) (jobWindow c) (isBy k (framesOut t c)) (isBy k (jobOut t c)) (map (λ _. carries k j (m .over) t c) (jobs t c)) (m .room) (m .memory)
+    handed-out : memoryLeft unmarked (map (λ _. hot k j (m .over) t c) (jobs t c)) o (outWindow c) (jobWindow c) (m .room) (m .memory)
+        ≡ memoryMarks o (outWindow c) (jobWindow c) (isBy k (framesOut t c)) (isBy k (jobOut t c)) (map (λ _. hot k j (m .over) t c) (jobs t c)) (m .room) (m .memory)
     handed-out =
         memory-masked t k (carrier t c) (framesOut t c) (jobOut t c) _ (m .room) (m .memory) o (outWindow c) (jobWindow c) (hands t (h .fit) c _ _ _ _)
         (λ g f e. clean-jobs (jobs t c) _ (ap (λ (x : Bool). eqb (m .over) j && x) (ap (isBy k) e ∙ f) ∙ and-false (eqb (m .over) j)))
@@ -172,18 +193,28 @@ module _ (k j : ℕ) where
 
     signal-same : signalOf (state t ra ma) c ≡ signalOf (state t rb mb) d
     signal-same =
-        agree-clean (rel-fills Agree itself itself unmarked (λ x _. refl) jobs-agree (h .room) (signalFills c (o .out)))
+        ap (λ (js : List ℕ). fills itself js ra (signalFills c (o .out))) (jobs-is t c)
+        ∙ agree-clean (rel-fills Agree itself itself unmarked (λ x _. refl) jobs-agree (h .room) (signalFills c (o .out)))
         (clean-nobodys t (carrier t c) nobody _ (m .room)
         (λ e. clean-jobs (jobs t c) _ (ap (λ (x : Bool). eqb (m .over) j && x) (ap (isBy k) e) ∙ and-false (eqb (m .over) j)))
         (λ from n p. clean-stretch k (width t) _ (live t) (m .room) (p .slot) from n (h .contained)
         (rw (getD-take (t .n) (t .slots) (p .slot) gap (p .within)) (ap (isBy k) (p .whose))) (p .low) (p .high))
         (own-signal t c o (hands t (h .fit) c _ _ _ _)))
         ∙ ap (λ (fs : List Fill). fills itself (jobs t d) rb fs) (alike-common e .signal (o .out) ∙ ap (λ (p : Outcome). signalFills d (p .out)) (sym agreed))
+        ∙ ap (λ (js : List ℕ). fills itself js rb (signalFills d (outcome (state t rb mb) d .out))) (sym (jobs-is t d))
 
-    kept : Kept (o .table) (after (state t ra ma) c .room) (next-b .room) (after (state t ra ma) c .memory) (next-b .memory) (marked k j (state t ra ma) m c)
-    unfolding after next-b marked overAfter
-    kept =
-        let b : Bool = carries k j (m .over) t c in
+    -- before that life the call marks nothing
+    still-early : m .over < j → Clean (told (state t ra ma) m c .memory)
+    still-early lt =
+        let live-not : eqb (m .over) j ≡ false = ne-eqb (m .over) j (λ e. omega arith) in
+        subst Clean handed-out
+        (rel-memory Off unmarked unmarked unmarked (λ x. refl) (clean-jobs (jobs t c) _ (ap (λ (x : Bool). x && isBy k (carrier t c)) live-not))
+        o (outWindow c) (jobWindow c) (room-clean h (λ e. omega arith)) (h .early lt))
+
+    kept-told : Kept (o .table) (after (state t ra ma) c .room) (next-b .room) (after (state t ra ma) c .memory) (next-b .memory) (told (state t ra ma) m c)
+    unfolding after next-b overAfter
+    kept-told =
+        let b : Bool = hot k j (m .over) t c in
         let js : List Bool = map (λ _. b) (jobs t c) in
         let s : Safe t (carrier t c) o = safe t (h .fit) c _ _ _ _ in
         let ms : List Bool = roomLeft unmarked js t o (m .room) in
@@ -201,7 +232,12 @@ module _ (k j : ℕ) where
               (λ _. now));
           sized = length-parts itself (jobs t c) (width t) (o .parts) ra ∙ h .sized ∙ rw (s .slots, s .width) refl;
           fit = s .fit;
+          early = if-cases (λ (n : ℕ). n < j → Clean (told (state t ra ma) m c .memory)) _ (λ _ lt. still-early (omega arith)) (λ _ lt. still-early lt);
         }
+
+    kept : Kept (o .table) (after (state t ra ma) c .room) (next-b .room) (after (state t ra ma) c .memory) (next-b .memory) (marked k j (state t ra ma) m c)
+    kept =
+        subst (Kept (o .table) (after (state t ra ma) c .room) (next-b .room) (after (state t ra ma) c .memory) (next-b .memory)) (sym (marked-told (state t ra ma) m c)) kept-told
 
   record Both (m : Marks) (a b : State) (x y : List Outcome) (u v : List (List ℕ)) : Type 0 where
     states : Isolated k j m a b
@@ -209,8 +245,8 @@ module _ (k j : ℕ) where
     told : u ≡ v
 
   runs : (cs ds : List Call) (t : Table) (ra rb ma mb : List ℕ) (m : Marks) → Kept t ra rb ma mb m → AlikeRuns k j (m .over) (state t ra ma) cs ds
-      → Both (marksFrom k j (state t ra ma) m cs) (run (state t ra ma) cs) (run (state t rb mb) ds) (outcomes (state t ra ma) cs) (outcomes (state t rb mb) ds) (signals (state t ra ma) cs) (signals (state t rb mb) ds)
-  unfolding run outcomes signals marksFrom marked after next-b
+      → Both (marksFrom k j (state t ra ma) m cs) (run (state t ra ma) cs) (run (state t rb mb) ds) (outcomes (state t ra ma) cs) (outcomes (state t rb mb) ds) (signalsOf (state t ra ma) cs) (signalsOf (state t rb mb) ds)
+  unfolding run outcomes signalsOf marksFrom marked after next-b
   runs [] [] t ra rb ma mb m h e = record { states = isolated h; called = refl; told = refl }
   runs [] (d ∷ ds) t ra rb ma mb m h e = absurd e
   runs (c ∷ cs) [] t ra rb ma mb m h e = absurd e
@@ -222,7 +258,7 @@ module _ (k j : ℕ) where
       record {
         states = subst (λ (z : State). Isolated k j (marksFrom k j a (marked k j (state t ra ma) m c) cs) (run a cs) (run z ds)) q (more .states);
         called = ap₂ (λ (x : Outcome) (xs : List Outcome). x ∷ xs) (sym (agreed t ra rb ma mb m h c d (e .0))) (more .called ∙ ap (λ (z : State). outcomes z ds) q);
-        told = ap₂ (λ (x : List ℕ) (xs : List (List ℕ)). x ∷ xs) (signal-same t ra rb ma mb m h c d (e .0)) (more .told ∙ ap (λ (z : State). signals z ds) q);
+        told = ap₂ (λ (x : List ℕ) (xs : List (List ℕ)). x ∷ xs) (signal-same t ra rb ma mb m h c d (e .0)) (more .told ∙ ap (λ (z : State). signalsOf z ds) q);
       }
 
 -- ---- from tables that were made
@@ -257,7 +293,7 @@ zeroed (x ∷ xs) (y ∷ ys) e = ap (λ (r : List ℕ). 0 ∷ r) (zeroed xs ys (
 at-end : (k j n d m : ℕ) (room₁ room₂ memory : List ℕ) → answerNumber (make n d m room₁ .answer) ≡ 0 → answerNumber (make n d m room₂ .answer) ≡ 0
     → (cs ds : List Call) → AlikeRuns k j 0 (made n d m room₁ memory) cs ds
     → Both k j (marksOf k j (made n d m room₁ memory) cs) (run (made n d m room₁ memory) cs) (run (made n d m room₂ memory) ds)
-    (outcomes (made n d m room₁ memory) cs) (outcomes (made n d m room₂ memory) ds) (signals (made n d m room₁ memory) cs) (signals (made n d m room₂ memory) ds)
+    (outcomes (made n d m room₁ memory) cs) (outcomes (made n d m room₂ memory) ds) (signalsOf (made n d m room₁ memory) cs) (signalsOf (made n d m room₂ memory) ds)
 at-end k j n d m room₁ room₂ memory h₁ h₂ cs ds =
     let s₁ = start n d m room₁ h₁ in
     let s₂ = start n d m room₂ h₂ in
@@ -272,6 +308,7 @@ at-end k j n d m room₁ room₂ memory h₁ h₂ cs ds =
       contained = contained-clean k (width t) _ (live t) _ (clean-dark zs);
       sized = length-map room₁ (λ _. 0) ∙ s₁ .size;
       fit = record { fits = omega (arith, s₁ .fits, length-replicate {A = Slot} slotsMost (fresh 0)) };
+      early = λ _. clean-dark memory;
     }) e
 
 -- runs that are alike are alike as far as any call

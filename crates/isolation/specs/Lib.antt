@@ -1,4 +1,5 @@
 pub mod Statement
+pub mod Words
 pub mod Same
 pub mod Contained
 pub mod Masked

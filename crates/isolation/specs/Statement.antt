@@ -2,47 +2,106 @@
 -- contents. They may differ in the job octets that ONE link carries in ONE of its lives, and in nothing else. Then nothing that any
 -- call gives back, and nothing in any memory, tells the two apart, but for that link's own jobs and frames.
 -- The calls are those of crate definition: Calls.antt lists them, `decide` there says what each does, Run.antt what a run of them is.
--- No making is among them. Proved in Isolation.antt.
+-- No making is among them. What is excepted is said here, from the calls and the table alone. Proved in Isolation.antt.
 use mathlib.Core.Path.{_≡_}
-use mathlib.Core.Bool.{Bool, false, _&&_}
+use mathlib.Core.Bool.{Bool, true, false, _&&_, not}
 use mathlib.Core.List.{List, [], _∷_, map}
-use Prim.Native.Nat.{ℕ, suc, _*_, _<_}
-use lib.Dec.{eqb}
+use Prim.Native.Nat.{ℕ, suc, _-_, _*_, _<_}
+use lib.Dec.{eqb, leb, ltb}
 use lib.ListN.{length, take, drop, getD}
 use lib.Seq.{sets}
 use Rattle.lists.specs.Choose.{choose}
 use Rattle.channel.specs.declared.Table.{Table}
-use Rattle.definition.specs.Table.{slotAt, width, roomSize}
+use Rattle.definition.specs.Table.{isDisconnected, slotAt, width, roomSize}
 use Rattle.definition.specs.Asking.{make}
-use Rattle.definition.specs.Calls.{Window, Call, frame, sends, down, plain, jobs, carrier, framesOut, jobOut, by, holder, isBy}
+use Rattle.definition.specs.Calls.{Window, Call, frame, sends, down, plain, Request, register, signals, pends, rejectsAll, accepts, rejects, drops, creates, opens, gives, holds, releases, leaves, leavesCid, announces, takes, attends, asks, sendsSignal, writes}
 use Rattle.definition.specs.Mem.{Fill, fills, written}
 use Rattle.definition.specs.Outcome.{Outcome}
 use Rattle.definition.specs.Ending.{itself}
 use Rattle.definition.specs.Numbers.{answerNumber}
 use Rattle.definition.specs.Run.{State, lent, outWindow, jobWindow, outcome, roomLeft, after, made, run, outcomes}
-use Rattle.definition.specs.Public.{Assembling}
 
--- ---- 1. One life of one link: link k, life j. Lives count from 0, and `over` is how many of them are over. "A link's life runs from
+-- ---- 1. Whose is what. k is a link, t the table that a call finds.
+
+-- Link k's own slots: not Disconnected, and of link k.
+abbrev pub owns : (k : ℕ) → Table → (slot : ℕ) → Bool
+owns k t s = not (isDisconnected (slotAt t s .state)) && eqb k (slotAt t s .link)
+
+-- Is an assembly open in the slot that the CID names, 0x40 + slot?
+abbrev pub assembling : Table → (cid : ℕ) → Bool
+assembling t cid = (leb 0x40 cid && ltb (cid - 0x40) (t .n)) && not (eqb (slotAt t (cid - 0x40) .assembly .want) 0)
+
+-- "Job octets are the SDU octets handed to a send, and a frame's payload but for the two length octets of a frame that arrives with no
+-- assembly open."
+abbrev pub jobs : Table → Call → List ℕ
+jobs t (frame link cid payload) = choose (assembling t cid) payload (drop 2 payload)
+jobs t (sends s sdu out) = sdu
+jobs t (down link) = []
+jobs t (plain r out job) = []
+
+-- Are they link k's? A frame's are the link's that it came on, whatever slot it names; a send's are the link's whose slot it is.
+abbrev pub carries : (k : ℕ) → Table → Call → Bool
+carries k t (frame link cid payload) = eqb k link
+carries k t (sends s sdu out) = owns k t s
+carries k t (down link) = false
+carries k t (plain r out job) = false
+
+-- Does the call write frames of link k to its output? A send on link k's slot does, no other call.
+abbrev pub framesOut : (k : ℕ) → Table → Call → Bool
+framesOut k t (frame link cid payload) = false
+framesOut k t (sends s sdu out) = owns k t s
+framesOut k t (down link) = false
+framesOut k t (plain r out job) = false
+
+-- Does it write a job of link k to its job buffer? A take from link k's slot does, no other call.
+abbrev pub takenFrom : (k : ℕ) → Table → Request → Bool
+takenFrom k t (takes s) = owns k t s
+takenFrom k t (register spsm) = false
+takenFrom k t (signals link listening central pdu) = false
+takenFrom k t (pends link up) = false
+takenFrom k t (rejectsAll link) = false
+takenFrom k t (accepts s c) = false
+takenFrom k t (rejects s result) = false
+takenFrom k t (drops s) = false
+takenFrom k t (creates link spsm c) = false
+takenFrom k t (opens s link up) = false
+takenFrom k t (gives s) = false
+takenFrom k t (holds s) = false
+takenFrom k t (releases s) = false
+takenFrom k t (leaves s) = false
+takenFrom k t (leavesCid cid) = false
+takenFrom k t announces = false
+takenFrom k t attends = false
+takenFrom k t (asks of s) = false
+takenFrom k t (sendsSignal link s) = false
+takenFrom k t (writes octets) = false
+
+abbrev pub jobOut : (k : ℕ) → Table → Call → Bool
+jobOut k t (frame link cid payload) = false
+jobOut k t (sends s sdu out) = false
+jobOut k t (down link) = false
+jobOut k t (plain r out job) = takenFrom k t r
+
+-- ---- 2. One life of one link: link k, life j. Lives count from 0, and `over` is how many of them are over. "A link's life runs from
 -- making the table, or its last link-down, to its next link-down answered 0."
 
-abbrev pub isDown : ℕ → Call → Bool
+abbrev pub isDown : (k : ℕ) → Call → Bool
 isDown k (frame link cid payload) = false
 isDown k (sends s sdu out) = false
 isDown k (down link) = eqb k link
 isDown k (plain r out job) = false
 
-unfoldable pub overAfter : ℕ → ℕ → State → Call → ℕ
+unfoldable pub overAfter : (k over : ℕ) → State → Call → ℕ
 overAfter k over s c = choose (isDown k c && eqb (answerNumber (outcome s c .answer)) 0) (suc over) over
 
--- ---- 2. The octets that may differ. "Job octets are the SDU octets handed to a send, and a frame's payload but for the two length
--- octets of a frame that arrives with no assembly open."
+-- ---- 3. What may differ: the job octets that link k carries in life j, never how many there are.
 
 -- One call with link k's job octets exchanged for others, as many; t is the table that it finds.
 pub data Exchanged (k : ℕ) (t : Table) : Call → Call → Type 0 where
   sent : {s : ℕ} {x y : List ℕ} {out : Window}  -- another SDU, on a slot that is link k's
-      → holder (slotAt t s) ≡ by k → length x ≡ length y → Exchanged k t (sends s x out) (sends s y out)
-  framed : {cid : ℕ} {x y : List ℕ}  -- another payload of a frame that came on link k
-      → length x ≡ length y → (¬ Assembling t cid → take 2 x ≡ take 2 y) → Exchanged k t (frame k cid x) (frame k cid y)
+      → owns k t s ≡ true → length x ≡ length y → Exchanged k t (sends s x out) (sends s y out)
+  framed : {cid : ℕ} {x y : List ℕ}  -- another payload of a frame that came on link k, the length octets apart
+      → length x ≡ length y → (assembling t cid ≡ false → take 2 x ≡ take 2 y) → Exchanged k t (frame k cid x) (frame k cid y)
 
 -- The same call; or, in life j, one with those octets exchanged.
 pub data Alike (k j over : ℕ) (t : Table) (c : Call) : Call → Type 0 where
@@ -50,25 +109,22 @@ pub data Alike (k j over : ℕ) (t : Table) (c : Call) : Call → Type 0 where
   exchanged : {d : Call} → over ≡ j → Exchanged k t c d → Alike k j over t c d
 
 -- Two lists of calls, alike one by one. s is the state in which the first list starts.
-abbrev pub AlikeRuns : ℕ → ℕ → ℕ → State → List Call → List Call → Type 0
+abbrev pub AlikeRuns : (k j over : ℕ) → State → List Call → List Call → Type 0
 AlikeRuns k j over s [] [] = Unit {0}
 AlikeRuns k j over s [] (d ∷ ds) = ⊥
 AlikeRuns k j over s (c ∷ cs) [] = ⊥
 AlikeRuns k j over s (c ∷ cs) (d ∷ ds) = Alike k j over (s .table) c d × AlikeRuns k j (overAfter k over s c) (after s c) cs ds
 
--- ---- 3. Where that life's octets stand: a mark for each octet of room and memory. It is the definition itself, run on marks in place of
+-- ---- 4. Where that life's octets stand: a mark for each octet of room and memory. It is the definition itself, run on marks in place of
 -- octets. A job octet of that life comes in marked, every other octet (headers, signals, zeros, other links' jobs) unmarked; a mark goes
--- where its octet is copied, and is gone where another octet is written over it. Only a take from, or a send on, a slot that is link k's
--- hands marks out to memory: what any other call writes there counts as unmarked, and so has to be equal.
+-- where its octet is copied, and is gone where another octet is written over it. Marks get out to memory by two ways alone: a send on
+-- link k's slot, to its output, and a take from link k's slot, to its job buffer. What any other call writes, and what these two write
+-- elsewhere (a take, its signal buffer), counts as unmarked, and so has to be equal.
 
 pub record Marks : Type 0 where
   pub over : ℕ
   pub room : List Bool
   pub memory : List Bool
-
--- Does the call carry job octets of that life? (`carrier`: the link that the frame came on, or of the slot that is sent on.)
-abbrev pub carries : ℕ → ℕ → ℕ → Table → Call → Bool
-carries k j over t c = eqb over j && isBy k (carrier t c)
 
 abbrev pub unmarked : ℕ → Bool
 unmarked x = false
@@ -76,30 +132,31 @@ unmarked x = false
 abbrev pub mask : Bool → List Bool → List Bool
 mask own ms = map (λ b. own && b) ms
 
--- the marks that a call leaves in memory: in the job buffer a take's (tray), in the output a send's (frames), and no other
+-- The marks that a call leaves in memory. The job buffer is written first, then the signal buffer or frame output. js are the marks of
+-- the call's job octets; `frames` and `tray` say whether its output, and its job buffer, may take marks.
 abbrev pub memoryMarks : Outcome → (out job : Window) → (frames tray : Bool) → (js room memory : List Bool) → List Bool
 memoryMarks o out job frames tray js room memory =
     let m = sets memory (job .from) (written unmarked (mask tray js) (mask tray room) (o .job) (lent job memory)) in
     sets m (out .from) (written unmarked (mask frames js) (mask frames room) (o .out) (lent out m))
 
-unfoldable pub marked : ℕ → ℕ → State → Marks → Call → Marks
+unfoldable pub marked : (k j : ℕ) → State → Marks → Call → Marks
 marked k j s m c =
-    let js = map (λ _. carries k j (m .over) (s .table) c) (jobs (s .table) c) in
+    let js = map (λ _. eqb (m .over) j && carries k (s .table) c) (jobs (s .table) c) in
     record {
       over = overAfter k (m .over) s c;
       room = roomLeft unmarked js (s .table) (outcome s c) (m .room);
-      memory = memoryMarks (outcome s c) (outWindow c) (jobWindow c) (isBy k (framesOut (s .table) c)) (isBy k (jobOut (s .table) c)) js (m .room) (m .memory);
+      memory = memoryMarks (outcome s c) (outWindow c) (jobWindow c) (framesOut k (s .table) c) (jobOut k (s .table) c) js (m .room) (m .memory);
     }
 
-unfoldable pub marksFrom : ℕ → ℕ → State → Marks → List Call → Marks
+unfoldable pub marksFrom : (k j : ℕ) → State → Marks → List Call → Marks
 marksFrom k j s m [] = m
 marksFrom k j s m (c ∷ cs) = marksFrom k j (after s c) (marked k j s m c) cs
 
 -- The marks after a run from a state in which no octet is marked and no life is over.
-abbrev pub marksOf : ℕ → ℕ → State → List Call → Marks
+abbrev pub marksOf : (k j : ℕ) → State → List Call → Marks
 marksOf k j s cs = marksFrom k j s (record { over = 0; room = map unmarked (s .room); memory = map unmarked (s .memory) }) cs
 
--- ---- 4. What is equal in the two states a and b after the calls so far; m are the marks.
+-- ---- 5. What is equal in the two states a and b after the calls so far; m are the marks.
 
 abbrev pub slotRoom : Table → ℕ → List ℕ → List ℕ
 slotRoom t s room = take (width t) (drop (s * width t) room)
@@ -112,11 +169,15 @@ pub record Isolated (k j : ℕ) (m : Marks) (a b : State) : Type 0 where
   pub memory : (i : ℕ) → getD (m .memory) i false ≡ false → getD (a .memory) i 0 ≡ getD (b .memory) i 0
   -- the room, which is all slots' parts one after the other, except that link's own slots
   pub sizes : (length (a .room) ≡ roomSize (a .table)) × (length (b .room) ≡ roomSize (a .table))
-  pub room : (s : ℕ) → s < a .table .n → ¬ (holder (slotAt (a .table) s) ≡ by k) → slotRoom (a .table) s (a .room) ≡ slotRoom (a .table) s (b .room)
-  -- and the whole room, once that life's link-down has answered 0
+  pub room : (s : ℕ) → s < a .table .n → owns k (a .table) s ≡ false → slotRoom (a .table) s (a .room) ≡ slotRoom (a .table) s (b .room)
+  -- and in that link's own slots too, except where an octet of that life's jobs stands
+  pub places : (i : ℕ) → getD (m .room) i false ≡ false → getD (a .room) i 0 ≡ getD (b .room) i 0
+  -- nothing differs before that life
+  pub before : m .over < j → a ≡ b
+  -- and the whole room is equal once that life's link-down has answered 0
   pub down : j < m .over → a .room ≡ b .room
 
--- ---- 5. The octets of the signals, call by call. What a send writes are frames, and no signal.
+-- ---- 6. The octets of the signals, call by call: all that a call writes to its output, but what a send writes, which are frames.
 
 abbrev pub signalFills : Call → List Fill → List Fill
 signalFills (frame link cid payload) fs = fs
@@ -127,12 +188,14 @@ signalFills (plain r out job) fs = fs
 abbrev pub signalOf : State → Call → List ℕ
 signalOf s c = fills itself (jobs (s .table) c) (s .room) (signalFills c (outcome s c .out))
 
-unfoldable pub signals : State → List Call → List (List ℕ)
-signals s [] = []
-signals s (c ∷ cs) = signalOf s c ∷ signals (after s c) cs
+unfoldable pub signalsOf : State → List Call → List (List ℕ)
+signalsOf s [] = []
+signalsOf s (c ∷ cs) = signalOf s c ∷ signalsOf (after s c) cs
 
--- ---- 6. The demand. Every call comes to the same: answer, table, octets of every signal and how many of them, lengths of what is copied
--- (an `Outcome`, crate definition, holds all that and no job octet). And `Isolated` holds after every number i of calls.
+-- ---- 7. The demand. Every call comes to the same, call by call: an `Outcome` (crate definition) is its answer, the table after it, and
+-- what it puts where, as data: which octets it worked out itself, and from where how many job octets or octets of the room are copied. So
+-- all lengths are equal; octets that are copied are not in it. The octets of every signal are equal, whatever they were copied from, and
+-- so is how many there are. And `Isolated` holds after every number i of calls: of memory and room.
 
 abbrev pub Demand3 : Type 0
 Demand3 =
@@ -141,5 +204,5 @@ Demand3 =
     → answerNumber (make n d m room₂ .answer) ≡ 0
     → AlikeRuns k j 0 (made n d m room₁ memory) cs ds
     → (outcomes (made n d m room₁ memory) cs ≡ outcomes (made n d m room₂ memory) ds)
-    × (signals (made n d m room₁ memory) cs ≡ signals (made n d m room₂ memory) ds)
+    × (signalsOf (made n d m room₁ memory) cs ≡ signalsOf (made n d m room₂ memory) ds)
     × ((i : ℕ) → Isolated k j (marksOf k j (made n d m room₁ memory) (take i cs)) (run (made n d m room₁ memory) (take i cs)) (run (made n d m room₂ memory) (take i ds)))

@@ -1,3 +1,5 @@
 pub mod Entries
 pub mod Run
 pub mod Lift
+pub mod Start
+pub mod Statement

@@ -43,7 +43,7 @@ spelled s = record { table = spell (s .table); room = s .room; memory = s .memor
 -- ---- one law for all entries
 
 -- the end that an entry's contract names: without the room, where it is not lent it
-abbrev endIn : State → Call → End
+abbrev pub endIn : State → Call → End
 endIn s c = endOf (s .table) (jobs (s .table) c) (choose (roomless c) [] (s .room)) (lent (outWindow c) (s .memory)) (lent (jobWindow c) (s .memory)) (outcome s c)
 
 module _ {t : Table} (w : Sized t) (a : List ℕ) where
@@ -112,21 +112,21 @@ lent-apart v w h memory xs l =
 
 -- ---- a table's octets, written over
 
-written-spelled : (t u : Table) → Sized t → Sized u → Layout.written (spell t) u ≡ spell u
+over-all : (xs ys : List ℕ) → length xs ≡ length ys → sets xs 0 ys ≡ ys
+over-all xs ys e =
+    let h : length xs ≤ length ys = omega arith in
+    sets-eq ys xs 0 (omega arith) ∙ rw (zero-add (length ys), drop-of-length-le xs h, append-nil ys) refl
+
+pub written-full : (o : List ℕ) (u : Table) → length o ≡ tableOctets → Sized u → Layout.written o u ≡ spell u
 unfolding Layout.written
-written-spelled t u w x =
-    let a : length (spell t) ≡ tableOctets = spell-length t ∙ omega (arith, w .spsms) in
-    let b : length (spell u) ≡ tableOctets = spell-length u ∙ omega (arith, x .spsms) in
-    choose-false _ _ _ (le-ltb (length (spell t)) tableOctets (omega arith)) ∙ over-all (spell t) (spell u) (a ∙ sym b)
-  where
-    over-all : (xs ys : List ℕ) → length xs ≡ length ys → sets xs 0 ys ≡ ys
-    over-all xs ys e =
-        let h : length xs ≤ length ys = omega arith in
-        sets-eq ys xs 0 (omega arith) ∙ rw (zero-add (length ys), drop-of-length-le xs h, append-nil ys) refl
+written-full o u e w = choose-false _ _ _ (le-ltb (length o) tableOctets (omega arith)) ∙ over-all o (spell u) (e ∙ sym (spell-length u ∙ omega (arith, w .spsms)))
+
+written-spelled : (t u : Table) → Sized t → Sized u → Layout.written (spell t) u ≡ spell u
+written-spelled t u w x = written-full (spell t) u (spell-length t ∙ omega (arith, w .spsms)) x
 
 -- ---- the number that is returned is the paper's
 
-told-number : (a : Answer) → tells a .refusal ≡ answerNumber a
+pub told-number : (a : Answer) → tells a .refusal ≡ answerNumber a
 unfolding tells
 told-number Answer.Done = refl
 told-number (Answer.Refused r) = refl
@@ -143,17 +143,17 @@ told-number (Answer.Event least most latency timeout) = refl
 -- ---- one entry
 
 module _ (s : State) (w : Sized (s .table)) (a : Asked) where
-  abbrev c : Call
+  abbrev pub c : Call
   c = callIn a
 
-  abbrev o : Outcome
+  abbrev pub o : Outcome
   o = outcome s c
 
-  edge-is : edgeOf (spelled s) a ≡ lifted true (spell (s .table)) (a .answer) (endIn s c)
+  pub edge-is : edgeOf (spelled s) a ≡ lifted true (spell (s .table)) (a .answer) (endIn s c)
   edge-is = spelled-edge s w (a .answer) (a .entry)
 
   -- with the room that a run has
-  whole-of : (b : Bool) → roomless c ≡ b
+  pub whole-of : (b : Bool) → roomless c ≡ b
       → end (servedOf o) (choose b (s .room) (endOf (s .table) (jobs (s .table) c) (choose b [] (s .room)) (lent (outWindow c) (s .memory)) (lent (jobWindow c) (s .memory)) o .room))
       (endOf (s .table) (jobs (s .table) c) (choose b [] (s .room)) (lent (outWindow c) (s .memory)) (lent (jobWindow c) (s .memory)) o .out)
       (endOf (s .table) (jobs (s .table) c) (choose b [] (s .room)) (lent (outWindow c) (s .memory)) (lent (jobWindow c) (s .memory)) o .job)
@@ -176,19 +176,19 @@ module _ (s : State) (w : Sized (s .table)) (a : Asked) where
   after-is = after-sized s c w
 
   -- what it gives back, from its outcome
-  number-is : edgeOf (spelled s) a .number ≡ answerNumber (o .answer)
+  pub number-is : edgeOf (spelled s) a .number ≡ answerNumber (o .answer)
   unfolding lifted endOf
   number-is = ap (λ (x : Edge). x .number) edge-is ∙ told-number (o .answer)
 
-  answer-is : edgeOf (spelled s) a .answer ≡ sets (a .answer) 0 (answerOctets (servedOf o))
+  pub answer-is : edgeOf (spelled s) a .answer ≡ sets (a .answer) 0 (answerOctets (servedOf o))
   unfolding lifted endOf
   answer-is = ap (λ (x : Edge). x .answer) edge-is
 
-  table-is : edgeOf (spelled s) a .table ≡ spell (o .table)
+  pub table-is : edgeOf (spelled s) a .table ≡ spell (o .table)
   unfolding lifted endOf choose
   table-is = ap (λ (x : Edge). x .table) edge-is ∙ written-spelled (s .table) (o .table) w after-is
 
-  out-is : edgeOf (spelled s) a .out ≡ endIn s c .out
+  pub out-is : edgeOf (spelled s) a .out ≡ endIn s c .out
   unfolding lifted
   out-is = ap (λ (x : Edge). x .out) edge-is
 

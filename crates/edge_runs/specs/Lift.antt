@@ -140,6 +140,24 @@ told-number (Answer.Attention set count lowest) = refl
 told-number (Answer.Number n) = refl
 told-number (Answer.Event least most latency timeout) = refl
 
+-- ---- the end that a contract names, with the room that a run has
+
+module _ (s : State) (c : Call) where
+  abbrev pub ends : (room : List ℕ) → End
+  ends room = endOf (s .table) (jobs (s .table) c) room (lent (outWindow c) (s .memory)) (lent (jobWindow c) (s .memory)) (outcome s c)
+
+  whole-by : (b : Bool) → roomless c ≡ b
+      → end (servedOf (outcome s c)) (choose b (s .room) (ends (choose b [] (s .room)) .room)) (ends (choose b [] (s .room)) .out) (ends (choose b [] (s .room)) .job) ≡ ends (s .room)
+  unfolding choose endOf
+  whole-by false e = refl
+  whole-by true e =
+      let p : Roomless (s .table) (outcome s c) = roomless-call (s .table) c e _ _ _ _ in
+      roomless-end (s .table) (outcome s c) p (jobs (s .table) c) (s .room) (lent (outWindow c) (s .memory)) (lent (jobWindow c) (s .memory)) (servedOf (outcome s c)) _ _
+      (ap (λ (r : List ℕ). end (servedOf (outcome s c)) r (ends [] .out) (ends [] .job)) (sym (p .room (jobs (s .table) c) [])))
+
+  pub whole : end (servedOf (outcome s c)) (choose (roomless c) (s .room) (endIn s c .room)) (endIn s c .out) (endIn s c .job) ≡ ends (s .room)
+  whole = whole-by (roomless c) refl
+
 -- ---- one entry
 
 module _ (s : State) (w : Sized (s .table)) (a : Asked) where
@@ -151,20 +169,6 @@ module _ (s : State) (w : Sized (s .table)) (a : Asked) where
 
   pub edge-is : edgeOf (spelled s) a ≡ lifted true (spell (s .table)) (a .answer) (endIn s c)
   edge-is = spelled-edge s w (a .answer) (a .entry)
-
-  -- with the room that a run has
-  pub whole-of : (b : Bool) → roomless c ≡ b
-      → end (servedOf o) (choose b (s .room) (endOf (s .table) (jobs (s .table) c) (choose b [] (s .room)) (lent (outWindow c) (s .memory)) (lent (jobWindow c) (s .memory)) o .room))
-      (endOf (s .table) (jobs (s .table) c) (choose b [] (s .room)) (lent (outWindow c) (s .memory)) (lent (jobWindow c) (s .memory)) o .out)
-      (endOf (s .table) (jobs (s .table) c) (choose b [] (s .room)) (lent (outWindow c) (s .memory)) (lent (jobWindow c) (s .memory)) o .job)
-      ≡ endOf (s .table) (jobs (s .table) c) (s .room) (lent (outWindow c) (s .memory)) (lent (jobWindow c) (s .memory)) o
-  unfolding choose endOf
-  whole-of false e = refl
-  whole-of true e =
-      let p : Roomless (s .table) o = roomless-call (s .table) c e _ _ _ _ in
-      let js = jobs (s .table) c in
-      roomless-end (s .table) o p js (s .room) (lent (outWindow c) (s .memory)) (lent (jobWindow c) (s .memory)) (servedOf o) _ _
-      (ap (λ (r : List ℕ). end (servedOf o) r (endOf (s .table) js [] (lent (outWindow c) (s .memory)) (lent (jobWindow c) (s .memory)) o .out) (endOf (s .table) js [] (lent (outWindow c) (s .memory)) (lent (jobWindow c) (s .memory)) o .job)) (sym (p .room js [])))
 
   tray-length : length (endIn s c .job) ≤ jobWindow c .size
   unfolding endOf written
@@ -205,7 +209,7 @@ module _ (s : State) (w : Sized (s .table)) (a : Asked) where
   unfolding entered
   entered-spelled apart =
       let e = endIn s c in
-      let next = call-after s c (servedOf o) (choose (roomless c) (s .room) (e .room)) (e .out) (e .job) (whole-of (roomless c) refl)
+      let next = call-after s c (servedOf o) (choose (roomless c) (s .room) (e .room)) (e .out) (e .job) (whole s c)
       (lent-apart (outWindow c) (jobWindow c) apart (s .memory) (e .job) tray-length) in
       rw (table-is, out-is, job-is, room-is, next) refl
 

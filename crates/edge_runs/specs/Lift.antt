@@ -216,7 +216,7 @@ module _ (s : State) (w : Sized (s .table)) (a : Asked) where
 -- ---- a run
 
 -- After any number of entries, table, room and memory are those of the definition's run.
-pub entries-spelled : (s : State) → Sized (s .table) → (as′ : List Asked) → BuffersApart as′ → entries (spelled s) as′ ≡ spelled (run s (map callIn as′))
+pub entries-spelled : (s : State) → Sized (s .table) → (es : List Asked) → BuffersApart es → entries (spelled s) es ≡ spelled (run s (map callIn es))
 unfolding entries run
 entries-spelled s w [] h = refl
-entries-spelled s w (a ∷ as′) h = ap (λ (x : EdgeState). entries x as′) (entered-spelled s w a (h .0)) ∙ entries-spelled (after s (callIn a)) (after-sized s (callIn a) w) as′ (h .1)
+entries-spelled s w (a ∷ es) h = ap (λ (x : EdgeState). entries x es) (entered-spelled s w a (h .0)) ∙ entries-spelled (after s (callIn a)) (after-sized s (callIn a) w) es (h .1)

@@ -55,13 +55,13 @@ Apart v w = (v .from + v .size ≤ w .from) ⊎ (w .from + w .size ≤ v .from)
 -- A take's signal buffer and job buffer. (No other entry is lent two, so that of any other this is true.)
 abbrev pub BuffersApart : List Asked → Type 0
 BuffersApart [] = Unit {0}
-BuffersApart (a ∷ as′) = Apart (outWindow (callIn a)) (jobWindow (callIn a)) × BuffersApart as′
+BuffersApart (a ∷ es) = Apart (outWindow (callIn a)) (jobWindow (callIn a)) × BuffersApart es
 
 -- ---- a run
 
 unfoldable pub entries : EdgeState → List Asked → EdgeState
 entries s [] = s
-entries s (a ∷ as′) = entries (entered s a) as′
+entries s (a ∷ es) = entries (entered s a) es
 
 -- It starts where a making ends.
 abbrev pub started : (table answer room : List ℕ) (n d m : ℕ) → (memory : List ℕ) → EdgeState
@@ -91,4 +91,4 @@ toldBy a x = record { number = x .number; answer = x .answer; table = x .table; 
 
 unfoldable pub told : EdgeState → List Asked → List Told
 told s [] = []
-told s (a ∷ as′) = toldBy a (edgeOf s a) ∷ told (entered s a) as′
+told s (a ∷ es) = toldBy a (edgeOf s a) ∷ told (entered s a) es

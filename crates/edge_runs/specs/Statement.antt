@@ -27,10 +27,10 @@ overAt k over c x = choose (isDown k c && eqb (x .number) 0) (suc over) over
 -- is open); and their answer buffers start with the same octets. Whose a slot is, is read from the table's octets.
 abbrev pub AlikeEntries : (k j over : ℕ) → EdgeState → List Asked → List Asked → Type 0
 AlikeEntries k j over s [] [] = Unit {0}
-AlikeEntries k j over s [] (b ∷ bs) = ⊥
-AlikeEntries k j over s (a ∷ as′) [] = ⊥
-AlikeEntries k j over s (a ∷ as′) (b ∷ bs) =
-    (Alike k j over (stateOf s .table) (callIn a) (callIn b) × (a .answer ≡ b .answer)) × AlikeEntries k j (overAt k over (callIn a) (edgeOf s a)) (entered s a) as′ bs
+AlikeEntries k j over s [] (b ∷ fs) = ⊥
+AlikeEntries k j over s (a ∷ es) [] = ⊥
+AlikeEntries k j over s (a ∷ es) (b ∷ fs) =
+    (Alike k j over (stateOf s .table) (callIn a) (callIn b) × (a .answer ≡ b .answer)) × AlikeEntries k j (overAt k over (callIn a) (edgeOf s a)) (entered s a) es fs
 
 -- ---- 2. What is equal after the entries so far: the table, octet by octet; room and memory as in demand 3, where m marks that life's octets.
 
@@ -46,14 +46,18 @@ Never1Nor2 (x ∷ xs) = ((x .number ≡ 1 → ⊥) × (x .number ≡ 2 → ⊥))
 
 -- ---- 4. The demand. A `Told` (Run.antt) is the number returned, the answer's octets, the table's octets and the signal's octets.
 
+-- s and t: what the two makings leave
+pub record Undistinguished (k j : ℕ) (s t : EdgeState) (es fs : List Asked) : Type 0 where
+  pub tells : told s es ≡ told t fs
+  pub never : Never1Nor2 (told s es)
+  -- after every number i of entries
+  pub leaves : (i : ℕ) → IsolatedAt k j (marksOf k j (stateOf s) (map callIn (take i es))) (entries s (take i es)) (entries t (take i fs))
+
 abbrev pub Demand3AtEntries : Type 0
 Demand3AtEntries =
-    (k j n d m : ℕ) (table₁ table₂ answer₁ answer₂ room₁ room₂ memory : List ℕ) (as′ bs : List Asked)
+    (k j n d m : ℕ) (table₁ table₂ answer₁ answer₂ room₁ room₂ memory : List ℕ) (es fs : List Asked)
     → makeEdge table₁ answer₁ room₁ n d m .number ≡ 0
     → makeEdge table₂ answer₂ room₂ n d m .number ≡ 0
-    → BuffersApart as′
-    → AlikeEntries k j 0 (started table₁ answer₁ room₁ n d m memory) as′ bs
-    → (told (started table₁ answer₁ room₁ n d m memory) as′ ≡ told (started table₂ answer₂ room₂ n d m memory) bs)
-    × Never1Nor2 (told (started table₁ answer₁ room₁ n d m memory) as′)
-    × ((i : ℕ) → IsolatedAt k j (marksOf k j (stateOf (started table₁ answer₁ room₁ n d m memory)) (map callIn (take i as′)))
-    (entries (started table₁ answer₁ room₁ n d m memory) (take i as′)) (entries (started table₂ answer₂ room₂ n d m memory) (take i bs)))
+    → BuffersApart es
+    → AlikeEntries k j 0 (started table₁ answer₁ room₁ n d m memory) es fs
+    → Undistinguished k j (started table₁ answer₁ room₁ n d m memory) (started table₂ answer₂ room₂ n d m memory) es fs

@@ -95,9 +95,9 @@ telling size answer o said =
 
 unfoldable pub tellings : (memory : List ℕ) → List Asked → List Outcome → List (List ℕ) → List Told
 tellings memory [] os ss = []
-tellings memory (a ∷ as′) [] ss = []
-tellings memory (a ∷ as′) (o ∷ os) [] = []
-tellings memory (a ∷ as′) (o ∷ os) (x ∷ ss) = telling (length (lent (outWindow (callIn a)) memory)) (a .answer) o x ∷ tellings memory as′ os ss
+tellings memory (a ∷ es) [] ss = []
+tellings memory (a ∷ es) (o ∷ os) [] = []
+tellings memory (a ∷ es) (o ∷ os) (x ∷ ss) = telling (length (lent (outWindow (callIn a)) memory)) (a .answer) o x ∷ tellings memory es os ss
 
 -- the memory keeps its length, and so does what is lent of it
 lent-length : (w : Window) (x y : List ℕ) → length x ≡ length y → length (lent w x) ≡ length (lent w y)
@@ -120,12 +120,12 @@ told-one s w a =
     let z = signal-is s (callIn a) n (count-le (a .answer) (servedOf o)) in
     rw (number-is s w a, answer-is s w a, table-is s w a, out-is s w a, z) refl
 
-pub told-spelled : (s : State) → Sized (s .table) → (as′ : List Asked) → BuffersApart as′ → (memory : List ℕ) → length memory ≡ length (s .memory)
-    → told (spelled s) as′ ≡ tellings memory as′ (outcomes s (map callIn as′)) (signalsOf s (map callIn as′))
+pub told-spelled : (s : State) → Sized (s .table) → (es : List Asked) → BuffersApart es → (memory : List ℕ) → length memory ≡ length (s .memory)
+    → told (spelled s) es ≡ tellings memory es (outcomes s (map callIn es)) (signalsOf s (map callIn es))
 unfolding told tellings outcomes signalsOf
 told-spelled s w [] h memory e = refl
-told-spelled s w (a ∷ as′) h memory e =
+told-spelled s w (a ∷ es) h memory e =
     let c = callIn a in
     ap₂ (λ (x : Told) (xs : List Told). x ∷ xs)
     (told-one s w a ∙ ap (λ (n : ℕ). telling n (a .answer) (outcome s c) (signalOf s c)) (lent-length (outWindow c) (s .memory) memory (sym e)))
-    (ap (λ (x : EdgeState). told x as′) (entered-spelled s w a (h .0)) ∙ told-spelled (after s c) (after-sized s c w) as′ (h .1) memory (e ∙ sym (after-length s c)))
+    (ap (λ (x : EdgeState). told x es) (entered-spelled s w a (h .0)) ∙ told-spelled (after s c) (after-sized s c w) es (h .1) memory (e ∙ sym (after-length s c)))

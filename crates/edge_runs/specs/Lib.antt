@@ -5,3 +5,4 @@ pub mod Start
 pub mod Telling
 pub mod Statement
 pub mod Isolation
+pub mod Rules

@@ -196,7 +196,7 @@ module _ (s : State) (w : Sized (s .table)) (a : Asked) where
   unfolding lifted
   out-is = ap (λ (x : Edge). x .out) edge-is
 
-  job-is : edgeOf (spelled s) a .job ≡ endIn s c .job
+  pub job-is : edgeOf (spelled s) a .job ≡ endIn s c .job
   unfolding lifted
   job-is = ap (λ (x : Edge). x .job) edge-is
 

@@ -43,7 +43,7 @@ over-le (y ∷ l) (v ∷ vs) zero h = rw (over-cons y v l vs) (omega arith)
 over-le (y ∷ l) (v ∷ vs) (suc i) h = rw (over-cons y v l vs) (over-le l vs i (le-of-suc-le-suc h))
 
 -- the first n octets, if as many were written, are of what was written
-over-take : (n : ℕ) (l xs : List ℕ) → n ≤ length xs → take n (sets l 0 xs) ≡ take n (take (length l) xs)
+pub over-take : (n : ℕ) (l xs : List ℕ) → n ≤ length xs → take n (sets l 0 xs) ≡ take n (take (length l) xs)
 over-take zero l xs h = refl
 over-take (suc n) [] xs h = rw (sets-out {A = ℕ} [] 0 xs (omega arith)) refl
 over-take (suc n) (y ∷ l) [] h = absurd (not-suc-le-zero h)
@@ -60,10 +60,14 @@ count-le a s =
 -- ---- the octets of a signal
 
 module _ (s : State) (c : Call) where
-  -- what stands in the lent buffer, with the room that a run has
-  out-written : endIn s c .out ≡ sets (lent (outWindow c) (s .memory)) 0 (fills itself (jobs (s .table) c) (s .room) (outcome s c .out))
+  -- what stands in the lent buffers, with the room that a run has
+  pub out-written : endIn s c .out ≡ sets (lent (outWindow c) (s .memory)) 0 (fills itself (jobs (s .table) c) (s .room) (outcome s c .out))
   unfolding endOf written
   out-written = ap (λ (e : End). e .out) (whole s c)
+
+  pub job-written : endIn s c .job ≡ sets (lent (jobWindow c) (s .memory)) 0 (fills itself (jobs (s .table) c) (s .room) (outcome s c .job))
+  unfolding endOf written
+  job-written = ap (λ (e : End). e .job) (whole s c)
 
   -- in the words of demand 3
   signal-fills : signalOf s c ≡ fills itself (jobs (s .table) c) (s .room) (signalFills c (outcome s c .out))

@@ -2,7 +2,7 @@
 -- say (Telling); so `isolation` and the rule that refusals 1 and 2 never come (crates isolation and rules) hold of it. No entry gives credits above 65,535,
 -- which is all that the rule asks (`entry-fits`).
 use mathlib.Core.Path.{_≡_, refl, sym, ap, ap₂, _∙_, subst, subst₂}
-use mathlib.Core.Bool.{Bool, true, false, _&&_}
+use mathlib.Core.Bool.{_&&_}
 use mathlib.Core.List.{List, [], _∷_, map}
 use Prim.Native.Nat.{ℕ, zero, suc}
 use native.Mathlib.Omega.{arith}
@@ -13,25 +13,24 @@ use Rattle.lists.specs.Choose.{choose, if-cases}
 use Rattle.channel.specs.declared.Answer.{Answer}
 use Rattle.channel.specs.declared.Answer.the-variants as Answer
 use Rattle.channel.specs.declared.Table.{Table}
-use Rattle.definition.specs.Asking.{make}
-use Rattle.definition.specs.Calls.{Window, Call}
+use Rattle.definition.specs.Calls.{Call}
 use Rattle.definition.specs.Numbers.{answerNumber}
 use Rattle.definition.specs.Outcome.{Outcome}
-use Rattle.definition.specs.Run.{State, lent, outWindow, jobWindow, outcome, after, made, run, outcomes}
+use Rattle.definition.specs.Run.{State, outWindow, jobWindow, outcome, after, made, run}
 use Rattle.layout.specs.declared.Decoded.{Decoded}
-use Rattle.layout.specs.Layout.{spell, read}
+use Rattle.layout.specs.Layout.{spell}
 use Rattle.layout.specs.Back.{Sized, read-back}
-use Rattle.isolation.specs.Statement.{isDown, overAfter, Exchanged, sent, framed, Alike, same, exchanged, AlikeRuns, Marks, marksOf, Isolated, signalsOf}
+use Rattle.isolation.specs.Statement.{isDown, overAfter, sent, framed, Alike, same, exchanged, AlikeRuns, Marks, marksOf, Isolated}
 use Rattle.isolation.specs.Isolation.{isolation}
 use Rattle.rules.specs.Run.{SettingFits, Fits, Reached, start, next}
 use Rattle.rules.specs.Step.{number}
 use Rattle.rules.specs.Rules.{never-1-nor-2}
-use Rattle.edge.specs.Edge.{Edge, settingOf}
+use Rattle.edge.specs.Edge.{settingOf}
 use Rattle.edge_sized.specs.Sized.{after-sized, run-sized}
 use Rattle.edge_runs.specs.Entries.{Entry, registerSpsm, spsm, mtu, mps, peerMtu, peerMps, attention, sendConnParamUpdateReq, sendConnParamUpdateRes, nextPending, acceptPending, rejectPending, rejectAllPending, dropPending, create, opened, giveUp, incRef, decRef, disconnect, disconnectByCid, disconnected, nextDisconnect, signal, dispatch, send, receive, own, callOf}
-use Rattle.edge_runs.specs.Run.{EdgeState, stateOf, Asked, callIn, edgeOf, entered, Apart, BuffersApart, entries, started, Told, told}
+use Rattle.edge_runs.specs.Run.{EdgeState, stateOf, Asked, callIn, edgeOf, entered, BuffersApart, entries, told}
 use Rattle.edge_runs.specs.Lift.{spelled, number-is, entered-spelled, entries-spelled}
-use Rattle.edge_runs.specs.Start.{Start, starting}
+use Rattle.edge_runs.specs.Start.{starting}
 use Rattle.edge_runs.specs.Telling.{tellings, told-spelled}
 use Rattle.edge_runs.specs.Statement.{overAt, AlikeEntries, IsolatedAt, Never1Nor2, Undistinguished, Demand3AtEntries}
 

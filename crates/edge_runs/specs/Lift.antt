@@ -1,32 +1,32 @@
 -- A run of the entries is the definition's run, spelled. On octets that spell a table (Sized), an entry leaves what its call leaves: one law, `spelled-edge`,
 -- cited once for each entry. From it, that after each entry table, room and memory are those of the definition's run (`entered-spelled`, `entries-spelled`),
 -- and that what is told is what the outcomes say (`told-spelled`).
-use mathlib.Core.Path.{_≡_, refl, sym, ap, ap₂, _∙_}
+use mathlib.Core.Path.{_≡_, refl, sym, ap, _∙_}
 use mathlib.Core.Bool.{Bool, true, false}
 use mathlib.Core.List.{List, [], _∷_, map, append-nil}
-use mathlib.Core.Logic.{_⊎_, inl, inr}
-use Prim.Native.Nat.{ℕ, zero, suc, _+_, _-_, _≤_, _<_, min}
+use mathlib.Core.Logic.{inl, inr}
+use Prim.Native.Nat.{ℕ, _+_, _≤_, _<_, min}
 use native.Mathlib.Nat.{zero-add}
 use native.Mathlib.Omega.{arith}
 use borrow.Author.Tests.{le-ltb}
 use lib.ListN.{length, take, drop, getD, length-take, length-drop, drop-of-length-le}
 use lib.Seq.{sets, sets-eq, length-sets, getD-take, getD-drop, ext-getD}
-use Rattle.lists.specs.Choose.{choose, choose-true, choose-false, if-cases}
-use Rattle.octets.specs.Sets.{sets-out, sets-before, sets-after, sets-over, part-same}
+use Rattle.lists.specs.Choose.{choose, choose-false}
+use Rattle.octets.specs.Sets.{sets-out, sets-before, sets-after}
 use Rattle.channel.specs.declared.Answer.{Answer}
 use Rattle.channel.specs.declared.Answer.the-variants as Answer
 use Rattle.channel.specs.declared.Table.{Table}
-use Rattle.definition.specs.Mem.{Fill, sizes, parts, fills, written}
+use Rattle.definition.specs.Mem.{fills, written}
 use Rattle.definition.specs.Outcome.{Outcome}
-use Rattle.definition.specs.Calls.{Window, Call, frame, sends, down, plain, Request, register, pends, holds, attends, asks, jobs, bare, serve, decide}
-use Rattle.definition.specs.Ending.{itself, servedOf, End, end, endOf, roomAfter}
+use Rattle.definition.specs.Calls.{Window, Call, plain, Request, register, pends, holds, attends, asks, jobs, bare, serve, decide}
+use Rattle.definition.specs.Ending.{itself, servedOf, End, end, endOf}
 use Rattle.definition.specs.Numbers.{answerNumber}
 use Rattle.definition.specs.Run.{State, lent, nowhere, outWindow, jobWindow, outcome, after, run}
 use Rattle.definition.specs.Roomless.{roomlessRequest, roomless, Roomless, roomless-call}
 use Rattle.definition.specs.Lift.{call-after, roomless-end}
 use Rattle.admitting.specs.Admitted.{headOf}
 use Rattle.layout.specs.declared.Decoded.{Decoded}
-use Rattle.layout.specs.Layout.{spell, read, tableOctets}
+use Rattle.layout.specs.Layout.{spell, tableOctets}
 use Rattle.layout.specs.Layout as Layout
 use Rattle.layout.specs.Columns.{spell-length}
 use Rattle.layout.specs.Back.{Sized, read-back}

@@ -1,34 +1,31 @@
 -- The rules of every run, at the octets: what a run of entries from a making that returns 0 reaches is a state that a run of the definition reaches, spelled
 -- (`reached`); so the room rule, the fresh-slot rule and exact rejoining hold of its octets. `stateOf` reads the table from its octets.
-use mathlib.Core.Path.{_≡_, refl, sym, ap, _∙_, subst, subst₂}
-use mathlib.Core.Bool.{Bool, true, false, not}
+use mathlib.Core.Path.{_≡_, refl, sym, ap, _∙_, subst}
+use mathlib.Core.Bool.{true, false}
 use mathlib.Core.List.{List, [], _∷_}
 use mathlib.Core.Logic.{inl}
 use Prim.Native.Nat.{ℕ, _+_, _*_, _≤_, _<_}
 use native.Mathlib.Omega.{arith}
-use lib.Dec.{eqb}
 use lib.ListN.{length, take, getD}
 use lib.Seq.{sets, take-all}
 use borrow.Author.Tests.{eqb-false}
-use Rattle.lists.specs.Choose.{choose, if-cases}
+use Rattle.lists.specs.Choose.{if-cases}
 use Rattle.codes.specs.declared.Refusal.{Refusal}
 use Rattle.cutting.specs.declared.Plan.{Plan}
 use Rattle.cutting.specs.declared.Plan.the-variants as Plan
 use Rattle.cutting.specs.Cutting.{payloads, framesOf}
 use Rattle.channel.specs.Limits.{handleMost, signalMost}
-use Rattle.channel.specs.declared.Answer.{Answer}
-use Rattle.channel.specs.declared.Answer.the-variants.{Frames, Job}
+use Rattle.channel.specs.declared.Answer.the-variants.{Frames}
 use Rattle.channel.specs.declared.Slot.{Slot}
 use Rattle.channel.specs.declared.Table.{Table}
-use Rattle.definition.specs.Mem.{fills, written}
-use Rattle.definition.specs.Table.{placeOf, width, fresh, slotAt, isConnected, isDisconnected, cidOf}
+use Rattle.definition.specs.Mem.{fills}
+use Rattle.definition.specs.Table.{placeOf, width, fresh, slotAt, isDisconnected, cidOf}
 use Rattle.definition.specs.Outcome.{Outcome, refuse}
-use Rattle.definition.specs.Calls.{Window, Call, sends, jobs, bare, decide}
-use Rattle.definition.specs.Ending.{itself, End, endOf}
+use Rattle.definition.specs.Calls.{Window, sends, jobs, bare, decide}
+use Rattle.definition.specs.Ending.{itself}
 use Rattle.definition.specs.Frames.{planned, send}
 use Rattle.definition.specs.Numbers.{answerNumber, refused-not-0}
 use Rattle.definition.specs.Run.{State, lent, outWindow, jobWindow, outcome, after, made}
-use Rattle.layout.specs.Layout.{spell}
 use Rattle.layout.specs.Back.{Sized}
 use Rattle.rules.specs.Run.{Reached}
 use Rattle.rules.specs.Run as Run
@@ -39,12 +36,11 @@ use Rattle.rules.specs.Tests.{begun}
 use Rattle.rules_jobs.specs.Rejoin.{jobAt, Receiver, Rejoined, Unchanged, Arrives}
 use Rattle.rules_jobs.specs.Rejoin as Rejoin
 use Rattle.rules_jobs.specs.Sending.{sends-frames, exact-rejoining, exact-taking}
-use Rattle.edge.specs.Edge.{Edge}
 use Rattle.edge_asking.specs.Asking.{makeEdge}
 use Rattle.edge_sized.specs.Sized.{after-sized}
 use Rattle.edge_runs.specs.Entries as Entries
 use Rattle.edge_runs.specs.Run.{EdgeState, stateOf, Asked, callIn, edgeOf, entered, Apart, started}
-use Rattle.edge_runs.specs.Lift.{spelled, endIn, whole, number-is, out-is, job-is, entered-spelled}
+use Rattle.edge_runs.specs.Lift.{spelled, number-is, out-is, job-is, entered-spelled}
 use Rattle.edge_runs.specs.Start.{starting}
 use Rattle.edge_runs.specs.Telling.{over-take, out-written, job-written}
 use Rattle.edge_runs.specs.Isolation.{state-back, entry-fits}

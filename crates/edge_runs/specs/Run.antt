@@ -1,8 +1,7 @@
 -- Runs of the entries: one after the other on the same octets of table and room, each with parts of the caller's memory as its buffers, and an answer
 -- of its own. Table, room, memory and answers are lists apart, since what is lent to one call does not overlap; of a take's two buffers `Apart` says it.
-use mathlib.Core.List.{List, [], _∷_, map}
+use mathlib.Core.List.{List, [], _∷_}
 use Prim.Native.Nat.{ℕ, _+_, _*_, _≤_}
-use mathlib.Core.Bool.{Bool}
 use mathlib.Core.Logic.{_⊎_}
 use lib.ListN.{take}
 use lib.Seq.{sets}

@@ -1,9 +1,8 @@
 -- A making that returns 0 starts a run of the definition, spelled: whatever the table's octets, the answer's and the room's were before.
 use mathlib.Core.Path.{_≡_, refl, sym, ap, _∙_}
 use mathlib.Core.Bool.{Bool, true, false, not}
-use mathlib.Core.List.{List, []}
+use mathlib.Core.List.{List}
 use Prim.Native.Nat.{ℕ}
-use native.Mathlib.Omega.{arith}
 use lib.Dec.{eqb}
 use lib.ListN.{length}
 use borrow.Author.Tests.{eqb-true, eqb-false}
@@ -12,8 +11,8 @@ use Rattle.channel.specs.declared.Answer.the-variants.{Done}
 use Rattle.definition.specs.Table.{sizesFit, roomSize}
 use Rattle.definition.specs.Asking.{Made, blank, make}
 use Rattle.definition.specs.Numbers.{answerNumber}
-use Rattle.definition.specs.Run.{State, made}
-use Rattle.layout.specs.Layout.{spell, tableOctets}
+use Rattle.definition.specs.Run.{made}
+use Rattle.layout.specs.Layout.{tableOctets}
 use Rattle.layout.specs.Back.{Sized}
 use Rattle.answer_octets.specs.Answers.{tells}
 use Rattle.making.specs.Made.{endMade}

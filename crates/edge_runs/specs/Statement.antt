@@ -4,7 +4,7 @@
 -- own job octets or frames stand; and no entry returns 1 or 2. Entries.antt says what an entry leaves, Run.antt what a run of them is. Proved in
 -- Isolation.antt. The words for links, lives and marks are those of demand 3 (crate isolation, Statement.antt).
 use mathlib.Core.Path.{_≡_}
-use mathlib.Core.Bool.{Bool, _&&_}
+use mathlib.Core.Bool.{_&&_}
 use mathlib.Core.List.{List, [], _∷_, map}
 use Prim.Native.Nat.{ℕ, suc}
 use lib.Dec.{eqb}

@@ -1,33 +1,29 @@
 -- What a run of entries tells its caller is what the outcomes and signals of the definition's run say (`told-spelled`): numbers, answers and tables from the
 -- outcomes, and of a signal as many octets as the answer tells.
 use mathlib.Core.Path.{_≡_, refl, sym, ap, ap₂, _∙_}
-use mathlib.Core.Bool.{Bool, true, false}
+use mathlib.Core.Bool.{false}
 use mathlib.Core.List.{List, [], _∷_, map}
-use Prim.Native.Nat.{ℕ, zero, suc, _+_, _*_, _/_, _%_, _≤_, _<_, min}
+use Prim.Native.Nat.{ℕ, zero, suc, _≤_, _<_}
 use native.Mathlib.Nat.{not-suc-le-zero, le-of-suc-le-suc}
 use native.Mathlib.Omega.{arith}
 use lib.ListN.{length, take, drop, getD, length-take, length-drop}
 use lib.Seq.{sets, length-sets, take-nil}
-use Rattle.lists.specs.Choose.{choose}
 use Rattle.octets.specs.Sets.{sets-out, sets-append-right}
 use Rattle.channel.specs.declared.Served.{Served}
-use Rattle.channel.specs.declared.Table.{Table}
-use Rattle.definition.specs.Mem.{Fill, sizes, fills, written}
+use Rattle.definition.specs.Mem.{sizes, fills, written}
 use Rattle.definition.specs.Outcome.{Outcome}
-use Rattle.definition.specs.Calls.{Window, Call, frame, sends, down, plain, jobs, bare, decide}
+use Rattle.definition.specs.Calls.{Window, Call, frame, sends, down, plain, jobs}
 use Rattle.definition.specs.Ending.{itself, servedOf, End, endOf}
 use Rattle.definition.specs.Numbers.{answerNumber}
-use Rattle.definition.specs.Run.{State, lent, outWindow, jobWindow, outcome, after, run, outcomes}
-use Rattle.definition.specs.Roomless.{roomless}
+use Rattle.definition.specs.Run.{State, lent, outWindow, jobWindow, outcome, after, outcomes}
 use Rattle.layout.specs.Layout.{spell}
 use Rattle.layout.specs.Back.{Sized}
 use Rattle.answer_octets.specs.Answers.{answerOctets}
 use Rattle.isolation.specs.Statement.{signalFills, signalOf, signalsOf}
 use Rattle.isolation.specs.Words.{jobs-is}
-use Rattle.edge.specs.Edge.{Edge}
 use Rattle.edge_sized.specs.Sized.{after-sized}
 use Rattle.edge_sized.specs.Said.{isSend, said-length}
-use Rattle.edge_runs.specs.Run.{EdgeState, Asked, callIn, edgeOf, entered, Apart, BuffersApart, Told, countIn, signalIn, toldBy, told}
+use Rattle.edge_runs.specs.Run.{EdgeState, Asked, callIn, edgeOf, BuffersApart, Told, countIn, signalIn, toldBy, told}
 use Rattle.edge_runs.specs.Lift.{spelled, endIn, whole, number-is, answer-is, table-is, out-is, entered-spelled}
 
 -- ---- octets written over the start of a list

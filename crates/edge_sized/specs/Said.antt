@@ -43,7 +43,7 @@ use Rattle.definition.specs.Pending.{nextPending, rejectAllPending, acceptPendi
 use Rattle.definition.specs.Opening.{create, opened, giveUp}
 use Rattle.definition.specs.Closing.{incRef, decRef, disconnecting, disconnect, disconnectByCid, disconnected, nextDisconnect}
 use Rattle.definition.specs.Signals.{onReject, onDisconnectionReq, onDisconnectionRes, onParameters, onParameterResponse, onConnReq, onConnRes, onCredits, handled, checked, signalled}
-use Rattle.definition.specs.Frames.{joined, dispatch, send, taken, receive}
+use Rattle.definition.specs.Frames.{joined, dispatch, taken, receive}
 use Rattle.definition.specs.Asking.{registerSpsm, attention, query, sendSignal}
 use Rattle.definition.specs.Calls.{Call, frame, sends, down, plain, Request, register, signals, pends, rejectsAll, accepts, rejects, drops, creates, opens, gives, holds, releases, leaves, leavesCid, announces, takes, attends, asks, sendsSignal, writes, bare, serve, decide}
 use Rattle.definition.specs.Mem.{Fill, zeros, given, job, held, size, sizes, fill, fills}

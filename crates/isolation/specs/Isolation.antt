@@ -9,15 +9,15 @@ use lib.Dec.{eqb, leb}
 use lib.ListN.{length, take, getD, length-map, length-replicate}
 use lib.Seq.{getD-take}
 use borrow.Author.Tests.{eqb-true, eq-eqb, ne-eqb, leb-true, not-false}
-use Rattle.lists.specs.Choose.{if-cases}
+use Rattle.lists.specs.Choose.{choose, if-cases}
 use Rattle.lists.specs.Both.{and-left, and-right}
 use Rattle.channel.specs.Limits.{slotsMost}
 use Rattle.channel.specs.declared.Slot.{Slot}
 use Rattle.channel.specs.declared.Table.{Table}
-use Rattle.definition.specs.Table.{fresh, gap, slotAt, live, width, roomSize}
+use Rattle.definition.specs.Table.{fresh, gap, live, width, roomSize}
 use Rattle.definition.specs.Outcome.{Outcome}
 use Rattle.definition.specs.Asking.{Made, blank, make}
-use Rattle.definition.specs.Calls.{Window, Call, frame, sends, down, plain, jobs, bare, carrier, framesOut, jobOut, decide, nobody, holder, isBy}
+use Rattle.definition.specs.Calls.{Window, Call, frame, sends, down, plain, jobs, bare, carrier, framesOut, jobOut, decide, Holder, isBy}
 use Rattle.definition.specs.Numbers.{answerNumber}
 use Rattle.definition.specs.Ending.{itself}
 use Rattle.definition.specs.Run.{State, lent, outWindow, jobWindow, outcome, roomLeft, memoryLeft, after, made, run, outcomes}
@@ -25,8 +25,9 @@ use Rattle.definition.specs.Public.{framed-bare, framed-count, sent-bare, sent-
 use Rattle.definition.specs.Forms.{Fit}
 use Rattle.definition.specs.Safe.{Safe, Without, safe, down-clears}
 use Rattle.definition.specs.Mem.{Fill, fills}
-use Rattle.definition.specs.Handed.{OwnFills, none, Hands, hands}
-use Rattle.isolation.specs.Statement.{carries, isDown, overAfter, Exchanged, sent, framed, Alike, same, exchanged, AlikeRuns, Marks, unmarked, memoryMarks, signalFills, signalOf, signalsOf, marked, marksFrom, marksOf, Isolated, Demand3}
+use Rattle.definition.specs.Handed.{OwnFills, hands}
+use Rattle.isolation.specs.Statement.{carries, isDown, overAfter, Exchanged, sent, framed, Alike, same, exchanged, AlikeRuns, Marks, unmarked, memoryMarks, marked, marksFrom, marksOf, Isolated, Handed, handedBy, handed, Demand3}
+use Rattle.isolation.specs.Statement as Statement
 use Rattle.isolation.specs.Words.{owns-is, jobs-is, carries-is, framesOut-is, jobOut-is, not-assembling}
 use Rattle.isolation.specs.Same.{Rel, nil, cons, rel-take, rel-drop, rel-map, rel-lent, rel-length, rel-parts, rel-fills, rel-memory}
 use Rattle.isolation.specs.Contained.{Off, Clean, clean-dark, length-parts, Contained, contained-step, contained-without, contained-dead, contained-clean, contained-slot}
@@ -62,21 +63,25 @@ agree-clean (cons h r) (cons e c) = ap₂ (λ (x : ℕ) (xs : List ℕ). x ∷ x
 clean-jobs : (xs : List ℕ) (b : Bool) → b ≡ false → Clean (map (λ _. b) xs)
 clean-jobs xs b e = rel-map Off (λ _. b) (λ _. b) (λ _. b) (λ x. e) xs
 
+abbrev out-and-job : List ℕ → List ℕ → Handed
+out-and-job x y = record { out = x; job = y }
+
 abbrev state : Table → List ℕ → List ℕ → State
 state t r m = record { table = t; room = r; memory = m }
 
 -- ---- what alike calls have in common
 
-record Common (t : Table) (c d : Call) : Type 0 where
+record Common (k : ℕ) (t : Table) (c d : Call) : Type 0 where
   bare : bare t c ≡ bare t d
   count : length (jobs t c) ≡ length (jobs t d)
   out : outWindow c ≡ outWindow d
   job : jobWindow c ≡ jobWindow d
-  signal : (fs : List Fill) → signalFills c fs ≡ signalFills d fs
+  frames : Statement.framesOut k t c ≡ Statement.framesOut k t d
+  tray : Statement.jobOut k t c ≡ Statement.jobOut k t d
 
-exchanged-common : {k : ℕ} {t : Table} {c d : Call} → Exchanged k t c d → Common t c d
-exchanged-common {t = t} (sent {s = s} {x = x} {y = y} {out = o} h e) = record { bare = sent-bare t s x y o; count = sent-count t s x y o e; out = refl; job = refl; signal = λ _. refl }
-exchanged-common {k} {t} (framed {cid = cid} {x = x} {y = y} e f) = record { bare = framed-bare t k cid x y (λ n. f (not-assembling t cid n)); count = framed-count t k cid x y e; out = refl; job = refl; signal = λ _. refl }
+exchanged-common : {k : ℕ} {t : Table} {c d : Call} → Exchanged k t c d → Common k t c d
+exchanged-common {t = t} (sent {s = s} {x = x} {y = y} {out = o} h e) = record { bare = sent-bare t s x y o; count = sent-count t s x y o e; out = refl; job = refl; frames = refl; tray = refl }
+exchanged-common {k} {t} (framed {cid = cid} {x = x} {y = y} e f) = record { bare = framed-bare t k cid x y (λ n. f (not-assembling t cid n)); count = framed-count t k cid x y e; out = refl; job = refl; frames = refl; tray = refl }
 
 exchanged-carries : {k : ℕ} {t : Table} {c d : Call} → Exchanged k t c d → carries k t c ≡ true
 exchanged-carries (sent h e) = h
@@ -87,8 +92,8 @@ abbrev hot : (k j over : ℕ) → Table → Call → Bool
 hot k j over t c = eqb over j && isBy k (carrier t c)
 
 module _ {k j over : ℕ} {t : Table} {c : Call} where
-  alike-common : {d : Call} → Alike k j over t c d → Common t c d
-  alike-common same = record { bare = refl; count = refl; out = refl; job = refl; signal = λ _. refl }
+  alike-common : {d : Call} → Alike k j over t c d → Common k t c d
+  alike-common same = record { bare = refl; count = refl; out = refl; job = refl; frames = refl; tray = refl }
   alike-common (exchanged g h) = exchanged-common h
 
   alike-jobs : {d : Call} → Alike k j over t c d → hot k j over t c ≡ false → jobs t c ≡ jobs t d
@@ -104,27 +109,28 @@ clears k t (sends s sdu w) count room out job e = absurd (false≢true e)
 clears k t (down link) count room out job e = rw (eqb-true k link e) (down-clears t link room)
 clears k t (plain r v w) count room out job e = absurd (false≢true e)
 
--- a signal is nobody's
-own-signal : (t : Table) (c : Call) (o : Outcome) → Hands t (carrier t c) (framesOut t c) (jobOut t c) o → OwnFills t (carrier t c) nobody (signalFills c (o .out))
-own-signal t (frame link cid payload) o p = p .out
-own-signal t (sends s sdu w) o p = none
-own-signal t (down link) o p = p .out
-own-signal t (plain r v w) o p = p .out
+-- where a call hands out what is link k's nothing is compared
+unless : (b b′ : Bool) (x y : List ℕ) → b ≡ b′ → (b ≡ false → x ≡ y) → choose b [] x ≡ choose b′ [] y
+unfolding choose
+unless true true x y e f = refl
+unless false false x y e f = f refl
+unless true false x y e f = absurd (false≢true (sym e))
+unless false true x y e f = absurd (false≢true e)
 
 module _ (k j : ℕ) where
   -- what a call does to the marks, in the definition's words
-  abbrev told : State → Marks → Call → Marks
-  told s m c =
-      let js = map (λ _. hot k j (m .over) (s .table) c) (jobs (s .table) c) in
+  abbrev told : Table → Outcome → Marks → Call → Marks
+  told t o m c =
+      let js = map (λ _. hot k j (m .over) t c) (jobs t c) in
       record {
-        over = overAfter k (m .over) s c;
-        room = roomLeft unmarked js (s .table) (outcome s c) (m .room);
-        memory = memoryMarks (outcome s c) (outWindow c) (jobWindow c) (isBy k (framesOut (s .table) c)) (isBy k (jobOut (s .table) c)) js (m .room) (m .memory);
+        over = overAfter k (m .over) o c;
+        room = roomLeft unmarked js t o (m .room);
+        memory = memoryMarks o (outWindow c) (jobWindow c) (isBy k (framesOut t c)) (isBy k (jobOut t c)) js (m .room) (m .memory);
       }
 
-  marked-told : (s : State) (m : Marks) (c : Call) → marked k j s m c ≡ told s m c
+  marked-told : (t : Table) (o : Outcome) (m : Marks) (c : Call) → marked k j t o m c ≡ told t o m c
   unfolding marked
-  marked-told s m c = rw (carries-is k (s .table) c, jobs-is (s .table) c, framesOut-is k (s .table) c, jobOut-is k (s .table) c) refl
+  marked-told t o m c = rw (carries-is k t c, jobs-is t c, framesOut-is k t c, jobOut-is k t c) refl
 
   record Kept (t : Table) (ra rb ma mb : List ℕ) (m : Marks) : Type 0 where
     room : Rel Agree ra rb (m .room)
@@ -191,27 +197,38 @@ module _ (k j : ℕ) where
         (λ g f from n p. clean-stretch k (width t) _ (live t) (m .room) (p .slot) from n (h .contained)
         (rw (getD-take (t .n) (t .slots) (p .slot) gap (p .within)) (ap (isBy k) (p .whose) ∙ f)) (p .low) (p .high))
 
-    signal-same : signalOf (state t ra ma) c ≡ signalOf (state t rb mb) d
-    signal-same =
-        ap (λ (js : List ℕ). fills itself js ra (signalFills c (o .out))) (jobs-is t c)
-        ∙ agree-clean (rel-fills Agree itself itself unmarked (λ x _. refl) jobs-agree (h .room) (signalFills c (o .out)))
-        (clean-nobodys t (carrier t c) nobody _ (m .room)
-        (λ e. clean-jobs (jobs t c) _ (ap (λ (x : Bool). eqb (m .over) j && x) (ap (isBy k) e) ∙ and-false (eqb (m .over) j)))
+    -- what it hands out of another's, or of nobody's, is equal
+    fills-same : (g : Holder) (fs gs : List Fill) → fs ≡ gs → OwnFills t (carrier t c) g fs → isBy k g ≡ false
+        → fills itself (Statement.jobs t c) ra fs ≡ fills itself (Statement.jobs t d) rb gs
+    fills-same g fs gs q p f =
+        ap (λ (js : List ℕ). fills itself js ra fs) (jobs-is t c)
+        ∙ agree-clean (rel-fills Agree itself itself unmarked (λ x _. refl) jobs-agree (h .room) fs)
+        (clean-nobodys t (carrier t c) g _ (m .room)
+        (λ e. clean-jobs (jobs t c) _ (ap (λ (x : Bool). eqb (m .over) j && x) (ap (isBy k) e ∙ f) ∙ and-false (eqb (m .over) j)))
         (λ from n p. clean-stretch k (width t) _ (live t) (m .room) (p .slot) from n (h .contained)
-        (rw (getD-take (t .n) (t .slots) (p .slot) gap (p .within)) (ap (isBy k) (p .whose))) (p .low) (p .high))
-        (own-signal t c o (hands t (h .fit) c _ _ _ _)))
-        ∙ ap (λ (fs : List Fill). fills itself (jobs t d) rb fs) (alike-common e .signal (o .out) ∙ ap (λ (p : Outcome). signalFills d (p .out)) (sym agreed))
-        ∙ ap (λ (js : List ℕ). fills itself js rb (signalFills d (outcome (state t rb mb) d .out))) (sym (jobs-is t d))
+        (rw (getD-take (t .n) (t .slots) (p .slot) gap (p .within)) (ap (isBy k) (p .whose) ∙ f)) (p .low) (p .high))
+        p)
+        ∙ ap (λ (l : List Fill). fills itself (jobs t d) rb l) q
+        ∙ ap (λ (js : List ℕ). fills itself js rb gs) (sym (jobs-is t d))
+
+    handed-same : handedBy k (state t ra ma) c ≡ handedBy k (state t rb mb) d
+    handed-same =
+        let p = hands t (h .fit) c _ _ _ _ in
+        ap₂ out-and-job
+        (unless _ _ _ _ (alike-common e .frames)
+        (λ f. fills-same (framesOut t c) (o .out) (outcome (state t rb mb) d .out) (ap (λ (x : Outcome). x .out) (sym agreed)) (p .out) (sym (framesOut-is k t c) ∙ f)))
+        (unless _ _ _ _ (alike-common e .tray)
+        (λ f. fills-same (jobOut t c) (o .job) (outcome (state t rb mb) d .job) (ap (λ (x : Outcome). x .job) (sym agreed)) (p .tray) (sym (jobOut-is k t c) ∙ f)))
 
     -- before that life the call marks nothing
-    still-early : m .over < j → Clean (told (state t ra ma) m c .memory)
+    still-early : m .over < j → Clean (told t o m c .memory)
     still-early lt =
         let live-not : eqb (m .over) j ≡ false = ne-eqb (m .over) j (λ e. omega arith) in
         subst Clean handed-out
         (rel-memory Off unmarked unmarked unmarked (λ x. refl) (clean-jobs (jobs t c) _ (ap (λ (x : Bool). x && isBy k (carrier t c)) live-not))
         o (outWindow c) (jobWindow c) (room-clean h (λ e. omega arith)) (h .early lt))
 
-    kept-told : Kept (o .table) (after (state t ra ma) c .room) (next-b .room) (after (state t ra ma) c .memory) (next-b .memory) (told (state t ra ma) m c)
+    kept-told : Kept (o .table) (after (state t ra ma) c .room) (next-b .room) (after (state t ra ma) c .memory) (next-b .memory) (told t o m c)
     unfolding after next-b overAfter
     kept-told =
         let b : Bool = hot k j (m .over) t c in
@@ -232,33 +249,33 @@ module _ (k j : ℕ) where
               (λ _. now));
           sized = length-parts itself (jobs t c) (width t) (o .parts) ra ∙ h .sized ∙ rw (s .slots, s .width) refl;
           fit = s .fit;
-          early = if-cases (λ (n : ℕ). n < j → Clean (told (state t ra ma) m c .memory)) _ (λ _ lt. still-early (omega arith)) (λ _ lt. still-early lt);
+          early = if-cases (λ (n : ℕ). n < j → Clean (told t o m c .memory)) _ (λ _ lt. still-early (omega arith)) (λ _ lt. still-early lt);
         }
 
-    kept : Kept (o .table) (after (state t ra ma) c .room) (next-b .room) (after (state t ra ma) c .memory) (next-b .memory) (marked k j (state t ra ma) m c)
+    kept : Kept (o .table) (after (state t ra ma) c .room) (next-b .room) (after (state t ra ma) c .memory) (next-b .memory) (marked k j t o m c)
     kept =
-        subst (Kept (o .table) (after (state t ra ma) c .room) (next-b .room) (after (state t ra ma) c .memory) (next-b .memory)) (sym (marked-told (state t ra ma) m c)) kept-told
+        subst (Kept (o .table) (after (state t ra ma) c .room) (next-b .room) (after (state t ra ma) c .memory) (next-b .memory)) (sym (marked-told t o m c)) kept-told
 
-  record Both (m : Marks) (a b : State) (x y : List Outcome) (u v : List (List ℕ)) : Type 0 where
+  record Both (m : Marks) (a b : State) (x y : List Outcome) (u v : List Handed) : Type 0 where
     states : Isolated k j m a b
     called : x ≡ y
     told : u ≡ v
 
   runs : (cs ds : List Call) (t : Table) (ra rb ma mb : List ℕ) (m : Marks) → Kept t ra rb ma mb m → AlikeRuns k j (m .over) (state t ra ma) cs ds
-      → Both (marksFrom k j (state t ra ma) m cs) (run (state t ra ma) cs) (run (state t rb mb) ds) (outcomes (state t ra ma) cs) (outcomes (state t rb mb) ds) (signalsOf (state t ra ma) cs) (signalsOf (state t rb mb) ds)
-  unfolding run outcomes signalsOf marksFrom marked after next-b
+      → Both (marksFrom k j (state t ra ma) m cs) (run (state t ra ma) cs) (run (state t rb mb) ds) (outcomes (state t ra ma) cs) (outcomes (state t rb mb) ds) (handed k (state t ra ma) cs) (handed k (state t rb mb) ds)
+  unfolding run outcomes handed marksFrom marked after next-b
   runs [] [] t ra rb ma mb m h e = record { states = isolated h; called = refl; told = refl }
   runs [] (d ∷ ds) t ra rb ma mb m h e = absurd e
   runs (c ∷ cs) [] t ra rb ma mb m h e = absurd e
   runs (c ∷ cs) (d ∷ ds) t ra rb ma mb m h e =
       let a : State = after (state t ra ma) c in
       let b : State = next-b t ra rb ma mb m h c d (e .0) in
-      let more = runs cs ds (a .table) (a .room) (b .room) (a .memory) (b .memory) (marked k j (state t ra ma) m c) (kept t ra rb ma mb m h c d (e .0)) (e .1) in
+      let more = runs cs ds (a .table) (a .room) (b .room) (a .memory) (b .memory) (marked k j t (outcome (state t ra ma) c) m c) (kept t ra rb ma mb m h c d (e .0)) (e .1) in
       let q = sym (afters t ra rb ma mb m h c d (e .0)) in
       record {
-        states = subst (λ (z : State). Isolated k j (marksFrom k j a (marked k j (state t ra ma) m c) cs) (run a cs) (run z ds)) q (more .states);
+        states = subst (λ (z : State). Isolated k j (marksFrom k j a (marked k j t (outcome (state t ra ma) c) m c) cs) (run a cs) (run z ds)) q (more .states);
         called = ap₂ (λ (x : Outcome) (xs : List Outcome). x ∷ xs) (sym (agreed t ra rb ma mb m h c d (e .0))) (more .called ∙ ap (λ (z : State). outcomes z ds) q);
-        told = ap₂ (λ (x : List ℕ) (xs : List (List ℕ)). x ∷ xs) (signal-same t ra rb ma mb m h c d (e .0)) (more .told ∙ ap (λ (z : State). signalsOf z ds) q);
+        told = ap₂ (λ (x : Handed) (xs : List Handed). x ∷ xs) (handed-same t ra rb ma mb m h c d (e .0)) (more .told ∙ ap (λ (z : State). handed k z ds) q);
       }
 
 -- ---- from tables that were made
@@ -293,7 +310,7 @@ zeroed (x ∷ xs) (y ∷ ys) e = ap (λ (r : List ℕ). 0 ∷ r) (zeroed xs ys (
 at-end : (k j n d m : ℕ) (room₁ room₂ memory : List ℕ) → answerNumber (make n d m room₁ .answer) ≡ 0 → answerNumber (make n d m room₂ .answer) ≡ 0
     → (cs ds : List Call) → AlikeRuns k j 0 (made n d m room₁ memory) cs ds
     → Both k j (marksOf k j (made n d m room₁ memory) cs) (run (made n d m room₁ memory) cs) (run (made n d m room₂ memory) ds)
-    (outcomes (made n d m room₁ memory) cs) (outcomes (made n d m room₂ memory) ds) (signalsOf (made n d m room₁ memory) cs) (signalsOf (made n d m room₂ memory) ds)
+    (outcomes (made n d m room₁ memory) cs) (outcomes (made n d m room₂ memory) ds) (handed k (made n d m room₁ memory) cs) (handed k (made n d m room₂ memory) ds)
 at-end k j n d m room₁ room₂ memory h₁ h₂ cs ds =
     let s₁ = start n d m room₁ h₁ in
     let s₂ = start n d m room₂ h₂ in
@@ -317,7 +334,7 @@ so-far k j zero over s cs ds e = tt
 so-far k j (suc i) over s [] [] e = tt
 so-far k j (suc i) over s [] (d ∷ ds) e = e
 so-far k j (suc i) over s (c ∷ cs) [] e = e
-so-far k j (suc i) over s (c ∷ cs) (d ∷ ds) e = (e .0, so-far k j i (overAfter k over s c) (after s c) cs ds (e .1))
+so-far k j (suc i) over s (c ∷ cs) (d ∷ ds) e = (e .0, so-far k j i (overAfter k over (outcome s c) c) (after s c) cs ds (e .1))
 
 pub isolation : Demand3
 isolation k j n d m room₁ room₂ memory cs ds h₁ h₂ e = (

@@ -5,3 +5,6 @@ pub mod Contained
 pub mod Masked
 pub mod Isolation
 pub mod Example
+pub mod Lives
+pub mod Reading
+pub mod Excepted

@@ -15,7 +15,7 @@ use Rattle.channel.specs.declared.Table.{Table}
 use Rattle.definition.specs.Table.{isDisconnected, slotAt, width, roomSize}
 use Rattle.definition.specs.Asking.{make}
 use Rattle.definition.specs.Calls.{Window, Call, frame, sends, down, plain, Request, register, signals, pends, rejectsAll, accepts, rejects, drops, creates, opens, gives, holds, releases, leaves, leavesCid, announces, takes, attends, asks, sendsSignal, writes}
-use Rattle.definition.specs.Mem.{Fill, fills, written}
+use Rattle.definition.specs.Mem.{fills, written}
 use Rattle.definition.specs.Outcome.{Outcome}
 use Rattle.definition.specs.Ending.{itself}
 use Rattle.definition.specs.Numbers.{answerNumber}
@@ -91,8 +91,8 @@ isDown k (sends s sdu out) = false
 isDown k (down link) = eqb k link
 isDown k (plain r out job) = false
 
-unfoldable pub overAfter : (k over : ℕ) → State → Call → ℕ
-overAfter k over s c = choose (isDown k c && eqb (answerNumber (outcome s c .answer)) 0) (suc over) over
+unfoldable pub overAfter : (k over : ℕ) → Outcome → Call → ℕ
+overAfter k over o c = choose (isDown k c && eqb (answerNumber (o .answer)) 0) (suc over) over
 
 -- ---- 3. What may differ: the job octets that link k carries in life j, never how many there are.
 
@@ -113,7 +113,7 @@ abbrev pub AlikeRuns : (k j over : ℕ) → State → List Call → List Call �
 AlikeRuns k j over s [] [] = Unit {0}
 AlikeRuns k j over s [] (d ∷ ds) = ⊥
 AlikeRuns k j over s (c ∷ cs) [] = ⊥
-AlikeRuns k j over s (c ∷ cs) (d ∷ ds) = Alike k j over (s .table) c d × AlikeRuns k j (overAfter k over s c) (after s c) cs ds
+AlikeRuns k j over s (c ∷ cs) (d ∷ ds) = Alike k j over (s .table) c d × AlikeRuns k j (overAfter k over (outcome s c) c) (after s c) cs ds
 
 -- ---- 4. Where that life's octets stand: a mark for each octet of room and memory. It is the definition itself, run on marks in place of
 -- octets. A job octet of that life comes in marked, every other octet (headers, signals, zeros, other links' jobs) unmarked; a mark goes
@@ -139,18 +139,19 @@ memoryMarks o out job frames tray js room memory =
     let m = sets memory (job .from) (written unmarked (mask tray js) (mask tray room) (o .job) (lent job memory)) in
     sets m (out .from) (written unmarked (mask frames js) (mask frames room) (o .out) (lent out m))
 
-unfoldable pub marked : (k j : ℕ) → State → Marks → Call → Marks
-marked k j s m c =
-    let js = map (λ _. eqb (m .over) j && carries k (s .table) c) (jobs (s .table) c) in
+-- The marks that a call leaves. t is the table that it finds, o what it comes to.
+unfoldable pub marked : (k j : ℕ) → Table → Outcome → Marks → Call → Marks
+marked k j t o m c =
+    let js = map (λ _. eqb (m .over) j && carries k t c) (jobs t c) in
     record {
-      over = overAfter k (m .over) s c;
-      room = roomLeft unmarked js (s .table) (outcome s c) (m .room);
-      memory = memoryMarks (outcome s c) (outWindow c) (jobWindow c) (framesOut k (s .table) c) (jobOut k (s .table) c) js (m .room) (m .memory);
+      over = overAfter k (m .over) o c;
+      room = roomLeft unmarked js t o (m .room);
+      memory = memoryMarks o (outWindow c) (jobWindow c) (framesOut k t c) (jobOut k t c) js (m .room) (m .memory);
     }
 
 unfoldable pub marksFrom : (k j : ℕ) → State → Marks → List Call → Marks
 marksFrom k j s m [] = m
-marksFrom k j s m (c ∷ cs) = marksFrom k j (after s c) (marked k j s m c) cs
+marksFrom k j s m (c ∷ cs) = marksFrom k j (after s c) (marked k j (s .table) (outcome s c) m c) cs
 
 -- The marks after a run from a state in which no octet is marked and no life is over.
 abbrev pub marksOf : (k j : ℕ) → State → List Call → Marks
@@ -177,25 +178,28 @@ pub record Isolated (k j : ℕ) (m : Marks) (a b : State) : Type 0 where
   -- and the whole room is equal once that life's link-down has answered 0
   pub down : j < m .over → a .room ≡ b .room
 
--- ---- 6. The octets of the signals, call by call: all that a call writes to its output, but what a send writes, which are frames.
+-- ---- 6. What a call hands out, octet by octet: to its output a signal or frames, to its job buffer a job; but for link k's own frames and
+-- jobs. So every signal is in it, and every other link's frames and jobs.
 
-abbrev pub signalFills : Call → List Fill → List Fill
-signalFills (frame link cid payload) fs = fs
-signalFills (sends s sdu out) fs = []
-signalFills (down link) fs = fs
-signalFills (plain r out job) fs = fs
+pub record Handed : Type 0 where
+  pub out : List ℕ
+  pub job : List ℕ
 
-abbrev pub signalOf : State → Call → List ℕ
-signalOf s c = fills itself (jobs (s .table) c) (s .room) (signalFills c (outcome s c .out))
+abbrev pub handedBy : (k : ℕ) → State → Call → Handed
+handedBy k s c =
+    record {
+      out = choose (framesOut k (s .table) c) [] (fills itself (jobs (s .table) c) (s .room) (outcome s c .out));
+      job = choose (jobOut k (s .table) c) [] (fills itself (jobs (s .table) c) (s .room) (outcome s c .job));
+    }
 
-unfoldable pub signalsOf : State → List Call → List (List ℕ)
-signalsOf s [] = []
-signalsOf s (c ∷ cs) = signalOf s c ∷ signalsOf (after s c) cs
+unfoldable pub handed : (k : ℕ) → State → List Call → List Handed
+handed k s [] = []
+handed k s (c ∷ cs) = handedBy k s c ∷ handed k (after s c) cs
 
--- ---- 7. The demand. Every call comes to the same, call by call: an `Outcome` (crate definition) is its answer, the table after it, and
--- what it puts where, as data: which octets it worked out itself, and from where how many job octets or octets of the room are copied. So
--- all lengths are equal; octets that are copied are not in it. The octets of every signal are equal, whatever they were copied from, and
--- so is how many there are. And `Isolated` holds after every number i of calls: of memory and room.
+-- ---- 7. The demand. Every call comes to the same: an `Outcome` (crate definition) is its answer, the table after it, and what it puts
+-- where, as data: which octets it worked out itself, and how many job octets or octets of the room it copies from where to where. So all
+-- lengths are equal; the octets that are copied are not in it. What it hands out is equal too, octet by octet and so in length: every
+-- signal, and other links' frames and jobs. And of memory and room `Isolated` holds, after every number i of calls.
 
 abbrev pub Demand3 : Type 0
 Demand3 =
@@ -204,5 +208,5 @@ Demand3 =
     → answerNumber (make n d m room₂ .answer) ≡ 0
     → AlikeRuns k j 0 (made n d m room₁ memory) cs ds
     → (outcomes (made n d m room₁ memory) cs ≡ outcomes (made n d m room₂ memory) ds)
-    × (signalsOf (made n d m room₁ memory) cs ≡ signalsOf (made n d m room₂ memory) ds)
+    × (handed k (made n d m room₁ memory) cs ≡ handed k (made n d m room₂ memory) ds)
     × ((i : ℕ) → Isolated k j (marksOf k j (made n d m room₁ memory) (take i cs)) (run (made n d m room₁ memory) (take i cs)) (run (made n d m room₂ memory) (take i ds)))

@@ -1,5 +1,5 @@
--- Demand 3 at the entries, proved: a run of entries is the definition's run, spelled (Lift, Start), and what it tells is what that run's outcomes and signals
--- say (Telling); so `isolation` and the rule that refusals 1 and 2 never come (crates isolation and rules) hold of it. No entry gives credits above 65,535,
+-- Demand 3 at the entries, proved: a run of entries is the definition's run, spelled (Lift, Start), and what it tells is what that run's outcomes say
+-- and hand out (Telling); so `isolation` and the rule that refusals 1 and 2 never come (crates isolation and rules) hold of it. No entry gives credits above 65,535,
 -- which is all that the rule asks (`entry-fits`).
 use mathlib.Core.Path.{_≡_, refl, sym, ap, ap₂, _∙_, subst, subst₂}
 use mathlib.Core.Bool.{_&&_}
@@ -20,7 +20,7 @@ use Rattle.definition.specs.Run.{State, outWindow, jobWindow, outcome, after, m
 use Rattle.layout.specs.declared.Decoded.{Decoded}
 use Rattle.layout.specs.Layout.{spell}
 use Rattle.layout.specs.Back.{Sized, read-back}
-use Rattle.isolation.specs.Statement.{isDown, overAfter, sent, framed, Alike, same, exchanged, AlikeRuns, Marks, marksOf, Isolated}
+use Rattle.isolation.specs.Statement.{isDown, overAfter, sent, framed, Alike, same, exchanged, AlikeRuns, Marks, marksOf, Isolated, Handed}
 use Rattle.isolation.specs.Isolation.{isolation}
 use Rattle.rules.specs.Run.{SettingFits, Fits, Reached, start, next}
 use Rattle.rules.specs.Step.{number}
@@ -28,7 +28,7 @@ use Rattle.rules.specs.Rules.{never-1-nor-2}
 use Rattle.edge.specs.Edge.{settingOf}
 use Rattle.edge_sized.specs.Sized.{after-sized, run-sized}
 use Rattle.edge_runs.specs.Entries.{Entry, registerSpsm, spsm, mtu, mps, peerMtu, peerMps, attention, sendConnParamUpdateReq, sendConnParamUpdateRes, nextPending, acceptPending, rejectPending, rejectAllPending, dropPending, create, opened, giveUp, incRef, decRef, disconnect, disconnectByCid, disconnected, nextDisconnect, signal, dispatch, send, receive, own, callOf}
-use Rattle.edge_runs.specs.Run.{EdgeState, stateOf, Asked, callIn, edgeOf, entered, BuffersApart, entries, told}
+use Rattle.edge_runs.specs.Run.{EdgeState, stateOf, Asked, callIn, edgeOf, entered, BuffersApart, entries, signalIn, told}
 use Rattle.edge_runs.specs.Lift.{spelled, number-is, entered-spelled, entries-spelled}
 use Rattle.edge_runs.specs.Start.{starting}
 use Rattle.edge_runs.specs.Telling.{tellings, told-spelled}
@@ -51,6 +51,11 @@ job-alike same = refl
 job-alike (exchanged g (sent h e)) = refl
 job-alike (exchanged g (framed e f)) = refl
 
+signal-alike : {k j over : ℕ} {t : Table} {c d : Call} → Alike k j over t c d → (xs : List ℕ) → signalIn d xs ≡ signalIn c xs
+signal-alike same xs = refl
+signal-alike (exchanged g (sent h e)) xs = refl
+signal-alike (exchanged g (framed e f)) xs = refl
+
 apart-alike : (k j over : ℕ) (s : EdgeState) (es fs : List Asked) → AlikeEntries k j over s es fs → BuffersApart es → BuffersApart fs
 apart-alike k j over s [] [] e h = tt
 apart-alike k j over s [] (b ∷ fs) e h = absurd e
@@ -58,16 +63,16 @@ apart-alike k j over s (a ∷ es) [] e h = absurd e
 apart-alike k j over s (a ∷ es) (b ∷ fs) e h = (rw (out-alike (e .0 .0), job-alike (e .0 .0)) (h .0), apart-alike k j _ _ es fs (e .1) (h .1))
 
 -- what is told hangs on the answers and on how much is lent
-tellings-alike : (memory : List ℕ) (k j over : ℕ) (s : EdgeState) (es fs : List Asked) → AlikeEntries k j over s es fs → (os : List Outcome) (ss : List (List ℕ)) → tellings memory es os ss ≡ tellings memory fs os ss
+tellings-alike : (memory : List ℕ) (k j over : ℕ) (s : EdgeState) (es fs : List Asked) → AlikeEntries k j over s es fs → (os : List Outcome) (hs : List Handed) → tellings memory es os hs ≡ tellings memory fs os hs
 unfolding tellings
-tellings-alike memory k j over s [] [] e os ss = refl
-tellings-alike memory k j over s [] (b ∷ fs) e os ss = absurd e
-tellings-alike memory k j over s (a ∷ es) [] e os ss = absurd e
-tellings-alike memory k j over s (a ∷ es) (b ∷ fs) e [] ss = refl
+tellings-alike memory k j over s [] [] e os hs = refl
+tellings-alike memory k j over s [] (b ∷ fs) e os hs = absurd e
+tellings-alike memory k j over s (a ∷ es) [] e os hs = absurd e
+tellings-alike memory k j over s (a ∷ es) (b ∷ fs) e [] hs = refl
 tellings-alike memory k j over s (a ∷ es) (b ∷ fs) e (o ∷ os) [] = refl
-tellings-alike memory k j over s (a ∷ es) (b ∷ fs) e (o ∷ os) (x ∷ ss) = rw (out-alike (e .0 .0), e .0 .1, tellings-alike memory k j _ _ es fs (e .1) os ss) refl
+tellings-alike memory k j over s (a ∷ es) (b ∷ fs) e (o ∷ os) (x ∷ hs) = rw (out-alike (e .0 .0), signal-alike (e .0 .0) (x .out), e .0 .1, tellings-alike memory k j _ _ es fs (e .1) os hs) refl
 
-over-is : (k over : ℕ) (s : State) (w : Sized (s .table)) (a : Asked) → overAt k over (callIn a) (edgeOf (spelled s) a) ≡ overAfter k over s (callIn a)
+pub over-is : (k over : ℕ) (s : State) (w : Sized (s .table)) (a : Asked) → overAt k over (callIn a) (edgeOf (spelled s) a) ≡ overAfter k over (outcome s (callIn a)) (callIn a)
 unfolding overAfter
 over-is k over s w a = ap (λ (n : ℕ). choose (isDown k (callIn a) && eqb n 0) (suc over) over) (number-is s w a)
 
@@ -77,8 +82,8 @@ runs-alike k j over s w [] (b ∷ fs) h e = e
 runs-alike k j over s w (a ∷ es) [] h e = e
 runs-alike k j over s w (a ∷ es) (b ∷ fs) h e = (
   subst (λ (t : Table). Alike k j over t (callIn a) (callIn b)) (ap (λ (x : State). x .table) (state-back s w)) (e .0 .0),
-  runs-alike k j (overAfter k over s (callIn a)) (after s (callIn a)) (after-sized s (callIn a) w) es fs (h .1)
-      (subst (λ (x : EdgeState). AlikeEntries k j (overAfter k over s (callIn a)) x es fs) (entered-spelled s w a (h .0))
+  runs-alike k j (overAfter k over (outcome s (callIn a)) (callIn a)) (after s (callIn a)) (after-sized s (callIn a) w) es fs (h .1)
+      (subst (λ (x : EdgeState). AlikeEntries k j (overAfter k over (outcome s (callIn a)) (callIn a)) x es fs) (entered-spelled s w a (h .0))
       (subst (λ (n : ℕ). AlikeEntries k j n (entered (spelled s) a) es fs) (over-is k over s w a) (e .1))),
 )
 
@@ -181,10 +186,10 @@ isolation-at-entries k j n d m table₁ table₂ answer₁ answer₂ room₁ roo
     let q = isolation k j n d m room₁ room₂ memory (map callIn es) (map callIn fs) (a .number) (b .number) (runs-alike k j 0 s₁ (a .sized) es fs apart e) in
     subst₂ (λ (x y : EdgeState). Undistinguished k j x y es fs) (sym (a .is)) (sym (b .is))
     (record {
-      tells = told-spelled s₁ (a .sized) es apart memory refl
-          ∙ ap₂ (λ (os : List Outcome) (ss : List (List ℕ)). tellings memory es os ss) (q .0) (q .1)
+      tells = told-spelled k s₁ (a .sized) es apart memory refl
+          ∙ ap₂ (λ (os : List Outcome) (hs : List Handed). tellings memory es os hs) (q .0) (q .1)
           ∙ tellings-alike memory k j 0 (spelled s₁) es fs e _ _
-          ∙ sym (told-spelled s₂ (b .sized) fs p memory refl);
+          ∙ sym (told-spelled k s₂ (b .sized) fs p memory refl);
       never = never s₁ (start n d m room₁ memory (a .answer)) (a .sized) es apart;
       leaves = λ i. states k j s₁ s₂ (a .sized) (b .sized) es fs apart p i (q .2 i);
     })

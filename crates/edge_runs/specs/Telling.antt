@@ -1,4 +1,4 @@
--- What a run of entries tells its caller is what the outcomes and signals of the definition's run say (`told-spelled`): numbers, answers and tables from the
+-- What a run of entries tells its caller is what the outcomes of the definition's run say, and what it hands out (`told-spelled`): numbers, answers and tables from the
 -- outcomes, and of a signal as many octets as the answer tells.
 use mathlib.Core.Path.{_≡_, refl, sym, ap, ap₂, _∙_}
 use mathlib.Core.Bool.{false}
@@ -19,7 +19,8 @@ use Rattle.definition.specs.Run.{State, lent, outWindow, jobWindow, outcome, af
 use Rattle.layout.specs.Layout.{spell}
 use Rattle.layout.specs.Back.{Sized}
 use Rattle.answer_octets.specs.Answers.{answerOctets}
-use Rattle.isolation.specs.Statement.{signalFills, signalOf, signalsOf}
+use Rattle.isolation.specs.Statement.{framesOut, Handed, handedBy, handed}
+use Rattle.lists.specs.Choose.{choose-false}
 use Rattle.isolation.specs.Words.{jobs-is}
 use Rattle.edge_sized.specs.Sized.{after-sized}
 use Rattle.edge_sized.specs.Said.{isSend, said-length}
@@ -66,8 +67,8 @@ module _ (s : State) (c : Call) where
   job-written = ap (λ (e : End). e .job) (whole s c)
 
   -- in the words of demand 3
-  signal-fills : signalOf s c ≡ fills itself (jobs (s .table) c) (s .room) (signalFills c (outcome s c .out))
-  signal-fills = ap (λ (js : List ℕ). fills itself js (s .room) (signalFills c (outcome s c .out))) (jobs-is (s .table) c)
+  said : (k : ℕ) → framesOut k (s .table) c ≡ false → handedBy k s c .out ≡ fills itself (jobs (s .table) c) (s .room) (outcome s c .out)
+  said k e = choose-false _ _ _ e ∙ ap (λ (js : List ℕ). fills itself js (s .room) (outcome s c .out)) (jobs-is (s .table) c)
 
   -- a call that is no send writes its signal, and no more
   from-buffer : isSend c ≡ false → (n : ℕ) → n ≤ sizes (outcome s c .out) → take n (endIn s c .out) ≡ take n (take (length (lent (outWindow c) (s .memory))) (fills itself (jobs (s .table) c) (s .room) (outcome s c .out)))
@@ -75,29 +76,30 @@ module _ (s : State) (c : Call) where
       let long = said-length (s .table) c e (length (jobs (s .table) c)) (length (s .room)) (length (lent (outWindow c) (s .memory))) (length (lent (jobWindow c) (s .memory))) (jobs (s .table) c) (s .room) in
       ap (take n) out-written ∙ over-take n (lent (outWindow c) (s .memory)) (fills itself (jobs (s .table) c) (s .room) (outcome s c .out)) (omega (arith, long, h))
 
-signal-is : (s : State) (c : Call) (n : ℕ) → n ≤ sizes (outcome s c .out) → signalIn c (take n (endIn s c .out)) ≡ take n (take (length (lent (outWindow c) (s .memory))) (signalOf s c))
-unfolding fills
-signal-is s (frame link cid payload) n h = from-buffer s (frame link cid payload) refl n h ∙ ap (λ (x : List ℕ). take n (take 0 x)) (sym (signal-fills s (frame link cid payload)))
-signal-is s (sends slot sdu out) n h = sym (ap (take n) (take-nil (length (lent out (s .memory)))) ∙ take-nil n)
-signal-is s (down link) n h = from-buffer s (down link) refl n h ∙ ap (λ (x : List ℕ). take n (take 0 x)) (sym (signal-fills s (down link)))
-signal-is s (plain r out tray) n h = from-buffer s (plain r out tray) refl n h ∙ ap (λ (x : List ℕ). take n (take (length (lent out (s .memory))) x)) (sym (signal-fills s (plain r out tray)))
+-- what demand 3 says is handed out, of a call that is no send, is its signal
+module _ (k : ℕ) (s : State) where
+  signal-is : (c : Call) (n : ℕ) → n ≤ sizes (outcome s c .out) → signalIn c (take n (endIn s c .out)) ≡ take n (take (length (lent (outWindow c) (s .memory))) (signalIn c (handedBy k s c .out)))
+  signal-is (frame link cid payload) n h = from-buffer s (frame link cid payload) refl n h ∙ ap (λ (x : List ℕ). take n (take 0 x)) (sym (said s (frame link cid payload) k refl))
+  signal-is (sends slot sdu out) n h = sym (ap (take n) (take-nil (length (lent out (s .memory)))) ∙ take-nil n)
+  signal-is (down link) n h = from-buffer s (down link) refl n h ∙ ap (λ (x : List ℕ). take n (take 0 x)) (sym (said s (down link) k refl))
+  signal-is (plain r out tray) n h = from-buffer s (plain r out tray) refl n h ∙ ap (λ (x : List ℕ). take n (take (length (lent out (s .memory))) x)) (sym (said s (plain r out tray) k refl))
 
--- ---- what is told, from an outcome and a signal: `lent` octets of signal buffer, `answer` the answer's octets before
+-- ---- what is told, from an outcome and what is handed out: `size` octets of signal buffer are lent, and `answer` are the answer's octets before
 
-abbrev pub telling : (size : ℕ) (answer : List ℕ) → Outcome → (said : List ℕ) → Told
-telling size answer o said =
+abbrev pub telling : (size : ℕ) (answer : List ℕ) → Call → Outcome → Handed → Told
+telling size answer c o h =
     record {
       number = answerNumber (o .answer);
       answer = sets answer 0 (answerOctets (servedOf o));
       table = spell (o .table);
-      signal = take (countIn (sets answer 0 (answerOctets (servedOf o)))) (take size said);
+      signal = take (countIn (sets answer 0 (answerOctets (servedOf o)))) (take size (signalIn c (h .out)));
     }
 
-unfoldable pub tellings : (memory : List ℕ) → List Asked → List Outcome → List (List ℕ) → List Told
-tellings memory [] os ss = []
-tellings memory (a ∷ es) [] ss = []
+unfoldable pub tellings : (memory : List ℕ) → List Asked → List Outcome → List Handed → List Told
+tellings memory [] os hs = []
+tellings memory (a ∷ es) [] hs = []
 tellings memory (a ∷ es) (o ∷ os) [] = []
-tellings memory (a ∷ es) (o ∷ os) (x ∷ ss) = telling (length (lent (outWindow (callIn a)) memory)) (a .answer) o x ∷ tellings memory es os ss
+tellings memory (a ∷ es) (o ∷ os) (h ∷ hs) = telling (length (lent (outWindow (callIn a)) memory)) (a .answer) (callIn a) o h ∷ tellings memory es os hs
 
 -- the memory keeps its length, and so does what is lent of it
 lent-length : (w : Window) (x y : List ℕ) → length x ≡ length y → length (lent w x) ≡ length (lent w y)
@@ -113,19 +115,21 @@ after-length s c =
     let m : List ℕ = sets (s .memory) (jobWindow c .from) x in
     length-sets m (outWindow c .from) (written itself js (s .room) (o .out) (lent (outWindow c) m)) ∙ length-sets (s .memory) (jobWindow c .from) x
 
-told-one : (s : State) → Sized (s .table) → (a : Asked) → toldBy a (edgeOf (spelled s) a) ≡ telling (length (lent (outWindow (callIn a)) (s .memory))) (a .answer) (outcome s (callIn a)) (signalOf s (callIn a))
-told-one s w a =
-    let o = outcome s (callIn a) in
-    let n : ℕ = countIn (sets (a .answer) 0 (answerOctets (servedOf o))) in
-    let z = signal-is s (callIn a) n (count-le (a .answer) (servedOf o)) in
-    rw (number-is s w a, answer-is s w a, table-is s w a, out-is s w a, z) refl
+module _ (k : ℕ) where
+  told-one : (s : State) → Sized (s .table) → (a : Asked)
+      → toldBy a (edgeOf (spelled s) a) ≡ telling (length (lent (outWindow (callIn a)) (s .memory))) (a .answer) (callIn a) (outcome s (callIn a)) (handedBy k s (callIn a))
+  told-one s w a =
+      let o = outcome s (callIn a) in
+      let n : ℕ = countIn (sets (a .answer) 0 (answerOctets (servedOf o))) in
+      let z = signal-is k s (callIn a) n (count-le (a .answer) (servedOf o)) in
+      rw (number-is s w a, answer-is s w a, table-is s w a, out-is s w a, z) refl
 
-pub told-spelled : (s : State) → Sized (s .table) → (es : List Asked) → BuffersApart es → (memory : List ℕ) → length memory ≡ length (s .memory)
-    → told (spelled s) es ≡ tellings memory es (outcomes s (map callIn es)) (signalsOf s (map callIn es))
-unfolding told tellings outcomes signalsOf
-told-spelled s w [] h memory e = refl
-told-spelled s w (a ∷ es) h memory e =
-    let c = callIn a in
-    ap₂ (λ (x : Told) (xs : List Told). x ∷ xs)
-    (told-one s w a ∙ ap (λ (n : ℕ). telling n (a .answer) (outcome s c) (signalOf s c)) (lent-length (outWindow c) (s .memory) memory (sym e)))
-    (ap (λ (x : EdgeState). told x es) (entered-spelled s w a (h .0)) ∙ told-spelled (after s c) (after-sized s c w) es (h .1) memory (e ∙ sym (after-length s c)))
+  pub told-spelled : (s : State) → Sized (s .table) → (es : List Asked) → BuffersApart es → (memory : List ℕ) → length memory ≡ length (s .memory)
+      → told (spelled s) es ≡ tellings memory es (outcomes s (map callIn es)) (handed k s (map callIn es))
+  unfolding told tellings outcomes handed
+  told-spelled s w [] h memory e = refl
+  told-spelled s w (a ∷ es) h memory e =
+      let c = callIn a in
+      ap₂ (λ (x : Told) (xs : List Told). x ∷ xs)
+      (told-one s w a ∙ ap (λ (n : ℕ). telling n (a .answer) c (outcome s c) (handedBy k s c)) (lent-length (outWindow c) (s .memory) memory (sym e)))
+      (ap (λ (x : EdgeState). told x es) (entered-spelled s w a (h .0)) ∙ told-spelled (after s c) (after-sized s c w) es (h .1) memory (e ∙ sym (after-length s c)))

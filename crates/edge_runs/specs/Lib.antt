@@ -6,3 +6,4 @@ pub mod Telling
 pub mod Statement
 pub mod Isolation
 pub mod Rules
+pub mod Example

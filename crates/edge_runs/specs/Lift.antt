@@ -31,7 +31,7 @@ use Rattle.layout.specs.Layout as Layout
 use Rattle.layout.specs.Columns.{spell-length}
 use Rattle.layout.specs.Back.{Sized, read-back}
 use Rattle.answer_octets.specs.Answers.{tells, answerOctets}
-use Rattle.edge.specs.Edge.{Edge, onTable, lifted, alone, flag}
+use Rattle.edge.specs.Edge.{Edge, edge, onTable, lifted, alone, flag}
 use Rattle.edge_sized.specs.Sized.{after-sized}
 use Rattle.edge_runs.specs.Entries.{Entry, registerSpsm, spsm, mtu, mps, peerMtu, peerMps, attention, sendConnParamUpdateReq, sendConnParamUpdateRes, nextPending, acceptPending, rejectPending, rejectAllPending, dropPending, create, opened, giveUp, incRef, decRef, disconnect, disconnectByCid, disconnected, nextDisconnect, signal, dispatch, send, receive, own, leaves, callOf}
 use Rattle.edge_runs.specs.Run.{EdgeState, Asked, callIn, edgeOf, entered, Apart, BuffersApart, entries}
@@ -212,6 +212,15 @@ module _ (s : State) (w : Sized (s .table)) (a : Asked) where
       let next = call-after s c (servedOf o) (choose (roomless c) (s .room) (e .room)) (e .out) (e .job) (whole s c)
       (lent-apart (outWindow c) (jobWindow c) apart (s .memory) (e .job) tray-length) in
       rw (table-is, out-is, job-is, room-is, next) refl
+
+-- What an entry's `ensures` says of the octets that it left (crate entries) is what stands next in a run of entries.
+pub ensured : (s : EdgeState) (a : Asked) (number : ℕ) (table answer room out tray : List ℕ) → edge number table answer room out tray ≡ edgeOf s a
+    → entered s a
+    ≡ record { table = table; room = choose (roomless (callIn a)) (s .room) room; memory = sets (sets (s .memory) (jobWindow (callIn a) .from) tray) (outWindow (callIn a) .from) out }
+unfolding entered
+ensured s a number table answer room out tray h =
+    ap (λ (x : Edge). record { table = x .table; room = choose (roomless (callIn a)) (s .room) (x .room); memory = sets (sets (s .memory) (jobWindow (callIn a) .from) (x .job)) (outWindow (callIn a) .from) (x .out) })
+    (sym h)
 
 -- ---- a run
 

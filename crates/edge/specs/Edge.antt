@@ -32,6 +32,30 @@ pub record Edge : Type 0 where
 abbrev pub edge : ℕ → (table answer room out job : List ℕ) → Edge
 edge number table answer room out job = record { number = number; table = table; answer = answer; room = room; out = out; job = job }
 
+-- "that two results meeting it coincide is proved": what two calls leave that meet one entry's contract is the same, the number that is returned and every
+-- lent octet
+pub record Coincide (number₁ number₂ : ℕ) (table₁ table₂ answer₁ answer₂ room₁ room₂ out₁ out₂ job₁ job₂ : List ℕ) : Type 0 where
+  pub number : number₁ ≡ number₂
+  pub table : table₁ ≡ table₂
+  pub answer : answer₁ ≡ answer₂
+  pub room : room₁ ≡ room₂
+  pub out : out₁ ≡ out₂
+  pub job : job₁ ≡ job₂
+
+pub coincide : {e : Edge} {number₁ number₂ : ℕ} {table₁ table₂ answer₁ answer₂ room₁ room₂ out₁ out₂ job₁ job₂ : List ℕ}
+    → edge number₁ table₁ answer₁ room₁ out₁ job₁ ≡ e → edge number₂ table₂ answer₂ room₂ out₂ job₂ ≡ e
+    → Coincide number₁ number₂ table₁ table₂ answer₁ answer₂ room₁ room₂ out₁ out₂ job₁ job₂
+coincide p q =
+    let h = p ∙ sym q in
+    record {
+      number = ap (λ (x : Edge). x .number) h;
+      table = ap (λ (x : Edge). x .table) h;
+      answer = ap (λ (x : Edge). x .answer) h;
+      room = ap (λ (x : Edge). x .room) h;
+      out = ap (λ (x : Edge). x .out) h;
+      job = ap (λ (x : Edge). x .job) h;
+    }
+
 -- The table is written back where its octets are a table's (ok); the answer is written over the start of the lent answer.
 unfoldable pub lifted : (ok : Bool) (table answer : List ℕ) → End → Edge
 lifted ok table answer e =

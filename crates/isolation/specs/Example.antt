@@ -35,7 +35,7 @@ unfolding make choose
 made-well = refl
 
 -- Two such runs with different job octets are alike: in life 0 of link 1.
-alike : (id a b c x y e a′ b′ c′ x′ y′ e′ : ℕ) → AlikeRuns 1 0 0 start (calls id a b c x y e) (calls id a′ b′ c′ x′ y′ e′)
+pub alike : (id a b c x y e a′ b′ c′ x′ y′ e′ : ℕ) → AlikeRuns 1 0 0 start (calls id a b c x y e) (calls id a′ b′ c′ x′ y′ e′)
 unfolding encodeOf overAfter after decide serve registerSpsm signalled checked headersOf whole handled onConnReq leCreditConnReq nextPending acceptPending dispatch joined joinStep firstStep reached assembled receive taken grantIn grantOf due send planned planSend frameCount ceil framesLength frames laterFrames disconnect disconnecting nextDisconnect disconnected decRef Calls.jobs bare verdict wellFormed slotFits every first only choose make parts moves move fill fills written
 alike id a b c x y e a′ b′ c′ x′ y′ e′ = (
   same,

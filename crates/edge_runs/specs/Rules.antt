@@ -1,0 +1,203 @@
+-- The rules of every run, at the octets: what a run of entries from a making that returns 0 reaches is a state that a run of the definition reaches, spelled
+-- (`reached`); so the room rule, the fresh-slot rule and exact rejoining hold of its octets. `stateOf` reads the table from its octets.
+use mathlib.Core.Path.{_≡_, refl, sym, ap, _∙_, subst}
+use mathlib.Core.Bool.{true, false}
+use mathlib.Core.List.{List, [], _∷_}
+use mathlib.Core.Logic.{inl}
+use Prim.Native.Nat.{ℕ, _+_, _*_, _≤_, _<_}
+use native.Mathlib.Omega.{arith}
+use lib.ListN.{length, take, getD}
+use lib.Seq.{sets, take-all}
+use borrow.Author.Tests.{eqb-false}
+use Rattle.lists.specs.Choose.{if-cases}
+use Rattle.codes.specs.declared.Refusal.{Refusal}
+use Rattle.cutting.specs.declared.Plan.{Plan}
+use Rattle.cutting.specs.declared.Plan.the-variants as Plan
+use Rattle.cutting.specs.Cutting.{payloads, framesOf}
+use Rattle.channel.specs.Limits.{handleMost, signalMost}
+use Rattle.channel.specs.declared.Answer.the-variants.{Frames}
+use Rattle.channel.specs.declared.Slot.{Slot}
+use Rattle.channel.specs.declared.Table.{Table}
+use Rattle.definition.specs.Mem.{fills}
+use Rattle.definition.specs.Table.{placeOf, width, fresh, slotAt, isDisconnected, cidOf}
+use Rattle.definition.specs.Outcome.{Outcome, refuse}
+use Rattle.definition.specs.Calls.{Window, sends, jobs, bare, decide}
+use Rattle.definition.specs.Ending.{itself}
+use Rattle.definition.specs.Frames.{planned, send}
+use Rattle.definition.specs.Numbers.{answerNumber, refused-not-0}
+use Rattle.definition.specs.Run.{State, lent, outWindow, jobWindow, outcome, after, made}
+use Rattle.layout.specs.Back.{Sized}
+use Rattle.rules.specs.Run.{Reached}
+use Rattle.rules.specs.Run as Run
+use Rattle.rules.specs.Forms.{gate-cases}
+use Rattle.rules.specs.Places.{jobIn}
+use Rattle.rules.specs.RoomRule.{Empty, room-rule, new-connection, connection-begins}
+use Rattle.rules.specs.Tests.{begun}
+use Rattle.rules_jobs.specs.Rejoin.{jobAt, Receiver, Rejoined, Unchanged, Arrives}
+use Rattle.rules_jobs.specs.Rejoin as Rejoin
+use Rattle.rules_jobs.specs.Sending.{sends-frames, exact-rejoining, exact-taking}
+use Rattle.edge_asking.specs.Asking.{makeEdge}
+use Rattle.edge_sized.specs.Sized.{after-sized}
+use Rattle.edge_runs.specs.Entries as Entries
+use Rattle.edge_runs.specs.Run.{EdgeState, stateOf, Asked, callIn, edgeOf, entered, Apart, started}
+use Rattle.edge_runs.specs.Lift.{spelled, number-is, out-is, job-is, entered-spelled}
+use Rattle.edge_runs.specs.Start.{starting}
+use Rattle.edge_runs.specs.Telling.{over-take, out-written, job-written}
+use Rattle.edge_runs.specs.Isolation.{state-back, entry-fits}
+
+-- ---- what runs of entries reach
+
+pub data ReachedAt : EdgeState → Type 0 where
+  start : (table answer room : List ℕ) (n d m : ℕ) (memory : List ℕ) → makeEdge table answer room n d m .number ≡ 0 → ReachedAt (started table answer room n d m memory)
+  next : {s : EdgeState} (a : Asked) → ReachedAt s → Apart (outWindow (callIn a)) (jobWindow (callIn a)) → ReachedAt (entered s a)
+
+record Spells (s : EdgeState) : Type 0 where
+  state : State
+  is : s ≡ spelled state
+  sized : Sized (state .table)
+  reached : Reached state
+
+spells : {s : EdgeState} → ReachedAt s → Spells s
+spells (start table answer room n d m memory h) =
+    let a = starting table answer room n d m memory h in
+    record { state = made n d m room memory; is = a .is; sized = a .sized; reached = Run.start n d m room memory (a .answer) }
+spells (next a r apart) =
+    let p = spells r in
+    record {
+      state = after (p .state) (callIn a);
+      is = ap (λ (x : EdgeState). entered x a) (p .is) ∙ entered-spelled (p .state) (p .sized) a apart;
+      sized = after-sized (p .state) (callIn a) (p .sized);
+      reached = Run.next (callIn a) (p .reached) (entry-fits (a .entry));
+    }
+
+said : {s : EdgeState} (p : Spells s) → stateOf s ≡ p .state
+said p = ap stateOf (p .is) ∙ state-back (p .state) (p .sized)
+
+pub reached : {s : EdgeState} → ReachedAt s → Reached (stateOf s)
+reached r = let p = spells r in subst Reached (sym (said p)) (p .reached)
+
+-- the octets are the spelling of the table that they say, and it is one that they give back
+pub spelling : {s : EdgeState} → ReachedAt s → s ≡ spelled (stateOf s)
+spelling r = let p = spells r in p .is ∙ ap spelled (sym (said p))
+
+pub sized-at : {s : EdgeState} → ReachedAt s → Sized (stateOf s .table)
+sized-at r = let p = spells r in subst (λ (x : State). Sized (x .table)) (sym (said p)) (p .sized)
+
+-- an entry makes the step of its call
+pub entered-state : {s : EdgeState} → ReachedAt s → (a : Asked) → Apart (outWindow (callIn a)) (jobWindow (callIn a)) → stateOf (entered s a) ≡ after (stateOf s) (callIn a)
+unfolding spells
+entered-state r a apart = let p = spells r in said (spells (next a r apart)) ∙ ap (λ (x : State). after x (callIn a)) (sym (said p))
+
+-- ---- "Every octet of room that holds no octet of a live job is zero": octet j of place k of slot i
+
+pub room-rule-at : {s : EdgeState} → ReachedAt s → (i k j : ℕ) → i < stateOf s .table .n → k ≤ stateOf s .table .d → j < placeOf (stateOf s .table)
+    → jobIn (slotAt (stateOf s .table) i .assembly) (slotAt (stateOf s .table) i .queue) k ≤ j → getD (s .room) (i * width (stateOf s .table) + (k * placeOf (stateOf s .table) + j)) 0 ≡ 0
+room-rule-at r = room-rule (reached r)
+
+-- ---- a slot that is given to a new connection was as it was made, and starts empty
+
+module _ {s : EdgeState} (r : ReachedAt s) (a : Asked) (apart : Apart (outWindow (callIn a)) (jobWindow (callIn a))) (i : ℕ) (h : i < stateOf s .table .n) where
+  pub new-connection-at : isDisconnected (slotAt (stateOf s .table) i .state) ≡ true → isDisconnected (slotAt (stateOf (entered s a) .table) i .state) ≡ false
+      → (slotAt (stateOf s .table) i ≡ fresh 0) × Empty (stateOf (entered s a)) i
+  new-connection-at e =
+      subst (λ (x : State). isDisconnected (slotAt (x .table) i .state) ≡ false → (slotAt (stateOf s .table) i ≡ fresh 0) × Empty x i) (sym (entered-state r a apart))
+      (new-connection (reached r) (callIn a) (entry-fits (a .entry)) i h e)
+
+  pub connection-begins-at : begun (slotAt (stateOf s .table) i .state) ≡ false → begun (slotAt (stateOf (entered s a) .table) i .state) ≡ true → Empty (stateOf (entered s a)) i
+  connection-begins-at e =
+      subst (λ (x : State). begun (slotAt (x .table) i .state) ≡ true → Empty x i) (sym (entered-state r a apart)) (connection-begins (reached r) (callIn a) (entry-fits (a .entry)) i h e)
+
+-- ---- exact rejoining, the sending side: an l2cap_send that returns 0 writes the frames of its SDU, for the peer's MPS, to the start of its output
+
+-- what a send answers that is not refused
+record Answered (o : Outcome) : Type 0 where
+  link : ℕ
+  count : ℕ
+  is : o .answer ≡ Frames link count
+
+plans : (t : Table) (j : ℕ) (x : Slot) (l : ℕ) (p : Plan) → answerNumber (planned t j x l p .answer) ≡ 0 → Answered (planned t j x l p)
+unfolding planned
+plans t j x l (Plan.Refused r) e = absurd (eqb-false _ 0 (refused-not-0 r) e)
+plans t j x l (Plan.Frames n octets) e = record { link = x .link; count = n; is = refl }
+
+send-answered : (s : State) (j : ℕ) (sdu : List ℕ) (w : Window) → answerNumber (outcome s (sends j sdu w) .answer) ≡ 0 → Answered (outcome s (sends j sdu w))
+unfolding decide bare jobs send
+send-answered s j sdu w = gate-cases P (s .table) _ _ _ _ (λ r. refused r) (λ _. if-cases P _ (λ _. refused _) (λ _. plans (s .table) j (slotAt (s .table) j) _ _))
+  where
+    P : Outcome → Type 0
+    P o = answerNumber (o .answer) ≡ 0 → Answered o
+
+    refused : (r : Refusal) → P (refuse (s .table) r)
+    refused r e = absurd (eqb-false _ 0 (refused-not-0 r) e)
+
+abbrev pub slotIn : EdgeState → ℕ → Slot
+slotIn s i = slotAt (stateOf s .table) i
+
+abbrev pub sending : (w : Window) (slot : ℕ) (sdu answer : List ℕ) → Asked
+sending w slot sdu answer = record { entry = Entries.send w slot sdu; answer = answer }
+
+-- from the table that its octets say
+number-at : {s : EdgeState} → ReachedAt s → (a : Asked) → edgeOf s a .number ≡ answerNumber (outcome (stateOf s) (callIn a) .answer)
+number-at {s} r a = ap (λ (x : EdgeState). edgeOf x a .number) (spelling r) ∙ number-is (stateOf s) (sized-at r) a
+
+out-at : {s : EdgeState} → ReachedAt s → (a : Asked) → edgeOf s a .out ≡ sets (lent (outWindow (callIn a)) (s .memory)) 0 (fills itself (jobs (stateOf s .table) (callIn a)) (s .room) (outcome (stateOf s) (callIn a) .out))
+out-at {s} r a = ap (λ (x : EdgeState). edgeOf x a .out) (spelling r) ∙ out-is (stateOf s) (sized-at r) a ∙ out-written (stateOf s) (callIn a)
+
+job-at : {s : EdgeState} → ReachedAt s → (a : Asked) → edgeOf s a .job ≡ sets (lent (jobWindow (callIn a)) (s .memory)) 0 (fills itself (jobs (stateOf s .table) (callIn a)) (s .room) (outcome (stateOf s) (callIn a) .job))
+job-at {s} r a = ap (λ (x : EdgeState). edgeOf x a .job) (spelling r) ∙ job-is (stateOf s) (sized-at r) a ∙ job-written (stateOf s) (callIn a)
+
+pub send-writes : {s : EdgeState} → ReachedAt s → (w : Window) (j : ℕ) (sdu answer : List ℕ) → edgeOf s (sending w j sdu answer) .number ≡ 0
+    → edgeOf s (sending w j sdu answer) .out ≡ sets (lent w (s .memory)) 0 (framesOf (slotIn s j .peer .cid) (slotIn s j .peer .mps) sdu)
+unfolding jobs
+send-writes {s} r w j sdu answer e =
+    let a = send-answered (stateOf s) j sdu w (sym (number-at r (sending w j sdu answer)) ∙ e) in
+    out-at r (sending w j sdu answer) ∙ ap (sets (lent w (s .memory)) 0) (sends-frames (stateOf s) j sdu w (a .link) (a .count) (a .is) .octets)
+
+-- ---- the receiving side
+
+abbrev pub framing : (link i : ℕ) (payload answer : List ℕ) → Asked
+framing link i payload answer = record { entry = Entries.dispatch link (cidOf i) payload; answer = answer }
+
+-- From s to s′ these payloads come, in this order, to slot i on its link, each by an l2cap_dispatch; and other entries, that leave the slot and its part
+-- of the room unchanged.
+pub data ArrivesAt (i link : ℕ) : List (List ℕ) → EdgeState → EdgeState → Type 0 where
+  all : {s : EdgeState} → ArrivesAt i link [] s s
+  between : {ps : List (List ℕ)} {s s′ : EdgeState} (a : Asked) → Apart (outWindow (callIn a)) (jobWindow (callIn a)) → Unchanged (stateOf s) (stateOf (entered s a)) i → ArrivesAt i link ps (entered s a) s′
+      → ArrivesAt i link ps s s′
+  comes : {ps : List (List ℕ)} {s s′ : EdgeState} (p answer : List ℕ) → ArrivesAt i link ps (entered s (framing link i p answer)) s′ → ArrivesAt i link (p ∷ ps) s s′
+
+arrives : {i link : ℕ} {ps : List (List ℕ)} {s s′ : EdgeState} → ArrivesAt i link ps s s′ → ReachedAt s → Arrives i link ps (stateOf s) (stateOf s′)
+arrives all r = Rejoin.all
+arrives {i} {link} {ps} {s} {s′} (between a h u v) r =
+    let e = entered-state r a h in
+    Rejoin.between (callIn a) (entry-fits (a .entry)) (subst (λ (x : State). Unchanged (stateOf s) x i) e u) (subst (λ (x : State). Arrives i link ps x (stateOf s′)) e (arrives v (next a r h)))
+arrives {i} {link} {s′ = s′} (comes {ps = ps} p answer v) r =
+    let h : Apart (outWindow (callIn (framing link i p answer))) (jobWindow (callIn (framing link i p answer))) = inl (omega arith) in
+    Rejoin.comes p (subst (λ (x : State). Arrives i link ps x (stateOf s′)) (entered-state r (framing link i p answer) h) (arrives v (next (framing link i p answer) r h)))
+
+-- An l2cap_send returned 0, in any run. The receiver, in a run of its own, is Connected and idle with a credit for each frame, a free queue place and MTU ≥ L;
+-- the frames' payloads come in order on their own link. Then the job waits there, whole, behind those that waited before, which are unchanged.
+pub exact-rejoining-at : {sender : EdgeState} → ReachedAt sender → (w : Window) (j : ℕ) (sdu answer : List ℕ) → edgeOf sender (sending w j sdu answer) .number ≡ 0
+    → {s s′ : EdgeState} → ReachedAt s → (i link : ℕ) → link ≤ handleMost → Receiver (stateOf s) i link (length (payloads (slotIn sender j .peer .mps) sdu))
+    → slotIn s i .assembly .want ≡ 0 → length sdu ≤ slotIn s i .mtu → ArrivesAt i link (payloads (slotIn sender j .peer .mps) sdu) s s′
+    → Rejoined (stateOf s′) i sdu (slotIn s i .queue .count) (jobAt (stateOf s) i)
+exact-rejoining-at {sender} q w j sdu answer e {s} r i link handle v z m arrived =
+    let a = send-answered (stateOf sender) j sdu w (sym (number-at q (sending w j sdu answer)) ∙ e) in
+    let f = sends-frames (stateOf sender) j sdu w (a .link) (a .count) (a .is) in
+    exact-rejoining (stateOf sender) j sdu w (a .link) (a .count) (a .is) i link handle (reached r) (subst (λ (n : ℕ). Receiver (stateOf s) i link n) (f .count) v) z m (arrives arrived r)
+
+-- Where no job waited before it, the next l2cap_receive returns 0 and hands out the SDU: it stands at the start of the job buffer.
+abbrev pub taking : (w v : Window) (slot : ℕ) (answer : List ℕ) → Asked
+taking w v slot answer = record { entry = Entries.receive w v slot; answer = answer }
+
+pub exact-taking-at : {s : EdgeState} → ReachedAt s → (i : ℕ) (sdu : List ℕ) (others : ℕ → List ℕ) → Rejoined (stateOf s) i sdu 0 others → (w v : Window) (answer : List ℕ)
+    → signalMost ≤ length (lent w (s .memory)) → length sdu ≤ length (lent v (s .memory))
+    → (edgeOf s (taking w v i answer) .number ≡ 0) × (take (length sdu) (edgeOf s (taking w v i answer) .job) ≡ sdu)
+unfolding jobs
+exact-taking-at {s} r i sdu others h w v answer l big =
+    let a = taking w v i answer in
+    let t = exact-taking (reached r) i sdu others h w v l big in
+    let e : edgeOf s a .job ≡ sets (lent v (s .memory)) 0 sdu = job-at r a ∙ ap (sets (lent v (s .memory)) 0) (t .0) in (
+      number-at r a ∙ ap answerNumber (t .1),
+      ap (take (length sdu)) e ∙ over-take (length sdu) (lent v (s .memory)) sdu (omega arith) ∙ ap (take (length sdu)) (take-all (length (lent v (s .memory))) sdu big) ∙ take-all (length sdu) sdu (omega arith),
+    )

@@ -1,17 +1,40 @@
-//! The lemmas of `rules_code` carry what is proved of runs to each public function. Their premises are the functions' contracts, written again: here the two
-//! texts are held together, so that a contract that changes takes its lemma along. (The prover has no name for another crate's contract.)
+//! What is proved of runs is carried to each public function by a lemma of `rules_code`, and to each entry by a line of `edge_runs`. Their premises are the functions'
+//! contracts, written again: here the texts are held together, so that a contract that changes takes its lemma along. (The prover has no name for another
+//! crate's contract.)
 
 use std::fs::read_to_string;
 use std::path::Path;
 
 /// The crates whose public functions are calls of a run. (`making` stands at a run's start: `Makes` in CodeRun.antt.)
 const CRATES: [&str; 24] = [
-    "registering", "asking", "querying", "telling", "senders", "calling", "pending", "dropping", "clearing", "accepting", "refusing", "rejecting",
-    "creating", "opening", "giving_up", "holding", "releasing", "closing", "link_down", "announcing", "signals", "dispatching", "sending", "receiving",
+    "registering",
+    "asking",
+    "querying",
+    "telling",
+    "senders",
+    "calling",
+    "pending",
+    "dropping",
+    "clearing",
+    "accepting",
+    "refusing",
+    "rejecting",
+    "creating",
+    "opening",
+    "giving_up",
+    "holding",
+    "releasing",
+    "closing",
+    "link_down",
+    "announcing",
+    "signals",
+    "dispatching",
+    "sending",
+    "receiving",
 ];
 
-/// What a contract calls a parameter, and what the lemma calls it in a state s of a run, with the windows w and v.
-const NAMES: [(&str, &str); 13] = [
+/// What a contract calls something, and what the lemma calls it in a state s of a run, with the windows w and v.
+const IN_A_RUN: [(&str, &str); 13] = [
     ("(now (room .entry))", "(s .room)"),
     ("(now (room .exit))", "room′"),
     ("(now (signal .entry))", "(lent w (s .memory))"),
@@ -27,15 +50,28 @@ const NAMES: [(&str, &str); 13] = [
     ("(cid .0)", "cid"),
 ];
 
+/// The same of an entry and its line.
+const AT_AN_ENTRY: [(&str, &str); 9] = [
+    ("(now (table .entry))", "table"),
+    ("(now (answer .entry))", "answer"),
+    ("(now (room .entry))", "room"),
+    ("(now (signal .entry))", "(lent w memory)"),
+    ("(now (out .entry))", "(lent w memory)"),
+    ("(now (job .entry))", "(lent v memory)"),
+    ("(now (pdu .entry))", "pdu"),
+    ("(now (payload .entry))", "payload"),
+    ("(now (sdu .entry))", "sdu"),
+];
+
 fn read(path: &str) -> String {
     let path = Path::new(env!("CARGO_MANIFEST_DIR")).join("../crates").join(path);
     let text = read_to_string(&path).unwrap_or_else(|error| panic!("{}: {error}", path.display()));
     text.split_whitespace().collect::<Vec<_>>().join(" ")
 }
 
-/// The public functions of a source, each with its contract.
-fn contracts(source: &str) -> Vec<(&str, &str)> {
-    let functions = source.split(" pub fn ").skip(1);
+/// The functions of a source that begin so, each with its contract.
+fn contracts<'a>(source: &'a str, begin: &str) -> Vec<(&'a str, &'a str)> {
+    let functions = source.split(begin).skip(1);
     functions
         .map(|text| {
             let name = text.split('(').next().unwrap_or_default();
@@ -45,16 +81,28 @@ fn contracts(source: &str) -> Vec<(&str, &str)> {
         .collect()
 }
 
-/// A contract in the words of a run: `t` is the state's table, lent memory is the state's.
-fn of_a_run(contract: &str) -> String {
-    let named = NAMES.iter().fold(contract.to_string(), |text, (from, to)| text.replace(from, to));
-    let mut words = String::new();
+/// A contract with other words for what it names: first for lent memory, then for single words.
+fn renamed(contract: &str, lent: &[(&str, &str)], words: &[(&str, &str)]) -> String {
+    let named = lent.iter().fold(contract.to_string(), |text, (from, to)| text.replace(from, to));
+    let mut text = String::new();
     for word in named.split_inclusive([' ', '(', ')']) {
         let end = word.len() - usize::from(word.ends_with([' ', '(', ')']));
-        words.push_str(if &word[..end] == "t" { "(s .table)" } else { &word[..end] });
-        words.push_str(&word[end..]);
+        let found = words.iter().find(|(from, _)| *from == &word[..end]);
+        text.push_str(found.map_or(&word[..end], |(_, to)| to));
+        text.push_str(&word[end..]);
     }
-    words
+    text
+}
+
+/// The premise of a function's lemma.
+fn premise(contract: &str) -> String {
+    renamed(contract, &IN_A_RUN, &[("t", "(s .table)")])
+}
+
+/// What an entry's line says that it leaves: the right side of its contract.
+fn line(contract: &str) -> String {
+    let (_, leaves) = contract.split_once(" ≡ ").expect("an equation");
+    format!(" = {} ", renamed(leaves, &AT_AN_ENTRY, &[("mtu", "ourMtu"), ("mps", "ourMps"), ("spsm", "number")]))
 }
 
 #[test]
@@ -63,8 +111,8 @@ fn each_contract_is_the_premise_of_its_lemma() {
     let mut held = 0;
     for name in CRATES {
         let source = read(&format!("{name}/src/lib.rt"));
-        for (function, contract) in contracts(&source) {
-            let premise = of_a_run(contract);
+        for (function, contract) in contracts(&source, " pub fn ") {
+            let premise = premise(contract);
             assert!(lemmas.contains(&premise), "{name}::{function}: no lemma has the premise\n{premise}");
             held += 1;
         }
@@ -73,9 +121,24 @@ fn each_contract_is_the_premise_of_its_lemma() {
 }
 
 #[test]
-fn another_contract_is_no_premise() {
-    let lemmas = read("rules_code/specs/Functions.antt");
-    let source = read("holding/src/lib.rt");
-    let wrong = of_a_run(&contracts(&source)[0].1.replace("incRef", "decRef"));
-    assert!(!lemmas.contains(&wrong));
+fn each_entry_leaves_what_its_line_says() {
+    let lines = read("edge_runs/specs/Entries.antt");
+    let source = read("entries/src/lib.rt");
+    let mut entries = contracts(&source, " pub extern \"C\" fn ");
+    // the first starts a run, the second is a function of the PDU alone
+    entries.retain(|(name, _)| !["l2cap_make", "l2cap_signal_rest"].contains(name));
+    for (name, contract) in &entries {
+        assert!(lines.contains(&line(contract)), "{name}: no line has\n{}", line(contract));
+    }
+    assert_eq!(entries.len(), 27, "entries that are calls of a run");
+}
+
+#[test]
+fn another_contract_is_none_of_them() {
+    let holding = read("holding/src/lib.rt");
+    let wrong = premise(&contracts(&holding, " pub fn ")[0].1.replace("incRef", "decRef"));
+    assert!(!read("rules_code/specs/Functions.antt").contains(&wrong));
+    let entries = read("entries/src/lib.rt");
+    let (_, opened) = contracts(&entries, " pub extern \"C\" fn ").into_iter().find(|(name, _)| *name == "l2cap_opened").expect("an entry");
+    assert!(!read("edge_runs/specs/Entries.antt").contains(&line(&opened.replace("slot link", "link slot"))));
 }

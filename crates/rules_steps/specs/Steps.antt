@@ -1,5 +1,5 @@
 -- Which steps a slot can make, as one table: by call and answer the slot before and the slot after, with its holds, its identifiers, its link and the peer's credits.
--- Document 01, 'Slots', 'Signals' and 'Cutting, joining, credits'. Proved in Stepping.antt; what it comes to call by call is in Corollaries.antt.
+-- Document 01, 'Slots', 'Signals' and 'Cutting, joining, credits'. Proved in Stepping.antt; what it comes to call by call is in Consequences.antt.
 use mathlib.Core.Path.{_≡_}
 use mathlib.Core.Bool.{Bool, true, false, _&&_, _||_, not}
 use mathlib.Core.List.{List}

@@ -54,7 +54,7 @@ window from size = record { from = from; size = size }
 abbrev ask : Entry → Asked
 ask e = record { entry = e; answer = replicate 16 7 }
 
-abbrev channel : (id a b c x y e : ℕ) → List Asked
+abbrev pub channel : (id a b c x y e : ℕ) → List Asked
 channel id a b c x y e =
     ask (registerSpsm 0x80)
     ∷ ask (signal (window 0 18) 1 1 1 (0x14 ∷ id ∷ 10 ∷ 0 ∷ 0x80 ∷ 0 ∷ 0x50 ∷ 0 ∷ 64 ∷ 0 ∷ 23 ∷ 0 ∷ 5 ∷ 0 ∷ []))
@@ -75,26 +75,31 @@ are-calls : (id a b c x y e : ℕ) → map callIn (channel id a b c x y e) ≡ c
 unfolding settingOf policyBy choose
 are-calls id a b c x y e = refl
 
-apart : (id a b c x y e : ℕ) → BuffersApart (channel id a b c x y e)
+pub apart : (id a b c x y e : ℕ) → BuffersApart (channel id a b c x y e)
 apart id a b c x y e =
     (inr (omega arith), (inr (omega arith), (inr (omega arith), (inr (omega arith), (inr (omega arith), (inr (omega arith), (inl (omega arith), (inr (omega arith), (inr (omega arith), (inr (omega arith), (inr (omega arith), (inr (omega arith), (inr (omega arith), tt)))))))))))))
 
 -- Two makings over rooms and octets of any contents: both return 0.
-made-well : (z : ℕ) → makeEdge (replicate 672 z) [] (replicate 92 z) 2 1 29 .number ≡ 0
+pub made-well : (z : ℕ) → makeEdge (replicate 672 z) [] (replicate 92 z) 2 1 29 .number ≡ 0
 unfolding madeOn lifted make choose tells
 made-well z = refl
 
--- Whatever the two jobs that came and the one that was sent: the theorem speaks of these two runs, in life 0 of link 1.
-pub worked : (id a b c x y e a′ b′ c′ x′ y′ e′ : ℕ)
-    → Undistinguished 1 0 (started (replicate 672 5) [] (replicate 92 5) 2 1 29 (replicate 30 9)) (started (replicate 672 6) [] (replicate 92 6) 2 1 29 (replicate 30 9))
-    (channel id a b c x y e) (channel id a′ b′ c′ x′ y′ e′)
-worked id a b c x y e a′ b′ c′ x′ y′ e′ =
+abbrev pub begun : ℕ → EdgeState
+begun z = started (replicate 672 z) [] (replicate 92 z) 2 1 29 (replicate 30 9)
+
+-- Whatever the two jobs that came and the one that was sent, the runs are alike in life 0 of link 1: the theorem speaks of them.
+pub both-alike : (id a b c x y e a′ b′ c′ x′ y′ e′ : ℕ) → AlikeEntries 1 0 0 (begun 5) (channel id a b c x y e) (channel id a′ b′ c′ x′ y′ e′)
+both-alike id a b c x y e a′ b′ c′ x′ y′ e′ =
     let es = channel id a b c x y e in
     let fs = channel id a′ b′ c′ x′ y′ e′ in
     let s : State = made 2 1 29 (replicate 92 5) (replicate 30 9) in
     let p = starting (replicate 672 5) [] (replicate 92 5) 2 1 29 (replicate 30 9) (made-well 5) in
     let runs : AlikeRuns 1 0 0 s (map callIn es) (map callIn fs) =
     subst₂ (λ (cs ds : List Call). AlikeRuns 1 0 0 s cs ds) (sym (are-calls id a b c x y e)) (sym (are-calls id a′ b′ c′ x′ y′ e′)) (alike id a b c x y e a′ b′ c′ x′ y′ e′) in
-    isolation-at-entries 1 0 2 1 29 (replicate 672 5) (replicate 672 6) [] [] (replicate 92 5) (replicate 92 6) (replicate 30 9) es fs (made-well 5) (made-well 6) (apart id a b c x y e)
-    (subst (λ (x : EdgeState). AlikeEntries 1 0 0 x es fs) (sym (p .is))
-    (entries-alike 1 0 0 s (p .sized) es fs (apart id a b c x y e) (refl, (refl, (refl, (refl, (refl, (refl, (refl, (refl, (refl, (refl, (refl, (refl, (refl, tt))))))))))))) runs))
+    subst (λ (x : EdgeState). AlikeEntries 1 0 0 x es fs) (sym (p .is))
+    (entries-alike 1 0 0 s (p .sized) es fs (apart id a b c x y e) (refl, (refl, (refl, (refl, (refl, (refl, (refl, (refl, (refl, (refl, (refl, (refl, (refl, tt))))))))))))) runs)
+
+pub worked : (id a b c x y e a′ b′ c′ x′ y′ e′ : ℕ) → Undistinguished 1 0 (begun 5) (begun 6) (channel id a b c x y e) (channel id a′ b′ c′ x′ y′ e′)
+worked id a b c x y e a′ b′ c′ x′ y′ e′ =
+    isolation-at-entries 1 0 2 1 29 (replicate 672 5) (replicate 672 6) [] [] (replicate 92 5) (replicate 92 6) (replicate 30 9) (channel id a b c x y e) (channel id a′ b′ c′ x′ y′ e′)
+    (made-well 5) (made-well 6) (apart id a b c x y e) (both-alike id a b c x y e a′ b′ c′ x′ y′ e′)

@@ -157,7 +157,7 @@ map-take zero es = refl
 map-take (suc i) [] = refl
 map-take (suc i) (a ∷ es) = ap (λ (cs : List Call). callIn a ∷ cs) (map-take i es)
 
-apart-take : (i : ℕ) (es : List Asked) → BuffersApart es → BuffersApart (take i es)
+pub apart-take : (i : ℕ) (es : List Asked) → BuffersApart es → BuffersApart (take i es)
 apart-take zero es h = tt
 apart-take (suc i) [] h = tt
 apart-take (suc i) (a ∷ es) h = (h .0, apart-take i es (h .1))

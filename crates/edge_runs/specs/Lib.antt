@@ -7,3 +7,4 @@ pub mod Statement
 pub mod Isolation
 pub mod Rules
 pub mod Example
+pub mod Reading

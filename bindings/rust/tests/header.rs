@@ -40,10 +40,10 @@ fn header() -> Entries {
     entries
 }
 
-/// The rows of `entries!`: slices that are lent, numbers, slices that are read. Behind table and answer come the first.
+/// The rows of the entries: slices that are lent, numbers, slices that are read. Behind table and answer come the first.
 fn wrapper() -> Entries {
-    let text = read("src/entries.rs");
-    let rows = text.split("entries! {").nth(1).and_then(|rest| rest.split("\n}").next()).expect("the rows");
+    let text = read("src/rows.rs");
+    let rows = text.split("$of! {").nth(1).and_then(|rest| rest.split("\n        }").next()).expect("the rows");
     let slice = |kind: &str| [kind.to_owned(), "usize".into()];
     let mut entries = Entries::new();
     for row in rows.lines().filter_map(|row| row.trim().strip_prefix("fn ")) {

@@ -14,12 +14,13 @@ use Rattle.codes.specs.declared.Refusal.{Refusal}
 use Rattle.cutting.specs.declared.Plan.{Plan}
 use Rattle.cutting.specs.declared.Plan.the-variants as Plan
 use Rattle.cutting.specs.Cutting.{payloads, framesOf}
-use Rattle.channel.specs.Limits.{handleMost, signalMost}
+use Rattle.credit.specs.Account.{creditSum}
+use Rattle.channel.specs.Limits.{handleMost, signalMost, identifierMost, creditsMost}
 use Rattle.channel.specs.declared.Answer.the-variants.{Frames}
 use Rattle.channel.specs.declared.Slot.{Slot}
 use Rattle.channel.specs.declared.Table.{Table}
 use Rattle.definition.specs.Mem.{fills}
-use Rattle.definition.specs.Table.{placeOf, width, fresh, slotAt, isDisconnected, cidOf}
+use Rattle.definition.specs.Table.{placeOf, width, fresh, slotAt, isDisconnected, cidOf, nextId, wellFormed}
 use Rattle.definition.specs.Outcome.{Outcome, refuse}
 use Rattle.definition.specs.Calls.{Window, sends, jobs, bare, decide}
 use Rattle.definition.specs.Ending.{itself}
@@ -31,7 +32,8 @@ use Rattle.rules.specs.Run.{Reached}
 use Rattle.rules.specs.Run as Run
 use Rattle.rules.specs.Forms.{gate-cases}
 use Rattle.rules.specs.Places.{jobIn}
-use Rattle.rules.specs.RoomRule.{Empty, room-rule, new-connection, connection-begins}
+use Rattle.rules.specs.RoomRule.{Empty, room-rule, unbegun-empty, free-fresh, new-connection, connection-begins}
+use Rattle.rules.specs.Rules.{well-formed, identifiers, credit-sum}
 use Rattle.rules.specs.Tests.{begun}
 use Rattle.rules_jobs.specs.Rejoin.{jobAt, Receiver, Rejoined, Unchanged, Arrives}
 use Rattle.rules_jobs.specs.Rejoin as Rejoin
@@ -88,11 +90,31 @@ pub entered-state : {s : EdgeState} → ReachedAt s → (a : Asked) → Apart (o
 unfolding spells
 entered-state r a apart = let p = spells r in said (spells (next a r apart)) ∙ ap (λ (x : State). after x (callIn a)) (sym (said p))
 
+-- ---- the table that the octets spell is never one that 1 refuses; identifiers are 1 to 255; credits held plus received never pass 65,535
+
+pub well-formed-at : {s : EdgeState} → ReachedAt s → wellFormed (stateOf s .table) ≡ true
+well-formed-at r = well-formed (reached r)
+
+pub identifiers-at : {s : EdgeState} → ReachedAt s → (1 ≤ nextId (stateOf s .table)) × (nextId (stateOf s .table) ≤ identifierMost)
+identifiers-at r = identifiers (reached r)
+
+pub credit-sum-at : {s : EdgeState} → ReachedAt s → (i : ℕ) → i < stateOf s .table .n → creditSum (slotAt (stateOf s .table) i .account) ≤ creditsMost
+credit-sum-at r = credit-sum (reached r)
+
 -- ---- "Every octet of room that holds no octet of a live job is zero": octet j of place k of slot i
 
 pub room-rule-at : {s : EdgeState} → ReachedAt s → (i k j : ℕ) → i < stateOf s .table .n → k ≤ stateOf s .table .d → j < placeOf (stateOf s .table)
     → jobIn (slotAt (stateOf s .table) i .assembly) (slotAt (stateOf s .table) i .queue) k ≤ j → getD (s .room) (i * width (stateOf s .table) + (k * placeOf (stateOf s .table) + j)) 0 ≡ 0
 room-rule-at r = room-rule (reached r)
+
+-- ---- a slot whose connection has not begun holds no job, and its whole part of the room is zero; a Disconnected slot is as it was made, but for its holds
+
+pub unbegun-empty-at : {s : EdgeState} → ReachedAt s → (i : ℕ) → i < stateOf s .table .n → begun (slotAt (stateOf s .table) i .state) ≡ false → Empty (stateOf s) i
+unbegun-empty-at r = unbegun-empty (reached r)
+
+pub free-fresh-at : {s : EdgeState} → ReachedAt s → (i : ℕ) → i < stateOf s .table .n → isDisconnected (slotAt (stateOf s .table) i .state) ≡ true
+    → slotAt (stateOf s .table) i ≡ fresh (slotAt (stateOf s .table) i .hold)
+free-fresh-at r = free-fresh (reached r)
 
 -- ---- a slot that is given to a new connection was as it was made, and starts empty
 

@@ -18,15 +18,6 @@ slice-aggregate-text c = search needs
 text-requires : tie.Need-text-requires Inv-loop μ-loop
 text-requires c κs = search needs
 
-returns : tie.Need-returns Inv-loop μ-loop
-returns c = tt
-
-slice-aggregate-text-2 : tie.Need-slice-aggregate-text-2 Inv-loop μ-loop
-slice-aggregate-text-2 c = search needs
-
-text-requires-2 : tie.Need-text-requires-2 Inv-loop μ-loop
-text-requires-2 c κs = search needs
-
 loop-holds : tie.Need-loop-holds Inv-loop μ-loop
 loop-holds c = omega arith
 
@@ -48,8 +39,8 @@ loop-less c = omega arith
 loop-again : tie.Need-loop-again Inv-loop μ-loop
 loop-again c = omega arith
 
-returns-2 : tie.Need-returns-2 Inv-loop μ-loop
-returns-2 c = tt
+returns : tie.Need-returns Inv-loop μ-loop
+returns c = tt
 
 pub show-spec : {M : Type 1} → statement M
 show-spec =
@@ -59,9 +50,6 @@ show-spec =
     μ-loop
     slice-aggregate-text
     text-requires
-    returns
-    slice-aggregate-text-2
-    text-requires-2
     loop-holds
     octet-requires
     cast-print-hex
@@ -69,4 +57,4 @@ show-spec =
     add-i
     loop-less
     loop-again
-    returns-2)
+    returns)

@@ -5,32 +5,32 @@
 use std::fs::read_to_string;
 use std::path::Path;
 
-/// The crates whose public functions are calls of a run. (`making` stands at a run's start: `Makes` in CodeRun.antt.)
-const CRATES: [&str; 24] = [
-    "registering",
-    "asking",
-    "querying",
-    "telling",
-    "senders",
-    "calling",
-    "pending",
-    "dropping",
-    "clearing",
-    "accepting",
-    "refusing",
-    "rejecting",
-    "creating",
-    "opening",
-    "giving_up",
-    "holding",
-    "releasing",
-    "closing",
-    "link_down",
-    "announcing",
-    "signals",
-    "dispatching",
-    "sending",
-    "receiving",
+/// The files whose public functions are calls of a run. (`call_make` stands at a run's start: `Makes` in CodeRun.antt.)
+const SOURCES: [&str; 24] = [
+    "call_register_spsm/src/lib.rt",
+    "call_queries/src/lib.rt",
+    "call_queries/src/query.rt",
+    "call_send_parameters/src/telling.rt",
+    "call_send_parameters/src/lib.rt",
+    "call_attention/src/lib.rt",
+    "call_next_pending/src/lib.rt",
+    "call_drop/src/lib.rt",
+    "call_reject_all/src/lib.rt",
+    "call_accept/src/lib.rt",
+    "call_reject/src/coded.rt",
+    "call_reject/src/lib.rt",
+    "call_create/src/lib.rt",
+    "call_opened/src/lib.rt",
+    "call_give_up/src/lib.rt",
+    "call_hold/src/lib.rt",
+    "call_hold/src/release.rt",
+    "call_disconnect/src/lib.rt",
+    "call_link_down/src/lib.rt",
+    "call_next_disconnect/src/lib.rt",
+    "call_signal/src/lib.rt",
+    "call_dispatch/src/lib.rt",
+    "call_send/src/lib.rt",
+    "call_receive/src/lib.rt",
 ];
 
 /// What a contract calls something, and what the lemma calls it in a state s of a run, with the windows w and v.
@@ -109,8 +109,8 @@ fn line(contract: &str) -> String {
 fn each_contract_is_the_premise_of_its_lemma() {
     let lemmas = read("rules_code/specs/Functions.antt");
     let mut held = 0;
-    for name in CRATES {
-        let source = read(&format!("{name}/src/lib.rt"));
+    for name in SOURCES {
+        let source = read(name);
         for (function, contract) in contracts(&source, " pub fn ") {
             let premise = premise(contract);
             assert!(lemmas.contains(&premise), "{name}::{function}: no lemma has the premise\n{premise}");
@@ -135,7 +135,7 @@ fn each_entry_leaves_what_its_line_says() {
 
 #[test]
 fn another_contract_is_none_of_them() {
-    let holding = read("holding/src/lib.rt");
+    let holding = read("call_hold/src/lib.rt");
     let wrong = premise(&contracts(&holding, " pub fn ")[0].1.replace("incRef", "decRef"));
     assert!(!read("rules_code/specs/Functions.antt").contains(&wrong));
     let entries = read("entries/src/lib.rt");

@@ -1,4 +1,4 @@
-//! Links the archive of the port's crate `speed`, which stands in the folder PORT_ARCHIVE.
+//! Links the archive of the port's crate `sar_speed`, which stands in the folder PORT_ARCHIVE.
 
 use std::env;
 

@@ -4,7 +4,7 @@ use codes::LeCreditConnResultCode;
 use codes::Refusal;
 use credit::CreditFlowControl;
 use credit::CreditFlowPolicy;
-use sar::Assembly;
+use sar_join::Assembly;
 
 // The most slots that a table has.
 pub const SLOTS: usize = 16;

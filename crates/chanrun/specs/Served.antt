@@ -4,16 +4,16 @@ use mathlib.Core.List.{List, _++_}
 use Prim.Native.Nat.{ℕ, min}
 use lib.ListN.{length, take, drop}
 use Rattle.channel.specs.declared.Table.{Table}
-use Rattle.words.specs.Words.{textOf}
-use Rattle.lines.specs.declared.Found.{Found}
-use Rattle.lines.specs.declared.Found.the-variants as Found
+use Rattle.text_words.specs.Words.{textOf}
+use Rattle.text_lines.specs.declared.Found.{Found}
+use Rattle.text_lines.specs.declared.Found.the-variants as Found
 use Rattle.script.specs.Script.{commandOf}
-use Rattle.commands.specs.declared.Command.{Command}
-use Rattle.commands.specs.declared.Command.the-variants as Command
-use Rattle.plays.specs.Plays.{sizeOf, spelledOf}
-use Rattle.signalled.specs.Signalled.{After, after, left, signalsOf}
-use Rattle.played_table.specs.PlayedTable.{madeOf}
-use Rattle.playing.specs.Playing.{playOf}
+use Rattle.script_commands.specs.declared.Command.{Command}
+use Rattle.script_commands.specs.declared.Command.the-variants as Command
+use Rattle.run_play.specs.Plays.{sizeOf, spelledOf}
+use Rattle.run_signals.specs.Signalled.{After, after, left, signalsOf}
+use Rattle.run_table.specs.PlayedTable.{madeOf}
+use Rattle.run.specs.Playing.{playOf}
 
 -- ---- a line, by its command
 

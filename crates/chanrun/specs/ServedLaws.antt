@@ -7,14 +7,14 @@ use lib.ListN.{length, take, drop}
 use types.Run.{OneOf, miss}
 use denote.Enum.Declared.{tagOf}
 use Rattle.channel.specs.declared.Table.{Table}
-use Rattle.commands.proofs.Command.{the-type}
-use Rattle.commands.specs.declared.Command.{Command}
-use Rattle.commands.specs.declared.Command.the-variants as Command
-use Rattle.words.specs.declared.Word.{Word}
-use Rattle.plays.specs.Plays.{spelledOf}
-use Rattle.signalled.specs.Signalled.{left, signalsOf, Leaves}
-use Rattle.played_table.specs.PlayedTable.{madeOf}
-use Rattle.playing.specs.Playing.{playOf}
+use Rattle.script_commands.proofs.Command.{the-type}
+use Rattle.script_commands.specs.declared.Command.{Command}
+use Rattle.script_commands.specs.declared.Command.the-variants as Command
+use Rattle.text_words.specs.declared.Word.{Word}
+use Rattle.run_play.specs.Plays.{spelledOf}
+use Rattle.run_signals.specs.Signalled.{left, signalsOf, Leaves}
+use Rattle.run_table.specs.PlayedTable.{madeOf}
+use Rattle.run.specs.Playing.{playOf}
 use Rattle.chanrun.specs.Served.{held, lineOf, played}
 
 -- ---- a line, by its command

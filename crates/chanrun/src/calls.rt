@@ -2,22 +2,22 @@
 ghost use mathlib.Core.Path.{_≡_};
 ghost use lib.Seq.{sets};
 ghost use Rattle.definition.specs.Asking.{noSlots};
-ghost use Rattle.printed.specs.Printed.{badText};
+ghost use Rattle.row_call.specs.Printed.{badText};
 ghost use Rattle.script.specs.Script.{commandOf};
-ghost use Rattle.played_table.specs.PlayedTable.{madeOf};
-ghost use Rattle.playing.specs.Playing.{playOf};
-ghost use Rattle.signalled.specs.Signalled.{Leaves, left};
+ghost use Rattle.run_table.specs.PlayedTable.{madeOf};
+ghost use Rattle.run.specs.Playing.{playOf};
+ghost use Rattle.run_signals.specs.Signalled.{Leaves, left};
 ghost use Rattle.chanrun.specs.Served.{lineOf, foundOf};
 use channel::Table;
-use commands::Command;
-use lines::Found;
 use octets::least;
-use output::printed_row;
-use plays::Played;
-use plays::size_of;
-use plays::spelled;
-use printed::first;
-use signalled::every_signal;
+use row_call::first;
+use run_play::Played;
+use run_play::size_of;
+use run_play::spelled;
+use run_signals::every_signal;
+use run_signals::printed_row;
+use script_commands::Command;
+use text_lines::Found;
 
 // ---- making
 
@@ -25,14 +25,14 @@ use signalled::every_signal;
 pub fn no_table() -> Table
     ensures { λ r. ⌜ r ≡ noSlots ⌝ }
 {
-    making::blank(0, 0, 0)
+    call_make::blank(0, 0, 0)
 }
 
 // `T`
 fn make(n: u16, d: u16, m: u16, room: &mut [u8], row: &mut [u8]) -> Table
     ensures { λ r. ⌜ Leaves (left (madeOf n d m (now (room .entry)))) r (now (room .exit)) ⌝ }
 {
-    let p = played_table::made(n, d, m, room, row);
+    let p = run_table::made(n, d, m, room, row);
     printed_row(p, row)
 }
 
@@ -42,7 +42,7 @@ fn make(n: u16, d: u16, m: u16, room: &mut [u8], row: &mut [u8]) -> Table
 fn bad(t: Table, row: &mut [u8]) -> Table
     ensures { λ r. ⌜ (r ≡ t) × (now (row .exit) ≡ sets (now (row .entry)) 0 badText) ⌝ }
 {
-    let n = printed::bad(row);
+    let n = row_call::bad(row);
     let p = Played {
         table: t,
         octets: n,
@@ -62,7 +62,7 @@ fn one_row(
 ) -> Table
     ensures { λ r. ⌜ Leaves (left (playOf t (now (room .entry)) (now (line .entry)) (now (octets .entry)) (now (frames .entry)) c)) r (now (room .exit)) ⌝ }
 {
-    let p = playing::play(t, c, line, room, octets, frames, row);
+    let p = run::play(t, c, line, room, octets, frames, row);
     printed_row(p, row)
 }
 
@@ -117,7 +117,7 @@ pub fn serve_found(
     ensures { λ r. ⌜ Leaves (foundOf t (now (input .entry)) (now (room .entry)) (now (octets .entry)) (now (frames .entry)) found) r (now (room .exit)) ⌝ }
 {
     match found {
-        Found::Line(w) => serve(t, words::text(input, w), room, octets, frames, row),
+        Found::Line(w) => serve(t, text_words::text(input, w), room, octets, frames, row),
         Found::Passed => t,
         Found::Long => bad(t, row),
         Found::More => t,

@@ -2,9 +2,9 @@
 // read, and rows written, by proved functions on slices; what is here moves octets between those, the calls and the two descriptors.
 mod calls;
 
-use lines::Found;
-use lines::Held;
 use octets::least;
+use text_lines::Found;
+use text_lines::Held;
 
 // The octets of a line's buffer: 131,100 characters and a newline.
 const LINE: usize = 131101;
@@ -37,21 +37,21 @@ struct Fetched {
 
 // The next of what is held, or more is read. Where the input has ended, a last line without its newline.
 fn fetch(input: &mut [u8], h: Held) -> Fetched {
-    let next = lines::next_line(input, h);
+    let next = text_lines::next_line(input, h);
     let held = next.held;
     let found = next.found;
     if let Found::More = found {
-        let ready = lines::ready(input, held);
+        let ready = text_lines::ready(input, held);
         let n = read_more(input, ready.end);
         if n == 0 {
-            let last = lines::last_line(ready);
+            let last = text_lines::last_line(ready);
             return Fetched {
                 found: last,
                 held: ready,
                 again: false,
             };
         }
-        let grown = lines::grown(input.len(), ready, n);
+        let grown = text_lines::grown(input.len(), ready, n);
         return Fetched {
             found: Found::Passed,
             held: grown,
@@ -68,7 +68,7 @@ fn fetch(input: &mut [u8], h: Held) -> Fetched {
 // The whole input. A loop has to end, and nothing says that the input does: the turns are counted down from a number that no run uses up.
 fn run(input: &mut [u8], room: &mut [u8], octets: &mut [u8], frames: &mut [u8], row: &mut [u8]) {
     let mut t = calls::no_table();
-    let mut held = lines::none();
+    let mut held = text_lines::none();
     let mut turns = u64::MAX;
     while 0 < turns {
         let next = fetch(input, held);

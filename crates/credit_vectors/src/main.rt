@@ -42,12 +42,12 @@ fn row(policy: CreditFlowPolicy, credits: u16, received: u16, n: u16) {
     text(b"received: ");
     let r = a.confirm_received(n);
     account(r);
-    let s = account::received_through(a, n);
+    let s = credit_in_place::received_through(a, n);
     account(s);
     text(b"granted: ");
     let t = a.confirm_granted(n);
     account(t);
-    let u = account::granted_through(a, n);
+    let u = credit_in_place::granted_through(a, n);
     account(u);
     text(b"\n");
 }

@@ -7,27 +7,27 @@ use Prim.Native.Nat.{ℕ}
 use lib.Dec.{eqb, leb}
 use borrow.Author.Tests.{eqb-true, not-false}
 use Rattle.lists.specs.Both.{and-left, and-right}
-use Rattle.sar.specs.declared.Joined.{Joined}
-use Rattle.sar.specs.declared.Joined.the-variants as Joined
-use Rattle.headers.specs.declared.Checked.{Checked}
-use Rattle.headers.specs.declared.Checked.the-variants.{Good, Cut, Past}
-use Rattle.bodies.specs.declared.CommandRejectResRead.{CommandRejectResRead}
-use Rattle.bodies.specs.declared.CommandRejectResRead.the-variants as CommandRejectRes
-use Rattle.bodies.specs.declared.DisconnectionReqRead.{DisconnectionReqRead}
-use Rattle.bodies.specs.declared.DisconnectionReqRead.the-variants as DisconnectionReq
-use Rattle.bodies.specs.declared.DisconnectionResRead.{DisconnectionResRead}
-use Rattle.bodies.specs.declared.DisconnectionResRead.the-variants as DisconnectionRes
-use Rattle.bodies.specs.declared.ConnParamUpdateReqRead.{ConnParamUpdateReqRead}
-use Rattle.bodies.specs.declared.ConnParamUpdateReqRead.the-variants as ConnParamUpdateReq
-use Rattle.bodies.specs.declared.ConnParamUpdateResRead.{ConnParamUpdateResRead}
-use Rattle.bodies.specs.declared.ConnParamUpdateResRead.the-variants as ConnParamUpdateRes
-use Rattle.le_credit_bodies.specs.declared.LeCreditConnReqRead.{LeCreditConnReqRead}
-use Rattle.le_credit_bodies.specs.declared.LeCreditConnReqRead.the-variants as LeCreditConnReq
-use Rattle.le_credit_bodies.specs.declared.LeCreditConnResRead.{LeCreditConnResRead}
-use Rattle.le_credit_bodies.specs.declared.LeCreditConnResRead.the-variants as LeCreditConnRes
-use Rattle.le_credit_bodies.specs.declared.LeCreditFlowIndRead.{LeCreditFlowIndRead}
-use Rattle.le_credit_bodies.specs.declared.LeCreditFlowIndRead.the-variants as LeCreditFlowInd
-use Rattle.signal.specs.declared.forms.Signal.{Signal}
+use Rattle.sar_join.specs.declared.Joined.{Joined}
+use Rattle.sar_join.specs.declared.Joined.the-variants as Joined
+use Rattle.signal_headers.specs.declared.Checked.{Checked}
+use Rattle.signal_headers.specs.declared.Checked.the-variants.{Good, Cut, Past}
+use Rattle.signal_bodies.specs.declared.CommandRejectResRead.{CommandRejectResRead}
+use Rattle.signal_bodies.specs.declared.CommandRejectResRead.the-variants as CommandRejectRes
+use Rattle.signal_bodies.specs.declared.DisconnectionReqRead.{DisconnectionReqRead}
+use Rattle.signal_bodies.specs.declared.DisconnectionReqRead.the-variants as DisconnectionReq
+use Rattle.signal_bodies.specs.declared.DisconnectionResRead.{DisconnectionResRead}
+use Rattle.signal_bodies.specs.declared.DisconnectionResRead.the-variants as DisconnectionRes
+use Rattle.signal_bodies.specs.declared.ConnParamUpdateReqRead.{ConnParamUpdateReqRead}
+use Rattle.signal_bodies.specs.declared.ConnParamUpdateReqRead.the-variants as ConnParamUpdateReq
+use Rattle.signal_bodies.specs.declared.ConnParamUpdateResRead.{ConnParamUpdateResRead}
+use Rattle.signal_bodies.specs.declared.ConnParamUpdateResRead.the-variants as ConnParamUpdateRes
+use Rattle.signal_bodies.specs.declared.le_credit.LeCreditConnReqRead.{LeCreditConnReqRead}
+use Rattle.signal_bodies.specs.declared.le_credit.LeCreditConnReqRead.the-variants as LeCreditConnReq
+use Rattle.signal_bodies.specs.declared.le_credit.LeCreditConnResRead.{LeCreditConnResRead}
+use Rattle.signal_bodies.specs.declared.le_credit.LeCreditConnResRead.the-variants as LeCreditConnRes
+use Rattle.signal_bodies.specs.declared.le_credit.LeCreditFlowIndRead.{LeCreditFlowIndRead}
+use Rattle.signal_bodies.specs.declared.le_credit.LeCreditFlowIndRead.the-variants as LeCreditFlowInd
+use Rattle.signal_forms.specs.declared.Signal.{Signal}
 use Rattle.channel.specs.declared.ChannelState.{ChannelState}
 use Rattle.channel.specs.declared.ChannelState.the-variants.{Disconnected}
 use Rattle.channel.specs.declared.Given.the-variants.{Nothing, Is}

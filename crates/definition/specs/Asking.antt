@@ -8,9 +8,9 @@ use lib.ListN.{length, replicate}
 use Rattle.lists.specs.First.{first}
 use Rattle.lists.specs.Bits.{bitset, count}
 use Rattle.codes.specs.declared.Refusal.the-variants.{BadTable, BadRoom, BadSpsm}
-use Rattle.writer.specs.Writer.{encodeOf}
-use Rattle.signal.specs.declared.forms.Signal.{Signal}
-use Rattle.signal.specs.declared.forms.Signal.the-variants.{ConnParamUpdateReq, ConnParamUpdateRes}
+use Rattle.signal_write.specs.Writer.{encodeOf}
+use Rattle.signal_forms.specs.declared.Signal.{Signal}
+use Rattle.signal_forms.specs.declared.Signal.the-variants.{ConnParamUpdateReq, ConnParamUpdateRes}
 use Rattle.channel.specs.Limits.{slotsMost, spsmMost}
 use Rattle.channel.specs.declared.Answer.{Answer}
 use Rattle.channel.specs.declared.Answer.the-variants.{Done, Refused, Attention, Number}

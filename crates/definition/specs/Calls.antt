@@ -7,8 +7,8 @@ use lib.Dec.{eqb}
 use lib.ListN.{length, take, drop}
 use Rattle.lists.specs.Choose.{choose}
 use Rattle.codes.specs.declared.ResultRead.{ResultRead}
-use Rattle.signal.specs.declared.forms.Signal.{Signal}
-use Rattle.sar.specs.Joining.{isIdle}
+use Rattle.signal_forms.specs.declared.Signal.{Signal}
+use Rattle.sar_join.specs.Joining.{isIdle}
 use Rattle.channel.specs.declared.ChannelState.{ChannelState}
 use Rattle.channel.specs.declared.ChannelState.the-variants.{Disconnected, Connecting, PeerConnecting, Connected, ConnectFailed, PeerDisconnecting, Disconnecting}
 use Rattle.channel.specs.declared.L2capChannelConfig.{L2capChannelConfig}

@@ -5,8 +5,8 @@ use mathlib.Core.Bool.{true, false}
 use Prim.Native.Nat.{ℕ, _+_, _-_}
 use lib.Dec.{eqb, leb}
 use Rattle.codes.specs.declared.Refusal.the-variants.{Held}
-use Rattle.writer.specs.Writer.{encodeOf}
-use Rattle.signal.specs.declared.forms.Signal.the-variants.{DisconnectionReq, DisconnectionRes}
+use Rattle.signal_write.specs.Writer.{encodeOf}
+use Rattle.signal_forms.specs.declared.Signal.the-variants.{DisconnectionReq, DisconnectionRes}
 use Rattle.channel.specs.Limits.{holdsMost}
 use Rattle.channel.specs.declared.Answer.the-variants.{Done, Due}
 use Rattle.channel.specs.declared.ChannelState.the-variants.{Disconnecting}

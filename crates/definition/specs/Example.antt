@@ -1,6 +1,6 @@
 -- Runs worked out, with job octets and identifiers that may be any: what the calls really do, and that demand 3 isn't empty. One channel
 -- from request to link-down; the client's accident, which leaves nothing behind; two phones' signals.
-use Rattle.writer.specs.Writer.{encodeOf}
+use Rattle.signal_write.specs.Writer.{encodeOf}
 use mathlib.Core.Path.{_≡_, refl}
 use mathlib.Core.Bool.{true, false}
 use mathlib.Core.List.{List, [], _∷_, _++_, map}
@@ -12,14 +12,14 @@ use Rattle.lists.specs.Every.{every}
 use Rattle.lists.specs.Fuel.{whole}
 use Rattle.credit.specs.declared.CreditFlowPolicy.the-variants.{Every}
 use Rattle.credit.specs.Account.{due, grantOf}
-use Rattle.cutting.specs.Cutting.{ceil, frameCount, framesLength, planSend}
-use Rattle.sar.specs.Joining.{reached, firstStep, assembled, joinStep}
+use Rattle.sar_cut.specs.Cutting.{ceil, frameCount, framesLength, planSend}
+use Rattle.sar_join.specs.Joining.{reached, firstStep, assembled, joinStep}
 use Rattle.codes.specs.declared.Refusal.the-variants as Refusal
 use Rattle.codes.specs.Codes.{resultOf}
-use Rattle.headers.specs.Headers.{headersOf, restOf}
-use Rattle.bodies.specs.Bodies.{commandRejectRes, disconnectionReq, disconnectionRes, connParamUpdateReq, connParamUpdateRes}
-use Rattle.le_credit_bodies.specs.LeCreditBodies.{leCreditConnReq, leCreditConnRes, leCreditFlowInd}
-use Rattle.parameter_rule.specs.Parameters.{parametersValid}
+use Rattle.signal_headers.specs.Headers.{headersOf, restOf}
+use Rattle.signal_bodies.specs.Bodies.{commandRejectRes, disconnectionReq, disconnectionRes, connParamUpdateReq, connParamUpdateRes}
+use Rattle.signal_bodies.specs.LeCreditBodies.{leCreditConnReq, leCreditConnRes, leCreditFlowInd}
+use Rattle.signal_parameter_rule.specs.Parameters.{parametersValid}
 use Rattle.channel.specs.declared.Answer.{Answer}
 use Rattle.channel.specs.declared.Answer.the-variants.{Done, Refused, At, Link, Due, Frames, Job, Event}
 use Rattle.channel.specs.declared.ChannelState.{ChannelState}

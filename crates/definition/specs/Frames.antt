@@ -10,15 +10,15 @@ use Rattle.codes.specs.declared.Refusal.the-variants.{InvalidChannelId, NotFoun
 use Rattle.credit.specs.declared.Grant.{Grant}
 use Rattle.credit.specs.declared.Grant.the-variants as Grant
 use Rattle.credit.specs.Account.{received, granted, grantOf}
-use Rattle.sar.specs.declared.Assembly.{Assembly}
-use Rattle.sar.specs.declared.Joined.{Joined}
-use Rattle.sar.specs.declared.Joined.the-variants as Joined
-use Rattle.sar.specs.Joining.{isIdle, idle, assembled, joinStep}
-use Rattle.cutting.specs.declared.Plan.{Plan}
-use Rattle.cutting.specs.declared.Plan.the-variants as Plan
-use Rattle.cutting.specs.Cutting.{planSend}
-use Rattle.writer.specs.Writer.{encodeOf}
-use Rattle.signal.specs.declared.forms.Signal.the-variants.{LeCreditFlowInd}
+use Rattle.sar_join.specs.declared.Assembly.{Assembly}
+use Rattle.sar_join.specs.declared.Joined.{Joined}
+use Rattle.sar_join.specs.declared.Joined.the-variants as Joined
+use Rattle.sar_join.specs.Joining.{isIdle, idle, assembled, joinStep}
+use Rattle.sar_cut.specs.declared.Plan.{Plan}
+use Rattle.sar_cut.specs.declared.Plan.the-variants as Plan
+use Rattle.sar_cut.specs.Cutting.{planSend}
+use Rattle.signal_write.specs.Writer.{encodeOf}
+use Rattle.signal_forms.specs.declared.Signal.the-variants.{LeCreditFlowInd}
 use Rattle.channel.specs.declared.Answer.the-variants.{Done, Refused, Frames, Job}
 use Rattle.channel.specs.declared.ChannelState.{ChannelState}
 use Rattle.channel.specs.declared.ChannelState.the-variants.{Disconnecting}
@@ -46,7 +46,7 @@ finishing t x count =
     if isIdle (x .assembly) then put (queuePlace t x) (job 0 count) ∷ []
     else put (queuePlace t x) (held 0 (x .assembly .have)) ∷ put (queuePlace t x + x .assembly .have) (job 0 count) ∷ put 0 (zeros (placeOf t)) ∷ []
 
--- What the join step (crate sar) decided, for slot s as x, whose credit is used.
+-- What the join step (crate sar_join) decided, for slot s as x, whose credit is used.
 unfoldable pub joined : Table → (slot : ℕ) → Slot → (count : ℕ) → Joined → Outcome
 joined t s x count (Joined.Refused r) = leaving t s x (Disconnecting false) (Refused r)
 joined t s x count (Joined.Assembling a) = change t s (withAssembly a x) (put (assembled (x .assembly)) (job 0 count) ∷ []) Done []
@@ -87,7 +87,7 @@ unfoldable pub planned : Table → (slot : ℕ) → Slot → (l : ℕ) → Plan 
 planned t s x l (Plan.Refused r) = refuse t r
 planned t s x l (Plan.Frames n octets) = change t s (withPeerCredits (x .peer .credits - n) x) [] (Frames (x .link) n) (frames (x .peer .cid) (x .peer .mps) l n)
 
--- "Send order: 11, 12, 23, 20, 14, 3." Of these 12 to 3 are the plan's (crate cutting).
+-- "Send order: 11, 12, 23, 20, 14, 3." Of these 12 to 3 are the plan's (crate sar_cut).
 unfoldable pub send : Table → (slot l out : ℕ) → Outcome
 send t s l out =
     gate t Nothing Nothing Nothing (Is s)

@@ -9,7 +9,7 @@ use Rattle.codes.specs.Codes.{refusalNumber}
 use Rattle.codes.specs.declared.LeCreditConnResultCode.{LeCreditConnResultCode}
 use Rattle.credit.specs.declared.CreditFlowControl.{CreditFlowControl}
 use Rattle.credit.specs.declared.CreditFlowPolicy.the-variants.{Every, MinThreshold}
-use Rattle.sar.specs.declared.Assembly.{Assembly}
+use Rattle.sar_join.specs.declared.Assembly.{Assembly}
 use Rattle.channel.specs.declared.Answer.{Answer}
 use Rattle.channel.specs.declared.Answer.the-variants.{Done, Refused, At, Link, Opened, Due, Frames, Job, Attention, Number, Event}
 use Rattle.channel.specs.declared.ChannelState.{ChannelState}

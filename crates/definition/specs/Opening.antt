@@ -5,8 +5,8 @@ use Prim.Native.Nat.{ℕ, _-_}
 use lib.Dec.{eqb, leb, ltb}
 use Rattle.codes.specs.declared.Refusal.the-variants.{NotFound, InsufficientSpace, NoChannelAvailable, ConnectError, Disconnected, Held}
 use Rattle.credit.specs.Account.{newAccount}
-use Rattle.writer.specs.Writer.{encodeOf}
-use Rattle.signal.specs.declared.forms.Signal.the-variants.{LeCreditConnReq}
+use Rattle.signal_write.specs.Writer.{encodeOf}
+use Rattle.signal_forms.specs.declared.Signal.the-variants.{LeCreditConnReq}
 use Rattle.channel.specs.Limits.{frameHead, jobHead}
 use Rattle.channel.specs.declared.Answer.the-variants.{Done, Refused, At, Opened}
 use Rattle.channel.specs.declared.ChannelState.the-variants.{Connecting}

@@ -11,9 +11,9 @@ use Rattle.codes.specs.declared.ResultRead.{ResultRead}
 use Rattle.codes.specs.declared.ResultRead.the-variants.{Known, Unknown}
 use Rattle.credit.specs.declared.CreditFlowControl.{CreditFlowControl}
 use Rattle.credit.specs.Account.{newAccount}
-use Rattle.signal.specs.Forms.{rejectRes}
-use Rattle.writer.specs.Writer.{encodeOf}
-use Rattle.signal.specs.declared.forms.Signal.the-variants.{LeCreditConnRes}
+use Rattle.signal_forms.specs.Forms.{rejectRes}
+use Rattle.signal_write.specs.Writer.{encodeOf}
+use Rattle.signal_forms.specs.declared.Signal.the-variants.{LeCreditConnRes}
 use Rattle.channel.specs.Limits.{frameHead, jobHead}
 use Rattle.channel.specs.declared.Answer.the-variants.{Done, Refused, At, Link}
 use Rattle.channel.specs.declared.ChannelState.the-variants.{Connected}

@@ -5,9 +5,9 @@ use mathlib.Core.Bool.{Bool, true, false, _&&_, false≢true}
 use mathlib.Core.List.{List, [], _∷_}
 use Prim.Native.Nat.{ℕ, zero, suc, _+_, _-_, min}
 use Rattle.lists.specs.Choose.{choose, if-cases}
-use Rattle.cutting.specs.declared.Plan.{Plan}
-use Rattle.cutting.specs.declared.Plan.the-variants as Plan
-use Rattle.signal.specs.declared.forms.Signal.{Signal}
+use Rattle.sar_cut.specs.declared.Plan.{Plan}
+use Rattle.sar_cut.specs.declared.Plan.the-variants as Plan
+use Rattle.signal_forms.specs.declared.Signal.{Signal}
 use Rattle.channel.specs.declared.Given.{Given}
 use Rattle.channel.specs.declared.L2capChannelConfig.{L2capChannelConfig}
 use Rattle.channel.specs.declared.Slot.{Slot}

@@ -1,5 +1,5 @@
 -- One signal PDU: document 01, 'Signals'. Every header is checked, then the first signal is handled; the part after it is `restOf`
--- (crate signal). Core Vol 3 Part A, 4.
+-- (crate signal_forms). Core Vol 3 Part A, 4.
 use mathlib.Core.Bool.{Bool, true, false, _&&_, not}
 use mathlib.Core.List.{List, [], _∷_}
 use Prim.Native.Nat.{ℕ, _+_}
@@ -10,32 +10,32 @@ use Rattle.codes.specs.declared.LeCreditConnResultCode.the-variants as Result
 use Rattle.codes.specs.Codes.{resultNumber}
 use Rattle.codes.specs.declared.Refusal.{Refusal}
 use Rattle.codes.specs.declared.Refusal.the-variants.{NotFound, InvalidValue, Decode, NotSupported, ConnectError}
-use Rattle.headers.specs.Headers.{headersOf, bodyIn}
-use Rattle.bodies.specs.Bodies.{commandRejectRes, disconnectionReq, disconnectionRes, connParamUpdateReq, connParamUpdateRes}
-use Rattle.le_credit_bodies.specs.LeCreditBodies.{leCreditConnReq, leCreditConnRes, leCreditFlowInd}
-use Rattle.parameter_rule.specs.Parameters.{parametersValid}
-use Rattle.writer.specs.Writer.{encodeOf}
-use Rattle.headers.specs.declared.Checked.{Checked}
-use Rattle.headers.specs.declared.Checked.the-variants.{Good, Cut, Past}
-use Rattle.bodies.specs.declared.CommandRejectResRead.{CommandRejectResRead}
-use Rattle.bodies.specs.declared.CommandRejectResRead.the-variants as CommandRejectRes
-use Rattle.bodies.specs.declared.DisconnectionReqRead.{DisconnectionReqRead}
-use Rattle.bodies.specs.declared.DisconnectionReqRead.the-variants as DisconnectionReq
-use Rattle.bodies.specs.declared.DisconnectionResRead.{DisconnectionResRead}
-use Rattle.bodies.specs.declared.DisconnectionResRead.the-variants as DisconnectionRes
-use Rattle.bodies.specs.declared.ConnParamUpdateReqRead.{ConnParamUpdateReqRead}
-use Rattle.bodies.specs.declared.ConnParamUpdateReqRead.the-variants as ConnParamUpdateReq
-use Rattle.bodies.specs.declared.ConnParamUpdateResRead.{ConnParamUpdateResRead}
-use Rattle.bodies.specs.declared.ConnParamUpdateResRead.the-variants as ConnParamUpdateRes
-use Rattle.le_credit_bodies.specs.declared.LeCreditConnReqRead.{LeCreditConnReqRead}
-use Rattle.le_credit_bodies.specs.declared.LeCreditConnReqRead.the-variants as LeCreditConnReq
-use Rattle.le_credit_bodies.specs.declared.LeCreditConnResRead.{LeCreditConnResRead}
-use Rattle.le_credit_bodies.specs.declared.LeCreditConnResRead.the-variants as LeCreditConnRes
-use Rattle.le_credit_bodies.specs.declared.LeCreditFlowIndRead.{LeCreditFlowIndRead}
-use Rattle.le_credit_bodies.specs.declared.LeCreditFlowIndRead.the-variants as LeCreditFlowInd
-use Rattle.signal.specs.declared.forms.LeCreditConnReq.{LeCreditConnReq}
-use Rattle.signal.specs.declared.forms.LeCreditConnRes.{LeCreditConnRes}
-use Rattle.signal.specs.declared.forms.Signal.the-variants as Signal
+use Rattle.signal_headers.specs.Headers.{headersOf, bodyIn}
+use Rattle.signal_bodies.specs.Bodies.{commandRejectRes, disconnectionReq, disconnectionRes, connParamUpdateReq, connParamUpdateRes}
+use Rattle.signal_bodies.specs.LeCreditBodies.{leCreditConnReq, leCreditConnRes, leCreditFlowInd}
+use Rattle.signal_parameter_rule.specs.Parameters.{parametersValid}
+use Rattle.signal_write.specs.Writer.{encodeOf}
+use Rattle.signal_headers.specs.declared.Checked.{Checked}
+use Rattle.signal_headers.specs.declared.Checked.the-variants.{Good, Cut, Past}
+use Rattle.signal_bodies.specs.declared.CommandRejectResRead.{CommandRejectResRead}
+use Rattle.signal_bodies.specs.declared.CommandRejectResRead.the-variants as CommandRejectRes
+use Rattle.signal_bodies.specs.declared.DisconnectionReqRead.{DisconnectionReqRead}
+use Rattle.signal_bodies.specs.declared.DisconnectionReqRead.the-variants as DisconnectionReq
+use Rattle.signal_bodies.specs.declared.DisconnectionResRead.{DisconnectionResRead}
+use Rattle.signal_bodies.specs.declared.DisconnectionResRead.the-variants as DisconnectionRes
+use Rattle.signal_bodies.specs.declared.ConnParamUpdateReqRead.{ConnParamUpdateReqRead}
+use Rattle.signal_bodies.specs.declared.ConnParamUpdateReqRead.the-variants as ConnParamUpdateReq
+use Rattle.signal_bodies.specs.declared.ConnParamUpdateResRead.{ConnParamUpdateResRead}
+use Rattle.signal_bodies.specs.declared.ConnParamUpdateResRead.the-variants as ConnParamUpdateRes
+use Rattle.signal_bodies.specs.declared.le_credit.LeCreditConnReqRead.{LeCreditConnReqRead}
+use Rattle.signal_bodies.specs.declared.le_credit.LeCreditConnReqRead.the-variants as LeCreditConnReq
+use Rattle.signal_bodies.specs.declared.le_credit.LeCreditConnResRead.{LeCreditConnResRead}
+use Rattle.signal_bodies.specs.declared.le_credit.LeCreditConnResRead.the-variants as LeCreditConnRes
+use Rattle.signal_bodies.specs.declared.le_credit.LeCreditFlowIndRead.{LeCreditFlowIndRead}
+use Rattle.signal_bodies.specs.declared.le_credit.LeCreditFlowIndRead.the-variants as LeCreditFlowInd
+use Rattle.signal_forms.specs.declared.LeCreditConnReq.{LeCreditConnReq}
+use Rattle.signal_forms.specs.declared.LeCreditConnRes.{LeCreditConnRes}
+use Rattle.signal_forms.specs.declared.Signal.the-variants as Signal
 use Rattle.channel.specs.Limits.{creditsMost}
 use Rattle.channel.specs.declared.Answer.{Answer}
 use Rattle.channel.specs.declared.Answer.the-variants.{Done, Refused, Event}

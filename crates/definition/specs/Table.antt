@@ -12,7 +12,7 @@ use Rattle.codes.specs.declared.LeCreditConnResultCode.the-variants.{Success}
 use Rattle.credit.specs.declared.CreditFlowControl.{CreditFlowControl}
 use Rattle.credit.specs.declared.CreditFlowPolicy.the-variants.{Every}
 use Rattle.credit.specs.Account.{newAccount, creditSum}
-use Rattle.sar.specs.declared.Assembly.{Assembly}
+use Rattle.sar_join.specs.declared.Assembly.{Assembly}
 use Rattle.channel.specs.Limits.{slotsMost, depthMost, packetLeast, packetMost, jobHead, cidBase, identifierMost, spsmMost, creditsMost}
 use Rattle.channel.specs.declared.ChannelIndex.{ChannelIndex}
 use Rattle.channel.specs.declared.ChannelState.{ChannelState}

@@ -18,15 +18,15 @@ use Rattle.codes.specs.declared.ResultRead.the-variants.{Known, Unknown}
 use Rattle.credit.specs.declared.CreditFlowPolicy.the-variants.{Every}
 use Rattle.credit.specs.Account.{due, grantOf}
 use Rattle.credit.specs.declared.CreditFlowControl.{CreditFlowControl}
-use Rattle.sar.specs.declared.Assembly.{Assembly}
-use Rattle.sar.specs.Joining.{reached, firstStep, assembled, joinStep}
-use Rattle.cutting.specs.Cutting.{ceil, frameCount, framesLength, planSend}
-use Rattle.headers.specs.Headers.{headersOf}
-use Rattle.bodies.specs.Bodies.{commandRejectRes, disconnectionReq, disconnectionRes, connParamUpdateReq, connParamUpdateRes}
-use Rattle.le_credit_bodies.specs.LeCreditBodies.{leCreditConnReq, leCreditConnRes, leCreditFlowInd}
-use Rattle.parameter_rule.specs.Parameters.{parametersValid}
-use Rattle.signal.specs.declared.forms.Signal.the-variants as Signal
-use Rattle.writer.specs.Writer.{encodeOf}
+use Rattle.sar_join.specs.declared.Assembly.{Assembly}
+use Rattle.sar_join.specs.Joining.{reached, firstStep, assembled, joinStep}
+use Rattle.sar_cut.specs.Cutting.{ceil, frameCount, framesLength, planSend}
+use Rattle.signal_headers.specs.Headers.{headersOf}
+use Rattle.signal_bodies.specs.Bodies.{commandRejectRes, disconnectionReq, disconnectionRes, connParamUpdateReq, connParamUpdateRes}
+use Rattle.signal_bodies.specs.LeCreditBodies.{leCreditConnReq, leCreditConnRes, leCreditFlowInd}
+use Rattle.signal_parameter_rule.specs.Parameters.{parametersValid}
+use Rattle.signal_forms.specs.declared.Signal.the-variants as Signal
+use Rattle.signal_write.specs.Writer.{encodeOf}
 use Rattle.channel.specs.declared.Answer.the-variants.{Done, Refused, At, Link, Opened, Due, Frames, Job, Attention, Number, Event}
 use Rattle.channel.specs.declared.ChannelState.{ChannelState}
 use Rattle.channel.specs.declared.ChannelState.the-variants.{Disconnected, Connecting, PeerConnecting, Connected, ConnectFailed, PeerDisconnecting, Disconnecting}

@@ -17,9 +17,9 @@ use Rattle.channel.specs.declared.Setting.the-variants as Setting
 use Rattle.channel.specs.declared.Table.{Table}
 use Rattle.definition.specs.Table.{if_then_else_}
 use Rattle.definition.specs.Ending.{End, end}
-use Rattle.layout.specs.Layout.{read, written, tableOctets}
-use Rattle.layout.specs.declared.Decoded.{Decoded}
-use Rattle.answer_octets.specs.Answers.{tells, answerOctets}
+use Rattle.edge_layout.specs.Layout.{read, written, tableOctets}
+use Rattle.edge_layout.specs.declared.Decoded.{Decoded}
+use Rattle.edge_answer.specs.Answers.{tells, answerOctets}
 
 pub record Edge : Type 0 where
   pub number : ℕ  -- 0, or the refusal's

@@ -1,5 +1,5 @@
 // What every entry does at the edge to another language: the table written back, the answer written, and numbers read as what they stand for.
-// Defined in specs/Edge.antt. It rests on `layout_encode` and `answer_octets`.
+// Defined in specs/Edge.antt. It rests on `edge_layout_encode` and `edge_answer`.
 use channel::L2capChannelConfig;
 use channel::Served;
 use channel::Setting;
@@ -10,7 +10,7 @@ ghost use mathlib.Core.List.{List};
 ghost use Prim.Native.Nat.{ℕ};
 ghost use Rattle.lists.specs.Choose.{choose};
 ghost use Rattle.definition.specs.Ending.{end};
-ghost use Rattle.layout.specs.Layout.{written};
+ghost use Rattle.edge_layout.specs.Layout.{written};
 ghost use Rattle.edge.specs.Edge.{edge, lifted, settingOf, policyBy, configOf};
 
 // Writes the table back where its octets were a table's.
@@ -18,7 +18,7 @@ fn keep(table: &mut [u8], ok: bool, t: Table)
     ensures { λ _. ⌜ now (table .exit) ≡ choose ok (written (now (table .entry)) t) (now (table .entry)) ⌝ }
 {
     if ok {
-        layout_encode::encode(table, t);
+        edge_layout_encode::encode(table, t);
     }
 }
 
@@ -28,7 +28,7 @@ pub fn store(table: &mut [u8], answer: &mut [u8], ok: bool, s: Served) -> u32
 {
     let t = s.table;
     keep(table, ok, t);
-    answer_octets::put_answer(answer, s)
+    edge_answer::put_answer(answer, s)
 }
 
 // The slots to be made: none where the table's octets are too few or too many, which is refusal 1.

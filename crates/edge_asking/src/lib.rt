@@ -1,7 +1,7 @@
 // Making a table, the questions, and the two senders, each on octets: the table read, the call, the table and the answer written back. Each is
 // defined in specs/Asking.antt, by the call's own definition lifted through the two layouts. The exported names are in `entries`.
 use channel::ChannelIndex;
-use layout::TABLE_OCTETS;
+use edge_layout::TABLE_OCTETS;
 ghost use mathlib.Core.Path.{_≡_};
 ghost use mathlib.Core.List.{[]};
 ghost use Rattle.edge.specs.Edge.{edge};
@@ -13,7 +13,7 @@ pub fn make(table: &mut [u8], answer: &mut [u8], room: &mut [u8], n: u16, d: u16
 {
     let fits = table.len() == TABLE_OCTETS;
     let slots = edge::slots_if(fits, n);
-    let s = making::make(slots, d, m, room);
+    let s = call_make::make(slots, d, m, room);
     edge::store(table, answer, fits, s)
 }
 
@@ -21,9 +21,9 @@ pub fn make(table: &mut [u8], answer: &mut [u8], room: &mut [u8], n: u16, d: u16
 pub fn register_spsm(table: &mut [u8], answer: &mut [u8], spsm: u16) -> u32
     ensures { λ r. ⌜ edge r (now (table .exit)) (now (answer .exit)) [] [] [] ≡ registerSpsmEdge (now (table .entry)) (now (answer .entry)) spsm ⌝ }
 {
-    let d = layout_decode::decode(table);
+    let d = edge_layout_decode::decode(table);
     let t = d.table;
-    let s = registering::register_spsm(t, spsm);
+    let s = call_register_spsm::register_spsm(t, spsm);
     edge::store(table, answer, d.ok, s)
 }
 
@@ -31,9 +31,9 @@ pub fn register_spsm(table: &mut [u8], answer: &mut [u8], spsm: u16) -> u32
 pub fn spsm(table: &mut [u8], answer: &mut [u8], slot: u8) -> u32
     ensures { λ r. ⌜ edge r (now (table .exit)) (now (answer .exit)) [] [] [] ≡ spsmEdge (now (table .entry)) (now (answer .entry)) slot ⌝ }
 {
-    let d = layout_decode::decode(table);
+    let d = edge_layout_decode::decode(table);
     let t = d.table;
-    let s = asking::spsm(t, ChannelIndex(slot));
+    let s = call_queries::spsm(t, ChannelIndex(slot));
     edge::store(table, answer, d.ok, s)
 }
 
@@ -41,9 +41,9 @@ pub fn spsm(table: &mut [u8], answer: &mut [u8], slot: u8) -> u32
 pub fn mtu(table: &mut [u8], answer: &mut [u8], slot: u8) -> u32
     ensures { λ r. ⌜ edge r (now (table .exit)) (now (answer .exit)) [] [] [] ≡ mtuEdge (now (table .entry)) (now (answer .entry)) slot ⌝ }
 {
-    let d = layout_decode::decode(table);
+    let d = edge_layout_decode::decode(table);
     let t = d.table;
-    let s = asking::mtu(t, ChannelIndex(slot));
+    let s = call_queries::mtu(t, ChannelIndex(slot));
     edge::store(table, answer, d.ok, s)
 }
 
@@ -51,9 +51,9 @@ pub fn mtu(table: &mut [u8], answer: &mut [u8], slot: u8) -> u32
 pub fn mps(table: &mut [u8], answer: &mut [u8], slot: u8) -> u32
     ensures { λ r. ⌜ edge r (now (table .exit)) (now (answer .exit)) [] [] [] ≡ mpsEdge (now (table .entry)) (now (answer .entry)) slot ⌝ }
 {
-    let d = layout_decode::decode(table);
+    let d = edge_layout_decode::decode(table);
     let t = d.table;
-    let s = asking::mps(t, ChannelIndex(slot));
+    let s = call_queries::mps(t, ChannelIndex(slot));
     edge::store(table, answer, d.ok, s)
 }
 
@@ -61,9 +61,9 @@ pub fn mps(table: &mut [u8], answer: &mut [u8], slot: u8) -> u32
 pub fn peer_mtu(table: &mut [u8], answer: &mut [u8], slot: u8) -> u32
     ensures { λ r. ⌜ edge r (now (table .exit)) (now (answer .exit)) [] [] [] ≡ peerMtuEdge (now (table .entry)) (now (answer .entry)) slot ⌝ }
 {
-    let d = layout_decode::decode(table);
+    let d = edge_layout_decode::decode(table);
     let t = d.table;
-    let s = asking::peer_mtu(t, ChannelIndex(slot));
+    let s = call_queries::peer_mtu(t, ChannelIndex(slot));
     edge::store(table, answer, d.ok, s)
 }
 
@@ -71,9 +71,9 @@ pub fn peer_mtu(table: &mut [u8], answer: &mut [u8], slot: u8) -> u32
 pub fn peer_mps(table: &mut [u8], answer: &mut [u8], slot: u8) -> u32
     ensures { λ r. ⌜ edge r (now (table .exit)) (now (answer .exit)) [] [] [] ≡ peerMpsEdge (now (table .entry)) (now (answer .entry)) slot ⌝ }
 {
-    let d = layout_decode::decode(table);
+    let d = edge_layout_decode::decode(table);
     let t = d.table;
-    let s = asking::peer_mps(t, ChannelIndex(slot));
+    let s = call_queries::peer_mps(t, ChannelIndex(slot));
     edge::store(table, answer, d.ok, s)
 }
 
@@ -81,9 +81,9 @@ pub fn peer_mps(table: &mut [u8], answer: &mut [u8], slot: u8) -> u32
 pub fn attention(table: &mut [u8], answer: &mut [u8]) -> u32
     ensures { λ r. ⌜ edge r (now (table .exit)) (now (answer .exit)) [] [] [] ≡ attentionEdge (now (table .entry)) (now (answer .entry)) ⌝ }
 {
-    let d = layout_decode::decode(table);
+    let d = edge_layout_decode::decode(table);
     let t = d.table;
-    let s = calling::attention(t);
+    let s = call_attention::attention(t);
     edge::store(table, answer, d.ok, s)
 }
 
@@ -100,9 +100,17 @@ pub fn send_conn_param_update_req(
 ) -> u32
     ensures { λ r. ⌜ edge r (now (table .exit)) (now (answer .exit)) [] (now (signal .exit)) [] ≡ sendConnParamUpdateReqEdge (now (table .entry)) (now (answer .entry)) (now (signal .entry)) link min max latency timeout ⌝ }
 {
-    let d = layout_decode::decode(table);
+    let d = edge_layout_decode::decode(table);
     let t = d.table;
-    let s = senders::send_conn_param_update_req(t, signal, link, min, max, latency, timeout);
+    let s = call_send_parameters::send_conn_param_update_req(
+        t,
+        signal,
+        link,
+        min,
+        max,
+        latency,
+        timeout,
+    );
     edge::store(table, answer, d.ok, s)
 }
 
@@ -116,8 +124,8 @@ pub fn send_conn_param_update_res(
 ) -> u32
     ensures { λ r. ⌜ edge r (now (table .exit)) (now (answer .exit)) [] (now (signal .exit)) [] ≡ sendConnParamUpdateResEdge (now (table .entry)) (now (answer .entry)) (now (signal .entry)) link result ⌝ }
 {
-    let d = layout_decode::decode(table);
+    let d = edge_layout_decode::decode(table);
     let t = d.table;
-    let s = senders::send_conn_param_update_res(t, signal, link, result);
+    let s = call_send_parameters::send_conn_param_update_res(t, signal, link, result);
     edge::store(table, answer, d.ok, s)
 }

@@ -1,2 +1,4 @@
 -- Closing, on octets.
 pub mod Closing
+-- Holding, on octets.
+pub mod Holding

@@ -1,17 +1,12 @@
--- What the calls on signals, frames and jobs leave on octets. Each is the call's own end (Ending.antt of `definition`), lifted through the two layouts.
+-- What the calls on frames and jobs leave on octets. Each is the call's own end (Ending.antt of `definition`), lifted through the two layouts.
 use mathlib.Core.List.{List, []}
 use Prim.Native.Nat.{ℕ}
 use lib.ListN.{length}
 use Rattle.definition.specs.Calls.{frame, jobs}
 use Rattle.definition.specs.Ending.{endOf}
 use Rattle.definition.specs.Frames.{send, receive}
-use Rattle.definition.specs.Signals.{signalled}
-use Rattle.dispatching.specs.Framed.{frameIn}
-use Rattle.edge.specs.Edge.{Edge, onTable, flag}
-
--- The first signal of a PDU.
-abbrev pub signalEdge : (table answer room signal : List ℕ) (link listening central : ℕ) (pdu : List ℕ) → Edge
-signalEdge table answer room signal link listening central pdu = onTable table answer (λ t. endOf t [] room signal [] (signalled t (length room) (length signal) link (flag listening) (flag central) pdu))
+use Rattle.call_dispatch.specs.Framed.{frameIn}
+use Rattle.edge.specs.Edge.{Edge, onTable}
 
 -- A frame that came in.
 abbrev pub dispatchEdge : (table answer room : List ℕ) (link cid : ℕ) (payload : List ℕ) → Edge

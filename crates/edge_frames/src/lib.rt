@@ -1,30 +1,11 @@
-// Signals, frames and jobs, each on octets: the table read, the call, the table and the answer written back. Each is defined in specs/Frames.antt,
+// Frames and jobs, each on octets: the table read, the call, the table and the answer written back. Each is defined in specs/Frames.antt,
 // by the call's own definition lifted through the two layouts. The exported names are in `entries`.
 use channel::ChannelIndex;
 use channel::Cid;
 ghost use mathlib.Core.Path.{_≡_};
 ghost use mathlib.Core.List.{[]};
 ghost use Rattle.edge.specs.Edge.{edge};
-ghost use Rattle.edge_frames.specs.Frames.{signalEdge, dispatchEdge, sendEdge, receiveEdge};
-
-// The first signal of a PDU.
-pub fn signal(
-    table: &mut [u8],
-    answer: &mut [u8],
-    room: &mut [u8],
-    signal: &mut [u8],
-    link: u16,
-    listening: u8,
-    central: u8,
-    pdu: &[u8],
-) -> u32
-    ensures { λ r. ⌜ edge r (now (table .exit)) (now (answer .exit)) (now (room .exit)) (now (signal .exit)) [] ≡ signalEdge (now (table .entry)) (now (answer .entry)) (now (room .entry)) (now (signal .entry)) link listening central (now (pdu .entry)) ⌝ }
-{
-    let d = layout_decode::decode(table);
-    let t = d.table;
-    let s = signals::signal(t, room, signal, link, listening != 0, central != 0, pdu);
-    edge::store(table, answer, d.ok, s)
-}
+ghost use Rattle.edge_frames.specs.Frames.{dispatchEdge, sendEdge, receiveEdge};
 
 // A frame that came in.
 pub fn dispatch(
@@ -37,9 +18,9 @@ pub fn dispatch(
 ) -> u32
     ensures { λ r. ⌜ edge r (now (table .exit)) (now (answer .exit)) (now (room .exit)) [] [] ≡ dispatchEdge (now (table .entry)) (now (answer .entry)) (now (room .entry)) link cid (now (payload .entry)) ⌝ }
 {
-    let d = layout_decode::decode(table);
+    let d = edge_layout_decode::decode(table);
     let t = d.table;
-    let s = dispatching::dispatch(t, room, link, Cid(cid), payload);
+    let s = call_dispatch::dispatch(t, room, link, Cid(cid), payload);
     edge::store(table, answer, d.ok, s)
 }
 
@@ -47,9 +28,9 @@ pub fn dispatch(
 pub fn send(table: &mut [u8], answer: &mut [u8], out: &mut [u8], slot: u8, sdu: &[u8]) -> u32
     ensures { λ r. ⌜ edge r (now (table .exit)) (now (answer .exit)) [] (now (out .exit)) [] ≡ sendEdge (now (table .entry)) (now (answer .entry)) (now (out .entry)) slot (now (sdu .entry)) ⌝ }
 {
-    let d = layout_decode::decode(table);
+    let d = edge_layout_decode::decode(table);
     let t = d.table;
-    let s = sending::send(t, ChannelIndex(slot), sdu, out);
+    let s = call_send::send(t, ChannelIndex(slot), sdu, out);
     edge::store(table, answer, d.ok, s)
 }
 
@@ -64,8 +45,8 @@ pub fn receive(
 ) -> u32
     ensures { λ r. ⌜ edge r (now (table .exit)) (now (answer .exit)) (now (room .exit)) (now (signal .exit)) (now (job .exit)) ≡ receiveEdge (now (table .entry)) (now (answer .entry)) (now (room .entry)) (now (signal .entry)) (now (job .entry)) slot ⌝ }
 {
-    let d = layout_decode::decode(table);
+    let d = edge_layout_decode::decode(table);
     let t = d.table;
-    let s = receiving::receive(t, room, signal, ChannelIndex(slot), job);
+    let s = call_receive::receive(t, room, signal, ChannelIndex(slot), job);
     edge::store(table, answer, d.ok, s)
 }

@@ -17,15 +17,17 @@ use Rattle.definition.specs.Pending.{nextPending, rejectAllPending, acceptPendi
 use Rattle.definition.specs.Signals.{signalled}
 use Rattle.definition.specs.Calls.{Call, frame, sends, down, Request, register, signals, pends, rejectsAll, accepts, rejects, drops, creates, opens, gives, holds, releases, leaves, leavesCid, announces, takes, attends, asks, sendsSignal, jobs, serve, decide}
 use Rattle.definition.specs.Ending.{servedOf, endOf}
-use Rattle.admitting.specs.Admitted.{headOf}
-use Rattle.dispatching.specs.Framed.{frameIn}
-use Rattle.layout.specs.Layout.{read}
+use Rattle.call_dispatch.specs.Admitted.{headOf}
+use Rattle.call_dispatch.specs.Framed.{frameIn}
+use Rattle.edge_layout.specs.Layout.{read}
 use Rattle.edge.specs.Edge.{onTable, alone, flag, configOf}
 use Rattle.edge_asking.specs.Asking.{registerSpsmEdge, spsmEdge, mtuEdge, mpsEdge, peerMtuEdge, peerMpsEdge, attentionEdge, sendConnParamUpdateReqEdge, sendConnParamUpdateResEdge}
-use Rattle.edge_opening.specs.Opening.{nextPendingEdge, acceptPendingEdge, rejectPendingEdge, rejectAllPendingEdge, dropPendingEdge, createEdge, openedEdge, giveUpEdge}
-use Rattle.edge_holding.specs.Holding.{incRefEdge, decRefEdge}
+use Rattle.edge_opening.specs.Opening.{createEdge, openedEdge, giveUpEdge}
+use Rattle.edge_pending.specs.Pending.{nextPendingEdge, acceptPendingEdge, rejectPendingEdge, rejectAllPendingEdge, dropPendingEdge}
+use Rattle.edge_closing.specs.Holding.{incRefEdge, decRefEdge}
 use Rattle.edge_closing.specs.Closing.{disconnectEdge, disconnectByCidEdge, disconnectedEdge, nextDisconnectEdge}
-use Rattle.edge_frames.specs.Frames.{signalEdge, dispatchEdge, sendEdge, receiveEdge}
+use Rattle.edge_frames.specs.Frames.{dispatchEdge, sendEdge, receiveEdge}
+use Rattle.edge_signals.specs.Signals.{signalEdge}
 use Rattle.edge_laws.specs.NoTable.{shut, isRequest, isCall, serve-refuses, decide-refuses, no-slots, none-ends, leftAlone, on-none}
 
 none-serves : (r : Request) → isRequest r ≡ true → (room out job : ℕ) → serve noSlots r room out job ≡ refuse noSlots BadTable

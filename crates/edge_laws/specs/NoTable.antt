@@ -1,4 +1,4 @@
--- Octets that spell no table are read as a table of no slots (Layout.antt of `layout`). Row 1 of document 01 stands first in every call: a table that
+-- Octets that spell no table are read as a table of no slots (Layout.antt of `edge_layout`). Row 1 of document 01 stands first in every call: a table that
 -- is not well formed is refused by 1, whatever is asked and whatever is lent, and nothing changes. So an entry on octets that spell no table
 -- returns 1, tells that refusal, and leaves the table's octets, the room and the buffers as they were.
 use mathlib.Core.Path.{_≡_, refl, sym, ap, _∙_}
@@ -25,10 +25,10 @@ use Rattle.definition.specs.Pending.{nextPending, rejectAllPending, acceptPendi
 use Rattle.definition.specs.Signals.{signalled}
 use Rattle.definition.specs.Calls.{Call, frame, sends, down, plain, Request, register, signals, pends, rejectsAll, accepts, rejects, drops, creates, opens, gives, holds, releases, leaves, leavesCid, announces, takes, attends, asks, sendsSignal, writes, jobs, serve, decide}
 use Rattle.definition.specs.Ending.{End, end, gave, endOf, end-still}
-use Rattle.layout.specs.declared.Decoded.{Decoded}
-use Rattle.layout.specs.Layout.{read}
-use Rattle.answer_told.specs.Tells.{codeOf}
-use Rattle.answer_octets.specs.Answers.{tells, answerOctets}
+use Rattle.edge_layout.specs.declared.Decoded.{Decoded}
+use Rattle.edge_layout.specs.Layout.{read}
+use Rattle.channel_answer.specs.Tells.{codeOf}
+use Rattle.edge_answer.specs.Answers.{tells, answerOctets}
 use Rattle.edge.specs.Edge.{Edge, edge, lifted, onTable}
 
 -- ---- the gate is shut

@@ -4,7 +4,7 @@
 use mathlib.Core.List.{List, [], _∷_}
 use Prim.Native.Nat.{ℕ}
 use Rattle.codes.specs.Codes.{resultOf}
-use Rattle.signal.specs.declared.forms.Signal.the-variants.{ConnParamUpdateReq, ConnParamUpdateRes}
+use Rattle.signal_forms.specs.declared.Signal.the-variants.{ConnParamUpdateReq, ConnParamUpdateRes}
 use Rattle.channel.specs.declared.Answer.the-variants.{Done}
 use Rattle.definition.specs.Mem.{given}
 use Rattle.definition.specs.Outcome.{still}
@@ -14,10 +14,12 @@ use Rattle.definition.specs.Ending.{endOf}
 use Rattle.definition.specs.Run.{lent, nowhere}
 use Rattle.edge.specs.Edge.{Edge, onTable, flag, configOf}
 use Rattle.edge_asking.specs.Asking.{registerSpsmEdge, spsmEdge, mtuEdge, mpsEdge, peerMtuEdge, peerMpsEdge, attentionEdge, sendConnParamUpdateReqEdge, sendConnParamUpdateResEdge}
-use Rattle.edge_opening.specs.Opening.{nextPendingEdge, acceptPendingEdge, rejectPendingEdge, rejectAllPendingEdge, dropPendingEdge, createEdge, openedEdge, giveUpEdge}
-use Rattle.edge_holding.specs.Holding.{incRefEdge, decRefEdge}
+use Rattle.edge_opening.specs.Opening.{createEdge, openedEdge, giveUpEdge}
+use Rattle.edge_pending.specs.Pending.{nextPendingEdge, acceptPendingEdge, rejectPendingEdge, rejectAllPendingEdge, dropPendingEdge}
+use Rattle.edge_closing.specs.Holding.{incRefEdge, decRefEdge}
 use Rattle.edge_closing.specs.Closing.{disconnectEdge, disconnectByCidEdge, disconnectedEdge, nextDisconnectEdge}
-use Rattle.edge_frames.specs.Frames.{signalEdge, dispatchEdge, sendEdge, receiveEdge}
+use Rattle.edge_frames.specs.Frames.{dispatchEdge, sendEdge, receiveEdge}
+use Rattle.edge_signals.specs.Signals.{signalEdge}
 
 -- An entry with its numbers as C gives them, in C's order: flags, configurations and result codes are numbers. Buffers that it writes to (signal, out,
 -- job) are parts of the caller's memory. Octets that it only reads (pdu, payload, sdu) are given as they are.

@@ -11,8 +11,8 @@ use Rattle.definition.specs.Asking.{make}
 use Rattle.definition.specs.Calls.{Window, Call}
 use Rattle.definition.specs.Example.{calls}
 use Rattle.definition.specs.Run.{State, outcome, after, made}
-use Rattle.layout.specs.Back.{Sized}
-use Rattle.answer_octets.specs.Answers.{tells}
+use Rattle.edge_layout.specs.Back.{Sized}
+use Rattle.edge_answer.specs.Answers.{tells}
 use Rattle.isolation.specs.Statement.{overAfter, Alike, AlikeRuns}
 use Rattle.isolation.specs.Example.{alike}
 use Rattle.edge.specs.Edge.{lifted, madeOn, settingOf, policyBy}

@@ -17,9 +17,9 @@ use Rattle.definition.specs.Calls.{Call}
 use Rattle.definition.specs.Numbers.{answerNumber}
 use Rattle.definition.specs.Outcome.{Outcome}
 use Rattle.definition.specs.Run.{State, outWindow, jobWindow, outcome, after, made, run}
-use Rattle.layout.specs.declared.Decoded.{Decoded}
-use Rattle.layout.specs.Layout.{spell}
-use Rattle.layout.specs.Back.{Sized, read-back}
+use Rattle.edge_layout.specs.declared.Decoded.{Decoded}
+use Rattle.edge_layout.specs.Layout.{spell}
+use Rattle.edge_layout.specs.Back.{Sized, read-back}
 use Rattle.isolation.specs.Statement.{isDown, overAfter, sent, framed, Alike, same, exchanged, AlikeRuns, Marks, marksOf, Isolated, Handed}
 use Rattle.isolation.specs.Isolation.{isolation}
 use Rattle.rules.specs.Run.{SettingFits, Fits, Reached, start, next}

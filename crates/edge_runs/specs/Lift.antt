@@ -24,13 +24,13 @@ use Rattle.definition.specs.Numbers.{answerNumber}
 use Rattle.definition.specs.Run.{State, lent, nowhere, outWindow, jobWindow, outcome, after, run}
 use Rattle.definition.specs.Roomless.{roomlessRequest, roomless, Roomless, roomless-call}
 use Rattle.definition.specs.Lift.{call-after, roomless-end}
-use Rattle.admitting.specs.Admitted.{headOf}
-use Rattle.layout.specs.declared.Decoded.{Decoded}
-use Rattle.layout.specs.Layout.{spell, tableOctets}
-use Rattle.layout.specs.Layout as Layout
-use Rattle.layout.specs.Columns.{spell-length}
-use Rattle.layout.specs.Back.{Sized, read-back}
-use Rattle.answer_octets.specs.Answers.{tells, answerOctets}
+use Rattle.call_dispatch.specs.Admitted.{headOf}
+use Rattle.edge_layout.specs.declared.Decoded.{Decoded}
+use Rattle.edge_layout.specs.Layout.{spell, tableOctets}
+use Rattle.edge_layout.specs.Layout as Layout
+use Rattle.edge_layout.specs.Columns.{spell-length}
+use Rattle.edge_layout.specs.Back.{Sized, read-back}
+use Rattle.edge_answer.specs.Answers.{tells, answerOctets}
 use Rattle.edge.specs.Edge.{Edge, edge, onTable, lifted, alone, flag}
 use Rattle.edge_sized.specs.Sized.{after-sized}
 use Rattle.edge_runs.specs.Entries.{Entry, registerSpsm, spsm, mtu, mps, peerMtu, peerMps, attention, sendConnParamUpdateReq, sendConnParamUpdateRes, nextPending, acceptPending, rejectPending, rejectAllPending, dropPending, create, opened, giveUp, incRef, decRef, disconnect, disconnectByCid, disconnected, nextDisconnect, signal, dispatch, send, receive, own, leaves, callOf}

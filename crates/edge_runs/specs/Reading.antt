@@ -1,6 +1,6 @@
 -- What the statement gives for the worked run (Example.antt), read off octet by octet: from the statement itself, whatever its proof. What the first run's
 -- entries leave is computed; of the second run only the statement speaks. So a statement that says less of these runs is refused here.
-use Rattle.writer.specs.Writer.{encodeOf}
+use Rattle.signal_write.specs.Writer.{encodeOf}
 use mathlib.Core.Path.{_≡_, refl, sym, ap, _∙_, subst}
 use mathlib.Core.Bool.{false}
 use mathlib.Core.List.{List, [], _∷_, map}
@@ -12,10 +12,10 @@ use Rattle.lists.specs.First.{first}
 use Rattle.lists.specs.Every.{every}
 use Rattle.lists.specs.Fuel.{whole}
 use Rattle.credit.specs.Account.{due, grantOf}
-use Rattle.cutting.specs.Cutting.{ceil, frameCount, framesLength, planSend}
-use Rattle.sar.specs.Joining.{reached, firstStep, assembled, joinStep}
-use Rattle.headers.specs.Headers.{headersOf}
-use Rattle.le_credit_bodies.specs.LeCreditBodies.{leCreditConnReq}
+use Rattle.sar_cut.specs.Cutting.{ceil, frameCount, framesLength, planSend}
+use Rattle.sar_join.specs.Joining.{reached, firstStep, assembled, joinStep}
+use Rattle.signal_headers.specs.Headers.{headersOf}
+use Rattle.signal_bodies.specs.LeCreditBodies.{leCreditConnReq}
 use Rattle.definition.specs.Mem.{fill, size, sizes, move, moves, parts, fills, written}
 use Rattle.definition.specs.Table.{slotFits, wellFormed}
 use Rattle.definition.specs.Outcome.{only, verdict}
@@ -28,7 +28,7 @@ use Rattle.definition.specs.Calls.{Call, frame, sends, down, plain, bare, serve
 use Rattle.definition.specs.Calls as Calls
 use Rattle.definition.specs.Run.{State, after, run, outcomes}
 use Rattle.definition.specs.Example.{start}
-use Rattle.answer_octets.specs.Answers.{tells, answerOctets}
+use Rattle.edge_answer.specs.Answers.{tells, answerOctets}
 use Rattle.isolation.specs.Statement.{overAfter, marked, marksFrom, marksOf, handed}
 use Rattle.edge.specs.Edge.{Edge, settingOf, policyBy}
 use Rattle.edge_sized.specs.Said.{isSend}

@@ -11,9 +11,9 @@ use lib.Seq.{sets, take-all}
 use borrow.Author.Tests.{eqb-false}
 use Rattle.lists.specs.Choose.{if-cases}
 use Rattle.codes.specs.declared.Refusal.{Refusal}
-use Rattle.cutting.specs.declared.Plan.{Plan}
-use Rattle.cutting.specs.declared.Plan.the-variants as Plan
-use Rattle.cutting.specs.Cutting.{payloads, framesOf}
+use Rattle.sar_cut.specs.declared.Plan.{Plan}
+use Rattle.sar_cut.specs.declared.Plan.the-variants as Plan
+use Rattle.sar_cut.specs.Cutting.{payloads, framesOf}
 use Rattle.credit.specs.Account.{creditSum}
 use Rattle.channel.specs.Limits.{handleMost, signalMost, identifierMost, creditsMost}
 use Rattle.channel.specs.declared.Answer.the-variants.{Frames}
@@ -27,7 +27,7 @@ use Rattle.definition.specs.Ending.{itself}
 use Rattle.definition.specs.Frames.{planned, send}
 use Rattle.definition.specs.Numbers.{answerNumber, refused-not-0}
 use Rattle.definition.specs.Run.{State, lent, outWindow, jobWindow, outcome, after, made}
-use Rattle.layout.specs.Back.{Sized}
+use Rattle.edge_layout.specs.Back.{Sized}
 use Rattle.rules.specs.Run.{Reached}
 use Rattle.rules.specs.Run as Run
 use Rattle.rules.specs.Forms.{gate-cases}

@@ -10,7 +10,7 @@ use Rattle.octets.specs.Octets.{u16At}
 use Rattle.definition.specs.Calls.{Window, Call, frame, sends, down, plain}
 use Rattle.definition.specs.Run.{State, outWindow, jobWindow}
 use Rattle.definition.specs.Roomless.{roomless}
-use Rattle.layout.specs.Layout.{read}
+use Rattle.edge_layout.specs.Layout.{read}
 use Rattle.edge.specs.Edge.{Edge}
 use Rattle.edge_asking.specs.Asking.{makeEdge}
 use Rattle.edge_runs.specs.Entries.{Entry, leaves, callOf}

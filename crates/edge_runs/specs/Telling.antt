@@ -16,9 +16,9 @@ use Rattle.definition.specs.Calls.{Window, Call, frame, sends, down, plain, job
 use Rattle.definition.specs.Ending.{itself, servedOf, End, endOf}
 use Rattle.definition.specs.Numbers.{answerNumber}
 use Rattle.definition.specs.Run.{State, lent, outWindow, jobWindow, outcome, after, outcomes}
-use Rattle.layout.specs.Layout.{spell}
-use Rattle.layout.specs.Back.{Sized}
-use Rattle.answer_octets.specs.Answers.{answerOctets}
+use Rattle.edge_layout.specs.Layout.{spell}
+use Rattle.edge_layout.specs.Back.{Sized}
+use Rattle.edge_answer.specs.Answers.{answerOctets}
 use Rattle.isolation.specs.Statement.{framesOut, Handed, handedBy, handed}
 use Rattle.lists.specs.Choose.{choose-false}
 use Rattle.isolation.specs.Words.{jobs-is}

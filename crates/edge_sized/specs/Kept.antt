@@ -1,5 +1,5 @@
 -- What a call keeps of a table's shape: the lengths of its arrays and its sizes, which is all that the table's octets need to give it back
--- (`Sized`, crate layout), and every slot past N. And the laws by which a call's proof shows it, one for each form that an outcome has.
+-- (`Sized`, crate edge_layout), and every slot past N. And the laws by which a call's proof shows it, one for each form that an outcome has.
 use mathlib.Core.Path.{_≡_, refl, ap, _∙_}
 use mathlib.Core.Bool.{Bool, true, false}
 use mathlib.Core.List.{List, [], _∷_}
@@ -25,7 +25,7 @@ use Rattle.definition.specs.Table.{freed, gap, slotAt, isRegistered, spent, reg
 use Rattle.definition.specs.Outcome.{Outcome, still, change, sweep, verdict, passed, gate}
 use Rattle.definition.specs.Frames.{queued, shifted}
 use Rattle.definition.specs.Forms.{pass-slot}
-use Rattle.layout.specs.Back.{Sized}
+use Rattle.edge_layout.specs.Back.{Sized}
 
 -- ---- a slot
 

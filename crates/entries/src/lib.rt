@@ -1,16 +1,18 @@
 // The calls for C and Rust, on numbers and octets: a static library. Each entry reads the table from its 672 octets, makes the call, writes table and
-// answer back, and returns 0 or the refusal's number: the function of that name in `edge_asking`, `edge_opening`, `edge_holding`, `edge_closing` or `edge_frames`,
+// answer back, and returns 0 or the refusal's number: the function of that name in `edge_asking`, `edge_opening`, `edge_closing::hold`, `edge_closing` or `edge_frames`,
 // whose definition is the entry's too. It is the call's own, lifted through the two layouts (Edge.antt of `edge`).
 ghost use mathlib.Core.Path.{_≡_};
 ghost use mathlib.Core.List.{[]};
 ghost use lib.ListN.{length};
-ghost use Rattle.headers.specs.Headers.{restOf};
+ghost use Rattle.signal_headers.specs.Headers.{restOf};
 ghost use Rattle.edge.specs.Edge.{edge};
 ghost use Rattle.edge_asking.specs.Asking.{makeEdge, registerSpsmEdge, spsmEdge, mtuEdge, mpsEdge, peerMtuEdge, peerMpsEdge, attentionEdge, sendConnParamUpdateReqEdge, sendConnParamUpdateResEdge};
-ghost use Rattle.edge_opening.specs.Opening.{nextPendingEdge, acceptPendingEdge, rejectPendingEdge, rejectAllPendingEdge, dropPendingEdge, createEdge, openedEdge, giveUpEdge};
-ghost use Rattle.edge_holding.specs.Holding.{incRefEdge, decRefEdge};
+ghost use Rattle.edge_opening.specs.Opening.{createEdge, openedEdge, giveUpEdge};
+ghost use Rattle.edge_pending.specs.Pending.{nextPendingEdge, acceptPendingEdge, rejectPendingEdge, rejectAllPendingEdge, dropPendingEdge};
+ghost use Rattle.edge_closing.specs.Holding.{incRefEdge, decRefEdge};
 ghost use Rattle.edge_closing.specs.Closing.{disconnectEdge, disconnectByCidEdge, disconnectedEdge, nextDisconnectEdge};
-ghost use Rattle.edge_frames.specs.Frames.{signalEdge, dispatchEdge, sendEdge, receiveEdge};
+ghost use Rattle.edge_frames.specs.Frames.{dispatchEdge, sendEdge, receiveEdge};
+ghost use Rattle.edge_signals.specs.Signals.{signalEdge};
 
 // Makes a table of n slots, depth d and packets of m octets, and zeroes its room. Table octets of another length are refused by 1.
 #[no_mangle]
@@ -88,7 +90,7 @@ pub extern "C" fn l2cap_attention(table: &mut [u8], answer: &mut [u8]) -> u32
 pub extern "C" fn l2cap_next_pending(table: &mut [u8], answer: &mut [u8], link: u16, up: u8) -> u32
     ensures { λ r. ⌜ edge r (now (table .exit)) (now (answer .exit)) [] [] [] ≡ nextPendingEdge (now (table .entry)) (now (answer .entry)) link up ⌝ }
 {
-    edge_opening::next_pending(table, answer, link, up)
+    edge_pending::next_pending(table, answer, link, up)
 }
 
 // One hold more.
@@ -96,7 +98,7 @@ pub extern "C" fn l2cap_next_pending(table: &mut [u8], answer: &mut [u8], link: 
 pub extern "C" fn l2cap_inc_ref(table: &mut [u8], answer: &mut [u8], slot: u8) -> u32
     ensures { λ r. ⌜ edge r (now (table .exit)) (now (answer .exit)) [] [] [] ≡ incRefEdge (now (table .entry)) (now (answer .entry)) slot ⌝ }
 {
-    edge_holding::inc_ref(table, answer, slot)
+    edge_closing::inc_ref(table, answer, slot)
 }
 
 // Writes a request for connection parameters.
@@ -145,7 +147,7 @@ pub extern "C" fn l2cap_accept_pending(
 ) -> u32
     ensures { λ r. ⌜ edge r (now (table .exit)) (now (answer .exit)) [] (now (signal .exit)) [] ≡ acceptPendingEdge (now (table .entry)) (now (answer .entry)) (now (signal .entry)) slot mtu mps kind value credits ⌝ }
 {
-    edge_opening::accept_pending(table, answer, signal, slot, mtu, mps, kind, value, credits)
+    edge_pending::accept_pending(table, answer, signal, slot, mtu, mps, kind, value, credits)
 }
 
 // Asks the peer for a channel.
@@ -188,7 +190,7 @@ pub extern "C" fn l2cap_drop_pending(
 ) -> u32
     ensures { λ r. ⌜ edge r (now (table .exit)) (now (answer .exit)) (now (room .exit)) [] [] ≡ dropPendingEdge (now (table .entry)) (now (answer .entry)) (now (room .entry)) slot ⌝ }
 {
-    edge_opening::drop_pending(table, answer, room, slot)
+    edge_pending::drop_pending(table, answer, room, slot)
 }
 
 // Is the channel of a slot open?
@@ -229,7 +231,7 @@ pub extern "C" fn l2cap_dec_ref(
 ) -> u32
     ensures { λ r. ⌜ edge r (now (table .exit)) (now (answer .exit)) (now (room .exit)) [] [] ≡ decRefEdge (now (table .entry)) (now (answer .entry)) (now (room .entry)) slot ⌝ }
 {
-    edge_holding::dec_ref(table, answer, room, slot)
+    edge_closing::dec_ref(table, answer, room, slot)
 }
 
 // Disconnects a slot.
@@ -282,7 +284,7 @@ pub extern "C" fn l2cap_reject_all_pending(
 ) -> u32
     ensures { λ r. ⌜ edge r (now (table .exit)) (now (answer .exit)) (now (room .exit)) (now (signal .exit)) [] ≡ rejectAllPendingEdge (now (table .entry)) (now (answer .entry)) (now (room .entry)) (now (signal .entry)) link ⌝ }
 {
-    edge_opening::reject_all_pending(table, answer, room, signal, link)
+    edge_pending::reject_all_pending(table, answer, room, signal, link)
 }
 
 // Rejects the pending of a slot with a result code; a number that is none is refusal 15.
@@ -297,7 +299,7 @@ pub extern "C" fn l2cap_reject_pending(
 ) -> u32
     ensures { λ r. ⌜ edge r (now (table .exit)) (now (answer .exit)) (now (room .exit)) (now (signal .exit)) [] ≡ rejectPendingEdge (now (table .entry)) (now (answer .entry)) (now (room .entry)) (now (signal .entry)) slot result ⌝ }
 {
-    edge_opening::reject_pending(table, answer, room, signal, slot, result)
+    edge_pending::reject_pending(table, answer, room, signal, slot, result)
 }
 
 // The next disconnect that is due.
@@ -327,7 +329,7 @@ pub extern "C" fn l2cap_signal(
 ) -> u32
     ensures { λ r. ⌜ edge r (now (table .exit)) (now (answer .exit)) (now (room .exit)) (now (signal .exit)) [] ≡ signalEdge (now (table .entry)) (now (answer .entry)) (now (room .entry)) (now (signal .entry)) link listening central (now (pdu .entry)) ⌝ }
 {
-    edge_frames::signal(table, answer, room, signal, link, listening, central, pdu)
+    edge_signals::signal(table, answer, room, signal, link, listening, central, pdu)
 }
 
 // A frame that came in.
@@ -379,5 +381,5 @@ pub extern "C" fn l2cap_receive(
 pub extern "C" fn l2cap_signal_rest(pdu: &[u8]) -> usize
     ensures { λ r. ⌜ r ≡ length (restOf (now (pdu .entry))) ⌝ }
 {
-    remaining::rest(pdu).len()
+    signal_headers::rest(pdu).len()
 }

@@ -1,6 +1,6 @@
 -- The worked run of crate definition meets the premises of demand 3, whatever its job octets; and where its marks stand: on the job that
 -- was taken and on the payload of the frame that was sent, on nothing else.
-use Rattle.writer.specs.Writer.{encodeOf}
+use Rattle.signal_write.specs.Writer.{encodeOf}
 use mathlib.Core.Path.{_≡_, refl, sym}
 use mathlib.Core.Bool.{true, false, false≢true}
 use mathlib.Core.List.{[], _∷_, _++_}
@@ -11,10 +11,10 @@ use Rattle.lists.specs.First.{first}
 use Rattle.lists.specs.Every.{every}
 use Rattle.lists.specs.Fuel.{whole}
 use Rattle.credit.specs.Account.{due, grantOf}
-use Rattle.cutting.specs.Cutting.{ceil, frameCount, framesLength, planSend}
-use Rattle.sar.specs.Joining.{reached, firstStep, assembled, joinStep}
-use Rattle.headers.specs.Headers.{headersOf}
-use Rattle.le_credit_bodies.specs.LeCreditBodies.{leCreditConnReq}
+use Rattle.sar_cut.specs.Cutting.{ceil, frameCount, framesLength, planSend}
+use Rattle.sar_join.specs.Joining.{reached, firstStep, assembled, joinStep}
+use Rattle.signal_headers.specs.Headers.{headersOf}
+use Rattle.signal_bodies.specs.LeCreditBodies.{leCreditConnReq}
 use Rattle.definition.specs.Mem.{fill, move, moves, parts, fills, written}
 use Rattle.definition.specs.Table.{slotFits, wellFormed}
 use Rattle.definition.specs.Outcome.{only, verdict}

@@ -1,7 +1,7 @@
 -- A worked run with two links and two lives, and where its marks stand after every call: two links whose peers use the same CID, a second
 -- life of link 1, buffers that overlap and buffers lent again to another link, a frame that names another link's slot, a refused
 -- link-down. So a statement that excepted more than that link's octets, or any octet longer, is refused here.
-use Rattle.writer.specs.Writer.{encodeOf}
+use Rattle.signal_write.specs.Writer.{encodeOf}
 use mathlib.Core.Path.{_≡_, refl, sym}
 use mathlib.Core.Bool.{Bool, true, false, false≢true}
 use mathlib.Core.List.{List, [], _∷_, _++_, map}
@@ -13,11 +13,11 @@ use Rattle.lists.specs.Every.{every}
 use Rattle.lists.specs.Fuel.{whole}
 use Rattle.credit.specs.declared.CreditFlowPolicy.the-variants.{Every}
 use Rattle.credit.specs.Account.{due, grantOf}
-use Rattle.cutting.specs.Cutting.{ceil, frameCount, framesLength, planSend}
-use Rattle.sar.specs.Joining.{reached, firstStep, assembled, joinStep}
+use Rattle.sar_cut.specs.Cutting.{ceil, frameCount, framesLength, planSend}
+use Rattle.sar_join.specs.Joining.{reached, firstStep, assembled, joinStep}
 use Rattle.codes.specs.declared.Refusal.the-variants as Refusal
-use Rattle.headers.specs.Headers.{headersOf}
-use Rattle.le_credit_bodies.specs.LeCreditBodies.{leCreditConnReq}
+use Rattle.signal_headers.specs.Headers.{headersOf}
+use Rattle.signal_bodies.specs.LeCreditBodies.{leCreditConnReq}
 use Rattle.channel.specs.declared.Answer.the-variants.{Done, Refused, At, Link, Frames, Job}
 use Rattle.channel.specs.declared.L2capChannelConfig.{L2capChannelConfig}
 use Rattle.channel.specs.declared.Setting.the-variants as Setting

@@ -1,6 +1,6 @@
 -- What the statement gives for the worked run (Lives.antt), read off octet by octet: from the statement itself, whatever its proof. So a
 -- statement that says less of these runs is refused here.
-use Rattle.writer.specs.Writer.{encodeOf}
+use Rattle.signal_write.specs.Writer.{encodeOf}
 use mathlib.Core.Path.{_≡_, refl}
 use Prim.Native.Nat.{ℕ, _<_}
 use native.Mathlib.Omega.{arith}
@@ -10,10 +10,10 @@ use Rattle.lists.specs.First.{first}
 use Rattle.lists.specs.Every.{every}
 use Rattle.lists.specs.Fuel.{whole}
 use Rattle.credit.specs.Account.{due, grantOf}
-use Rattle.cutting.specs.Cutting.{ceil, frameCount, framesLength, planSend}
-use Rattle.sar.specs.Joining.{reached, firstStep, assembled, joinStep}
-use Rattle.headers.specs.Headers.{headersOf}
-use Rattle.le_credit_bodies.specs.LeCreditBodies.{leCreditConnReq}
+use Rattle.sar_cut.specs.Cutting.{ceil, frameCount, framesLength, planSend}
+use Rattle.sar_join.specs.Joining.{reached, firstStep, assembled, joinStep}
+use Rattle.signal_headers.specs.Headers.{headersOf}
+use Rattle.signal_bodies.specs.LeCreditBodies.{leCreditConnReq}
 use Rattle.definition.specs.Mem.{fill, move, moves, parts, fills, written}
 use Rattle.definition.specs.Table.{slotFits, wellFormed}
 use Rattle.definition.specs.Outcome.{only, verdict}

@@ -1,12 +1,12 @@
 // Octets in lent slices: zeroed and moved down here; copied (copying), and read and written as numbers of two octets (numbers), which are
 // passed on. Every function is total: a place past the end reads as 0 and takes no store, as in the list terms of the contracts.
-pub use copying::copy_to;
-pub use numbers::least;
-pub use numbers::left;
-pub use numbers::number;
-pub use numbers::octet;
-pub use numbers::put;
-pub use numbers::put_number;
+pub use octets_copy::copy_to;
+pub use octets_numbers::least;
+pub use octets_numbers::left;
+pub use octets_numbers::number;
+pub use octets_numbers::octet;
+pub use octets_numbers::put;
+pub use octets_numbers::put_number;
 ghost use mathlib.Core.Path.{_≡_};
 ghost use Prim.Native.Nat.{_≤_};
 ghost use lib.ListN.{replicate};

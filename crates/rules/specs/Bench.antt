@@ -10,10 +10,10 @@ use Rattle.lists.specs.First.{first}
 use Rattle.lists.specs.Every.{every}
 use Rattle.credit.specs.declared.CreditFlowPolicy.the-variants.{Every}
 use Rattle.lists.specs.Fuel.{whole, fuelled}
-use Rattle.headers.specs.Headers.{headersOf}
-use Rattle.le_credit_bodies.specs.LeCreditBodies.{leCreditConnReq, leCreditFlowInd}
-use Rattle.cutting.specs.Cutting.{payloads}
-use Rattle.framing.specs.Theorems as Cut
+use Rattle.signal_headers.specs.Headers.{headersOf}
+use Rattle.signal_bodies.specs.LeCreditBodies.{leCreditConnReq, leCreditFlowInd}
+use Rattle.sar_cut.specs.Cutting.{payloads}
+use Rattle.sar_frames.specs.Theorems as Cut
 use Rattle.channel.specs.declared.ChannelState.the-variants.{Connected, Disconnecting}
 use Rattle.channel.specs.declared.L2capChannelConfig.{L2capChannelConfig}
 use Rattle.channel.specs.declared.Setting.the-variants.{Default}

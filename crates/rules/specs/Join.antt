@@ -9,14 +9,14 @@ use lib.ListN.{length}
 use borrow.Author.Tests.{ltb-true, ltb-false, leb-false, eqb-true, eqb-false, eq-eqb, ne-eqb, lt-ltb, le-ltb, lt-leb}
 use Rattle.lists.specs.Choose.{choose-true, choose-false, if-cases}
 use Rattle.credit.specs.Account.{received}
-use Rattle.sar.specs.declared.Assembly.{Assembly}
-use Rattle.sar.specs.declared.Joined.{Joined}
-use Rattle.sar.specs.declared.Joined.the-variants as Joined
-use Rattle.sar.specs.Joining.{idle, assembled, reached, firstStep, joinStep}
-use Rattle.cutting.specs.declared.Plan.{Plan}
-use Rattle.cutting.specs.declared.Plan.the-variants as Plan
-use Rattle.cutting.specs.Cutting.{frameCount, framesLength, leastMps, planSend}
-use Rattle.cutting.specs.CutLaws.{plan-allowed}
+use Rattle.sar_join.specs.declared.Assembly.{Assembly}
+use Rattle.sar_join.specs.declared.Joined.{Joined}
+use Rattle.sar_join.specs.declared.Joined.the-variants as Joined
+use Rattle.sar_join.specs.Joining.{idle, assembled, reached, firstStep, joinStep}
+use Rattle.sar_cut.specs.declared.Plan.{Plan}
+use Rattle.sar_cut.specs.declared.Plan.the-variants as Plan
+use Rattle.sar_cut.specs.Cutting.{frameCount, framesLength, leastMps, planSend}
+use Rattle.sar_cut.specs.CutLaws.{plan-allowed}
 use Rattle.channel.specs.declared.Answer.the-variants.{Done, Refused, Frames}
 use Rattle.channel.specs.declared.Slot.{Slot}
 use Rattle.channel.specs.declared.Table.{Table}

@@ -13,8 +13,8 @@ use Rattle.lists.specs.Every.{every}
 use Rattle.credit.specs.declared.CreditFlowControl.{CreditFlowControl}
 use Rattle.credit.specs.Account.{creditSum}
 use Rattle.credit_laws.specs.AccountLaws.{received-sum, grant-settles}
-use Rattle.sar.specs.declared.Assembly.{Assembly}
-use Rattle.sar.specs.Joining.{idle}
+use Rattle.sar_join.specs.declared.Assembly.{Assembly}
+use Rattle.sar_join.specs.Joining.{idle}
 use Rattle.channel.specs.Limits.{creditsMost}
 use Rattle.channel.specs.declared.Queue.{Queue}
 use Rattle.channel.specs.declared.Slot.{Slot}

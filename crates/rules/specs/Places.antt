@@ -12,8 +12,8 @@ use lib.Seq.{sets, length-sets, getD-take, getD-drop, getD-set-same, getD-set-ot
 use borrow.Author.Tests.{lt-ltb, le-ltb, ltb-true, ltb-false, eqb-true, eqb-false}
 use Rattle.lists.specs.Choose.{choose, choose-true, choose-false, if-cases}
 use Rattle.octets.specs.Sets.{sets-before, sets-after, sets-inside}
-use Rattle.sar.specs.declared.Assembly.{Assembly}
-use Rattle.sar.specs.Joining.{isIdle, idle}
+use Rattle.sar_join.specs.declared.Assembly.{Assembly}
+use Rattle.sar_join.specs.Joining.{isIdle, idle}
 use Rattle.channel.specs.Limits.{depthMost}
 use Rattle.channel.specs.declared.Queue.{Queue}
 use Rattle.channel.specs.declared.Slot.{Slot}

@@ -11,8 +11,8 @@ use lib.ListN.{length, getD, take, drop, length-take, length-drop, List·getD-ma
 use lib.Seq.{getD-take, getD-drop, take-at, drop-at, length-take-le}
 use borrow.Author.Tests.{ltb-true, ltb-false}
 use Rattle.lists.specs.Choose.{if-cases}
-use Rattle.sar.specs.declared.Assembly.{Assembly}
-use Rattle.sar.specs.Joining.{idle}
+use Rattle.sar_join.specs.declared.Assembly.{Assembly}
+use Rattle.sar_join.specs.Joining.{idle}
 use Rattle.channel.specs.Limits.{depthMost}
 use Rattle.channel.specs.declared.Answer.the-variants.{Done}
 use Rattle.channel.specs.declared.Queue.{Queue}

@@ -14,8 +14,8 @@ use Rattle.lists.specs.Choose.{choose-true, choose-false, if-cases}
 use Rattle.codes.specs.declared.Refusal.{Refusal}
 use Rattle.codes.specs.declared.LeCreditConnResultCode.the-variants.{Success}
 use Rattle.credit.specs.Account.{creditSum}
-use Rattle.writer.specs.Writer.{encodeOf}
-use Rattle.signal.specs.declared.forms.Signal.the-variants.{LeCreditConnReq, LeCreditConnRes}
+use Rattle.signal_write.specs.Writer.{encodeOf}
+use Rattle.signal_forms.specs.declared.Signal.the-variants.{LeCreditConnReq, LeCreditConnRes}
 use Rattle.channel.specs.Limits.{creditsMost, identifierMost}
 use Rattle.channel.specs.declared.Answer.the-variants.{At, Link}
 use Rattle.channel.specs.declared.ChannelIndex.{ChannelIndex}

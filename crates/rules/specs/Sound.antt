@@ -7,8 +7,8 @@ use lib.Dec.{leb}
 use lib.ListN.{length, take}
 use Rattle.lists.specs.Every.{every}
 use Rattle.credit.specs.Account.{creditSum}
-use Rattle.sar.specs.declared.Assembly.{Assembly}
-use Rattle.sar.specs.Joining.{idle}
+use Rattle.sar_join.specs.declared.Assembly.{Assembly}
+use Rattle.sar_join.specs.Joining.{idle}
 use Rattle.channel.specs.Limits.{depthMost, creditsMost}
 use Rattle.channel.specs.declared.Queue.{Queue}
 use Rattle.channel.specs.declared.Slot.{Slot}

@@ -12,8 +12,8 @@ use Rattle.lists.specs.Sets.{sets-out}
 use Rattle.codes.specs.Codes.{resultOf}
 use Rattle.codes.specs.declared.LeCreditConnResultCode.{LeCreditConnResultCode}
 use Rattle.codes.specs.declared.ResultRead.the-variants.{Known}
-use Rattle.signal.specs.declared.forms.Signal.{Signal}
-use Rattle.signal.specs.declared.forms.Signal.the-variants.{ConnParamUpdateReq, ConnParamUpdateRes}
+use Rattle.signal_forms.specs.declared.Signal.{Signal}
+use Rattle.signal_forms.specs.declared.Signal.the-variants.{ConnParamUpdateReq, ConnParamUpdateRes}
 use Rattle.channel.specs.declared.Answer.the-variants.{Done}
 use Rattle.channel.specs.declared.L2capChannelConfig.{L2capChannelConfig}
 use Rattle.channel.specs.declared.Served.{Served}
@@ -29,7 +29,7 @@ use Rattle.definition.specs.Calls.{Window, frame, sends, down, plain, Request, 
 use Rattle.definition.specs.Ending.{itself, end, endOf, servedOf, gave, end-given, roomAfter}
 use Rattle.definition.specs.Run.{State, lent, nowhere}
 use Rattle.definition.specs.Roomless.{roomlessRequest, roomless-call}
-use Rattle.dispatching.specs.Framed.{frameIn, frame-in}
+use Rattle.call_dispatch.specs.Framed.{frameIn, frame-in}
 use Rattle.rules_code.specs.Called.{Within, Apart, before, behind, Lends, with-room, without-room, Called}
 
 -- ---- what is left, by what was lent

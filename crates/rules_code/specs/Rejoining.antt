@@ -7,7 +7,7 @@ use native.Mathlib.Omega.{arith}
 use lib.ListN.{length, take}
 use lib.Seq.{sets}
 use Rattle.lists.specs.Sets.{part-length, part-same}
-use Rattle.cutting.specs.Cutting.{payloads, framesOf}
+use Rattle.sar_cut.specs.Cutting.{payloads, framesOf}
 use Rattle.channel.specs.Limits.{handleMost, signalMost}
 use Rattle.channel.specs.declared.Answer.{Answer}
 use Rattle.channel.specs.declared.Answer.the-variants.{Frames, Job}

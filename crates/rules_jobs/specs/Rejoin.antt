@@ -15,8 +15,8 @@ use Rattle.lists.specs.Choose.{choose, choose-true, choose-false}
 use Rattle.octets.specs.Octets.{part, le16, u16At}
 use Rattle.octets.specs.Sets.{part-length}
 use Rattle.credit.specs.Account.{received}
-use Rattle.sar.specs.declared.Assembly.{Assembly}
-use Rattle.sar.specs.Joining.{isIdle, idle, joinStep}
+use Rattle.sar_join.specs.declared.Assembly.{Assembly}
+use Rattle.sar_join.specs.Joining.{isIdle, idle, joinStep}
 use Rattle.channel.specs.Limits.{cidBase, handleMost, depthMost, jobHead}
 use Rattle.channel.specs.declared.Answer.the-variants.{Done}
 use Rattle.channel.specs.declared.Given.the-variants.{Nothing, Is}

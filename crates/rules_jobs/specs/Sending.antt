@@ -1,5 +1,5 @@
 -- Exact rejoining at the table (F), from the sender's SDU to the job taken: what a send that is answered 0 writes, and that its frames, as they come to
--- the receiver, are that SDU again. Rests on the frames of a job (crate cutting) and on the receiving side (Rejoin.antt, Taking.antt).
+-- the receiver, are that SDU again. Rests on the frames of a job (crate sar_cut) and on the receiving side (Rejoin.antt, Taking.antt).
 use mathlib.Core.Path.{_≡_, refl, sym, ap, _∙_, subst}
 use mathlib.Core.List.{List, [], _∷_, _++_}
 use Prim.Native.Nat.{ℕ, zero, suc, _+_, _-_, _*_, _≤_, _<_, min}
@@ -11,10 +11,10 @@ use Rattle.lists.specs.Choose.{if-cases}
 use Rattle.codes.specs.declared.Refusal.{Refusal}
 use Rattle.octets.specs.Octets.{part, le16}
 use Rattle.octets.specs.Sets.{part-length}
-use Rattle.cutting.specs.Cutting.{ceil, frameCount, stream, pieces, payloads, frame, framesOf}
-use Rattle.cutting.specs.CutLaws.{split, ceil-zero, ceil-more, ceil-holds}
-use Rattle.framing.specs.FrameLaws.{pieces-nil, pieces-more, framed, framed-nil, framed-start, framed-turn, count-first}
-use Rattle.framing.specs.Theorems.{cut}
+use Rattle.sar_cut.specs.Cutting.{ceil, frameCount, stream, pieces, payloads, frame, framesOf}
+use Rattle.sar_cut.specs.CutLaws.{split, ceil-zero, ceil-more, ceil-holds}
+use Rattle.sar_frames.specs.FrameLaws.{pieces-nil, pieces-more, framed, framed-nil, framed-start, framed-turn, count-first}
+use Rattle.sar_frames.specs.Theorems.{cut}
 use Rattle.channel.specs.Limits.{handleMost, signalMost}
 use Rattle.channel.specs.declared.Answer.the-variants.{Frames, Job}
 use Rattle.channel.specs.declared.Slot.{Slot}

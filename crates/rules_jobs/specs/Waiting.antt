@@ -14,7 +14,7 @@ use Rattle.lists.specs.Choose.{choose-true, choose-false}
 use Rattle.lists.specs.Every.{every}
 use Rattle.octets.specs.Octets.{part}
 use Rattle.octets.specs.Sets.{sets-append, sets-before, sets-inside, part-length, part-at, part-before, part-after, part-same}
-use Rattle.sar.specs.Joining.{isIdle}
+use Rattle.sar_join.specs.Joining.{isIdle}
 use Rattle.channel.specs.Limits.{depthMost}
 use Rattle.channel.specs.declared.Queue.{Queue}
 use Rattle.channel.specs.declared.Slot.{Slot}

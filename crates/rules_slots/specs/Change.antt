@@ -5,15 +5,15 @@ use mathlib.Core.Path.{_≡_}
 use mathlib.Core.List.{List}
 use Prim.Native.Nat.{ℕ, _+_, _*_, _<_}
 use lib.ListN.{getD, take, drop}
-use Rattle.headers.specs.Headers.{bodyIn}
-use Rattle.bodies.specs.Bodies.{disconnectionReq, disconnectionRes}
-use Rattle.le_credit_bodies.specs.LeCreditBodies.{leCreditFlowInd}
-use Rattle.bodies.specs.declared.DisconnectionReqRead.the-variants as DisconnectionReq
-use Rattle.bodies.specs.declared.DisconnectionResRead.the-variants as DisconnectionRes
-use Rattle.le_credit_bodies.specs.declared.LeCreditFlowIndRead.the-variants as LeCreditFlowInd
-use Rattle.signal.specs.declared.forms.DisconnectionReq.{DisconnectionReq}
-use Rattle.signal.specs.declared.forms.DisconnectionRes.{DisconnectionRes}
-use Rattle.signal.specs.declared.forms.LeCreditFlowInd.{LeCreditFlowInd}
+use Rattle.signal_headers.specs.Headers.{bodyIn}
+use Rattle.signal_bodies.specs.Bodies.{disconnectionReq, disconnectionRes}
+use Rattle.signal_bodies.specs.LeCreditBodies.{leCreditFlowInd}
+use Rattle.signal_bodies.specs.declared.DisconnectionReqRead.the-variants as DisconnectionReq
+use Rattle.signal_bodies.specs.declared.DisconnectionResRead.the-variants as DisconnectionRes
+use Rattle.signal_bodies.specs.declared.le_credit.LeCreditFlowIndRead.the-variants as LeCreditFlowInd
+use Rattle.signal_forms.specs.declared.DisconnectionReq.{DisconnectionReq}
+use Rattle.signal_forms.specs.declared.DisconnectionRes.{DisconnectionRes}
+use Rattle.signal_forms.specs.declared.LeCreditFlowInd.{LeCreditFlowInd}
 use Rattle.channel.specs.Limits.{cidBase}
 use Rattle.channel.specs.declared.Table.{Table}
 use Rattle.definition.specs.Table.{slotAt, width}

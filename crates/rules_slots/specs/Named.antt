@@ -15,10 +15,10 @@ use Rattle.codes.specs.declared.ResultRead.{ResultRead}
 use Rattle.codes.specs.declared.ResultRead.the-variants.{Known, Unknown}
 use Rattle.credit.specs.declared.Grant.{Grant}
 use Rattle.credit.specs.declared.Grant.the-variants as Grant
-use Rattle.sar.specs.declared.Joined.{Joined}
-use Rattle.sar.specs.declared.Joined.the-variants as Joined
-use Rattle.cutting.specs.declared.Plan.{Plan}
-use Rattle.cutting.specs.declared.Plan.the-variants as Plan
+use Rattle.sar_join.specs.declared.Joined.{Joined}
+use Rattle.sar_join.specs.declared.Joined.the-variants as Joined
+use Rattle.sar_cut.specs.declared.Plan.{Plan}
+use Rattle.sar_cut.specs.declared.Plan.the-variants as Plan
 use Rattle.channel.specs.Limits.{cidBase}
 use Rattle.channel.specs.declared.Answer.{Answer}
 use Rattle.channel.specs.declared.Given.{Given}

@@ -1,4 +1,4 @@
--- A send lowers the peer's credits by the frames that it writes, and a take books the grant that it tells (Credits.antt). Carried by the plan (crate cutting) and
+-- A send lowers the peer's credits by the frames that it writes, and a take books the grant that it tells (Credits.antt). Carried by the plan (crate sar_cut) and
 -- by the account's own rule (crate credit).
 use mathlib.Core.Path.{_≡_, refl, sym, ap, _∙_, subst}
 use mathlib.Core.Bool.{false≢true}
@@ -10,10 +10,10 @@ use Rattle.credit.specs.declared.CreditFlowControl.{CreditFlowControl}
 use Rattle.credit.specs.declared.Grant.{Grant}
 use Rattle.credit.specs.declared.Grant.the-variants as Grant
 use Rattle.credit.specs.Account.{grantOf}
-use Rattle.cutting.specs.declared.Plan.{Plan}
-use Rattle.cutting.specs.declared.Plan.the-variants as Plan
-use Rattle.cutting.specs.Cutting.{frameCount, planSend}
-use Rattle.cutting.specs.CutLaws.{count-holds, plan-allowed}
+use Rattle.sar_cut.specs.declared.Plan.{Plan}
+use Rattle.sar_cut.specs.declared.Plan.the-variants as Plan
+use Rattle.sar_cut.specs.Cutting.{frameCount, planSend}
+use Rattle.sar_cut.specs.CutLaws.{count-holds, plan-allowed}
 use Rattle.channel.specs.declared.ChannelState.the-variants.{Connected}
 use Rattle.channel.specs.declared.Slot.{Slot}
 use Rattle.channel.specs.declared.Table.{Table}

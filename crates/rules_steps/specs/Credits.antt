@@ -6,9 +6,9 @@ use Rattle.octets.specs.Octets.{le16}
 use Rattle.codes.specs.declared.Refusal.{Refusal}
 use Rattle.credit.specs.declared.Grant.the-variants.{Nothing, Credits}
 use Rattle.credit.specs.Account.{granted, grantOf}
-use Rattle.cutting.specs.Cutting.{frameCount}
-use Rattle.signal.specs.declared.forms.Signal.the-variants.{LeCreditFlowInd}
-use Rattle.writer.specs.Writer.{encodeOf}
+use Rattle.sar_cut.specs.Cutting.{frameCount}
+use Rattle.signal_forms.specs.declared.Signal.the-variants.{LeCreditFlowInd}
+use Rattle.signal_write.specs.Writer.{encodeOf}
 use Rattle.channel.specs.declared.Answer.{Answer}
 use Rattle.channel.specs.declared.Answer.the-variants.{Done, Refused, Frames, Job}
 use Rattle.channel.specs.declared.ChannelState.the-variants.{Connected}

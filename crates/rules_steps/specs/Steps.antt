@@ -11,25 +11,25 @@ use Rattle.codes.specs.Codes.{resultNumber}
 use Rattle.codes.specs.declared.Refusal.{Refusal}
 use Rattle.codes.specs.declared.Refusal.the-variants as Refusal
 use Rattle.codes.specs.declared.ResultRead.the-variants.{Known}
-use Rattle.headers.specs.Headers.{headersOf, bodyIn}
-use Rattle.headers.specs.declared.Checked.{Checked}
-use Rattle.headers.specs.declared.Checked.the-variants.{Good, Cut, Past}
-use Rattle.bodies.specs.Bodies.{disconnectionReq, disconnectionRes}
-use Rattle.le_credit_bodies.specs.LeCreditBodies.{leCreditConnReq, leCreditConnRes, leCreditFlowInd}
-use Rattle.bodies.specs.declared.DisconnectionReqRead.{DisconnectionReqRead}
-use Rattle.bodies.specs.declared.DisconnectionReqRead.the-variants as DisconnectionReq
-use Rattle.bodies.specs.declared.DisconnectionResRead.{DisconnectionResRead}
-use Rattle.bodies.specs.declared.DisconnectionResRead.the-variants as DisconnectionRes
-use Rattle.le_credit_bodies.specs.declared.LeCreditConnReqRead.{LeCreditConnReqRead}
-use Rattle.le_credit_bodies.specs.declared.LeCreditConnReqRead.the-variants as LeCreditConnReq
-use Rattle.le_credit_bodies.specs.declared.LeCreditConnResRead.the-variants as LeCreditConnRes
-use Rattle.le_credit_bodies.specs.declared.LeCreditFlowIndRead.{LeCreditFlowIndRead}
-use Rattle.le_credit_bodies.specs.declared.LeCreditFlowIndRead.the-variants as LeCreditFlowInd
-use Rattle.signal.specs.declared.forms.DisconnectionReq.{DisconnectionReq}
-use Rattle.signal.specs.declared.forms.DisconnectionRes.{DisconnectionRes}
-use Rattle.signal.specs.declared.forms.LeCreditConnReq.{LeCreditConnReq}
-use Rattle.signal.specs.declared.forms.LeCreditConnRes.{LeCreditConnRes}
-use Rattle.signal.specs.declared.forms.LeCreditFlowInd.{LeCreditFlowInd}
+use Rattle.signal_headers.specs.Headers.{headersOf, bodyIn}
+use Rattle.signal_headers.specs.declared.Checked.{Checked}
+use Rattle.signal_headers.specs.declared.Checked.the-variants.{Good, Cut, Past}
+use Rattle.signal_bodies.specs.Bodies.{disconnectionReq, disconnectionRes}
+use Rattle.signal_bodies.specs.LeCreditBodies.{leCreditConnReq, leCreditConnRes, leCreditFlowInd}
+use Rattle.signal_bodies.specs.declared.DisconnectionReqRead.{DisconnectionReqRead}
+use Rattle.signal_bodies.specs.declared.DisconnectionReqRead.the-variants as DisconnectionReq
+use Rattle.signal_bodies.specs.declared.DisconnectionResRead.{DisconnectionResRead}
+use Rattle.signal_bodies.specs.declared.DisconnectionResRead.the-variants as DisconnectionRes
+use Rattle.signal_bodies.specs.declared.le_credit.LeCreditConnReqRead.{LeCreditConnReqRead}
+use Rattle.signal_bodies.specs.declared.le_credit.LeCreditConnReqRead.the-variants as LeCreditConnReq
+use Rattle.signal_bodies.specs.declared.le_credit.LeCreditConnResRead.the-variants as LeCreditConnRes
+use Rattle.signal_bodies.specs.declared.le_credit.LeCreditFlowIndRead.{LeCreditFlowIndRead}
+use Rattle.signal_bodies.specs.declared.le_credit.LeCreditFlowIndRead.the-variants as LeCreditFlowInd
+use Rattle.signal_forms.specs.declared.DisconnectionReq.{DisconnectionReq}
+use Rattle.signal_forms.specs.declared.DisconnectionRes.{DisconnectionRes}
+use Rattle.signal_forms.specs.declared.LeCreditConnReq.{LeCreditConnReq}
+use Rattle.signal_forms.specs.declared.LeCreditConnRes.{LeCreditConnRes}
+use Rattle.signal_forms.specs.declared.LeCreditFlowInd.{LeCreditFlowInd}
 use Rattle.channel.specs.Limits.{holdsMost, creditsMost}
 use Rattle.channel.specs.declared.Answer.{Answer}
 use Rattle.channel.specs.declared.Answer.the-variants.{Done, Refused, At, Link, Opened, Due, Frames, Job, Attention, Number, Event}

@@ -12,13 +12,13 @@ use Rattle.codes.specs.declared.ResultRead.the-variants.{Known}
 use Rattle.codes.specs.declared.Refusal.the-variants.{InsufficientSpace, NoChannelAvailable}
 use Rattle.credit.specs.declared.Grant.the-variants.{Credits}
 use Rattle.credit.specs.Account.{grantOf}
-use Rattle.headers.specs.Headers.{headersOf}
-use Rattle.headers.specs.declared.Checked.{Checked}
-use Rattle.headers.specs.declared.Checked.the-variants.{Good, Cut, Past}
-use Rattle.signal.specs.Forms.{rejectRes}
-use Rattle.signal.specs.declared.forms.Signal.{Signal}
-use Rattle.signal.specs.declared.forms.Signal.the-variants.{CommandRejectRes, DisconnectionReq, DisconnectionRes, ConnParamUpdateRes, LeCreditConnReq, LeCreditConnRes, LeCreditFlowInd}
-use Rattle.writer.specs.Writer.{encodeOf}
+use Rattle.signal_headers.specs.Headers.{headersOf}
+use Rattle.signal_headers.specs.declared.Checked.{Checked}
+use Rattle.signal_headers.specs.declared.Checked.the-variants.{Good, Cut, Past}
+use Rattle.signal_forms.specs.Forms.{rejectRes}
+use Rattle.signal_forms.specs.declared.Signal.{Signal}
+use Rattle.signal_forms.specs.declared.Signal.the-variants.{CommandRejectRes, DisconnectionReq, DisconnectionRes, ConnParamUpdateRes, LeCreditConnReq, LeCreditConnRes, LeCreditFlowInd}
+use Rattle.signal_write.specs.Writer.{encodeOf}
 use Rattle.channel.specs.declared.Answer.{Answer}
 use Rattle.channel.specs.declared.Answer.the-variants.{Done, Refused, At, Link, Opened, Due, Frames, Job, Attention, Number, Event}
 use Rattle.channel.specs.declared.ChannelState.the-variants.{PeerConnecting, Connected, PeerDisconnecting, Disconnecting}

@@ -1,8 +1,8 @@
 // Cuts jobs of lengths around every boundary and joins the frames again (rows "cut"), and makes single join steps (rows "join"). The file stdout
 // has what document 01 asks of each: the plan, the octets written, the answers, and what the slot's part of the room holds in the end.
-use cutting::Plan;
-use sar::Assembly;
-use sar::Joined;
+use sar_cut::Plan;
+use sar_join::Assembly;
+use sar_join::Joined;
 
 // The receiving slot: its open assembly, the jobs that wait, and the answer to the last payload.
 struct Side {
@@ -68,7 +68,7 @@ fn feed(places: &mut [u8], mtu: u16, d: u16, s: Side, payload: &[u8]) -> Side {
     if places.len() < (beside + 1) * place {
         return s;
     }
-    let step = sar_room::join_frame(places, place, mtu, 23, beside, a, queued, payload);
+    let step = sar_join_room::join_frame(places, place, mtu, 23, beside, a, queued, payload);
     match step {
         Joined::Refused(r) => Side {
             a,
@@ -161,7 +161,7 @@ fn send(out: &mut [u8], l: u16, mtu: u16, mps: u16, credits: u16) {
     let mut job = [0u8; 65535];
     let n = l as usize;
     fill(&mut job);
-    let plan = framing::send_job(out, 0x1234, mtu, mps, credits, &job[0..n]);
+    let plan = sar_frames::send_job(out, 0x1234, mtu, mps, credits, &job[0..n]);
     came(plan, l, out);
 }
 
@@ -194,7 +194,7 @@ fn small(mps: u16, l: u8, octets: u8) {
     let mut job = [0u8; 255];
     let mut out = [0u8; 255];
     fill(&mut job);
-    framing::cut_job(&mut out, 0x1234, mps, &job[0..l as usize]);
+    sar_frames::cut_job(&mut out, 0x1234, mps, &job[0..l as usize]);
     text(b"small");
     rejoin(l as u16, &out[0..octets as usize]);
     text(b"\n");

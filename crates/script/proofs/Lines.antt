@@ -5,12 +5,12 @@ use Prim.Native.Nat.{ℕ, suc}
 use lib.ListN.{length, getD}
 use borrow.Author.Tests.{ne-eqb}
 use Rattle.lists.specs.Choose.{choose}
-use Rattle.words.specs.declared.Word.{Word}
-use Rattle.words.specs.Words.{wordsOf, word, wordAt, textOf, wordAfter, place}
-use Rattle.words.specs.WordLaws.{place-word}
-use Rattle.commands.specs.declared.Command.the-variants as Command
-use Rattle.commands.specs.Commands.{oneWord, twoWords, threeWords}
-use Rattle.long_commands.specs.LongCommands.{fourWords, fiveWords, sixWords, sevenWords}
+use Rattle.text_words.specs.declared.Word.{Word}
+use Rattle.text_words.specs.Words.{wordsOf, word, wordAt, textOf, wordAfter, place}
+use Rattle.text_words.specs.WordLaws.{place-word}
+use Rattle.script_commands.specs.declared.Command.the-variants as Command
+use Rattle.script_commands.specs.Commands.{oneWord, twoWords, threeWords}
+use Rattle.script_commands.specs.LongCommands.{fourWords, fiveWords, sixWords, sevenWords}
 use Rattle.script.specs.Script.{commandOf}
 
 -- word k: where it stands, and its characters

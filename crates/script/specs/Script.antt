@@ -4,11 +4,11 @@ use Prim.Native.Nat.{ℕ}
 use lib.Dec.{eqb}
 use lib.ListN.{length, getD}
 use Rattle.lists.specs.Choose.{choose}
-use Rattle.words.specs.Words.{wordsOf, word, place}
-use Rattle.commands.specs.declared.Command.{Command}
-use Rattle.commands.specs.declared.Command.the-variants as Command
-use Rattle.commands.specs.Commands.{oneWord, twoWords, threeWords}
-use Rattle.long_commands.specs.LongCommands.{fourWords, fiveWords, sixWords, sevenWords}
+use Rattle.text_words.specs.Words.{wordsOf, word, place}
+use Rattle.script_commands.specs.declared.Command.{Command}
+use Rattle.script_commands.specs.declared.Command.the-variants as Command
+use Rattle.script_commands.specs.Commands.{oneWord, twoWords, threeWords}
+use Rattle.script_commands.specs.LongCommands.{fourWords, fiveWords, sixWords, sevenWords}
 
 unfoldable pub commandOf : List ℕ → Command
 commandOf line =

@@ -10,8 +10,8 @@ use borrow.Author.Tests.{lt-ltb, le-ltb}
 use Rattle.lists.specs.Choose.{choose-true, choose-false}
 use Rattle.octets.specs.Octets.{u16At}
 use Rattle.octets.specs.Numbers.{le16-back}
-use Rattle.signal.specs.declared.forms.Signal.{Signal}
-use Rattle.writer.specs.Writer.{pduOf, encodeOf, outOf, encode-short}
+use Rattle.signal_forms.specs.declared.Signal.{Signal}
+use Rattle.signal_write.specs.Writer.{pduOf, encodeOf, outOf, encode-short}
 
 -- length and CID stand before a signal (Core Vol 3 Part A 3.1); the length counts what follows the two
 pub pdu-length : (code id : ℕ) (fs : List ℕ) → u16At (pduOf code id fs) 0 ≡ 4 + 2 * length fs

@@ -9,9 +9,9 @@ use lib.ListN.{length}
 use borrow.Author.Tests.{le-ltb}
 use Rattle.lists.specs.Choose.{choose, if-cases}
 use Rattle.lists.specs.Fuel.{fuelled, whole, whole-eq}
-use Rattle.headers.specs.declared.Checked.{Checked}
-use Rattle.headers.specs.declared.Checked.the-variants.{Good, Cut, Past}
-use Rattle.headers.specs.Headers.{headersOf, restIf, restOf}
+use Rattle.signal_headers.specs.declared.Checked.{Checked}
+use Rattle.signal_headers.specs.declared.Checked.the-variants.{Good, Cut, Past}
+use Rattle.signal_headers.specs.Headers.{headersOf, restIf, restOf}
 use Rattle.signal_laws.specs.Headers.{rest-good, rest-less}
 
 -- the calls that feed a PDU: none where it is empty, else one, and those for what that leaves

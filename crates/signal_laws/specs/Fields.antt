@@ -7,7 +7,7 @@ use native.Mathlib.Omega.{arith}
 use lib.ListN.{length}
 use Rattle.octets.specs.Octets.{u16At}
 use Rattle.octets.specs.Numbers.{lo-back, hi-back, lo-octet, hi-octet}
-use Rattle.writer.specs.Writer.{octetsOf}
+use Rattle.signal_write.specs.Writer.{octetsOf}
 
 -- octets are below 256, and fields below 65,536
 abbrev pub Below : ℕ → List ℕ → Type 0

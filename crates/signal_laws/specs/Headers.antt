@@ -11,14 +11,14 @@ use Rattle.lists.specs.Choose.{choose, if-cases}
 use Rattle.lists.specs.Fuel.{whole, fuelled}
 use Rattle.octets.specs.Octets.{u16At}
 use Rattle.octets.specs.Numbers.{le16-back}
-use Rattle.headers.specs.Headers.{headerOf, headersOf, headers-eq, sizeOf, bodyIn, restOf, restIf}
-use Rattle.first_signal.specs.declared.HeaderRead.the-variants as HeaderRead
-use Rattle.headers.specs.declared.Checked.{Checked}
-use Rattle.headers.specs.declared.Checked.the-variants.{Good, Cut, Past}
-use Rattle.signal.specs.declared.forms.Signal.{Signal}
+use Rattle.signal_headers.specs.Headers.{headerOf, headersOf, headers-eq, sizeOf, bodyIn, restOf, restIf}
+use Rattle.signal_headers.specs.declared.first.HeaderRead.the-variants as HeaderRead
+use Rattle.signal_headers.specs.declared.Checked.{Checked}
+use Rattle.signal_headers.specs.declared.Checked.the-variants.{Good, Cut, Past}
+use Rattle.signal_forms.specs.declared.Signal.{Signal}
 use Rattle.signal_read.specs.declared.SignalRead.the-variants as SignalRead
 use Rattle.signal_read.specs.SignalRead.{signalOf}
-use Rattle.writer.specs.Writer.{octetsOf, pduOf, codeOf, fieldsOf, encodeOf}
+use Rattle.signal_write.specs.Writer.{octetsOf, pduOf, codeOf, fieldsOf, encodeOf}
 use Rattle.signal_laws.specs.Fields.{octets-length}
 use Rattle.signal_laws.specs.RoundTrip.{round-trip}
 

@@ -13,14 +13,14 @@ use Rattle.octets.specs.Numbers.{le16-back}
 use Rattle.codes.specs.Codes.{resultOf, result-back, result-exact}
 use Rattle.codes.specs.declared.ResultRead.{ResultRead}
 use Rattle.codes.specs.declared.ResultRead.the-variants.{Known, Unknown}
-use Rattle.bodies.specs.Bodies.{commandRejectRes, disconnectionReq, disconnectionRes, connParamUpdateReq, connParamUpdateRes}
-use Rattle.le_credit_bodies.specs.LeCreditBodies.{leCreditConnReq, leCreditConnRes, leCreditFlowInd, resIf}
+use Rattle.signal_bodies.specs.Bodies.{commandRejectRes, disconnectionReq, disconnectionRes, connParamUpdateReq, connParamUpdateRes}
+use Rattle.signal_bodies.specs.LeCreditBodies.{leCreditConnReq, leCreditConnRes, leCreditFlowInd, resIf}
 use Rattle.signal_read.specs.SignalRead.{fromCommandRejectRes, fromDisconnectionReq, fromDisconnectionRes, fromConnParamUpdateReq, fromConnParamUpdateRes, fromLeCreditConnReq, fromLeCreditConnRes, fromLeCreditFlowInd, signalOf}
 use Rattle.signal_read.specs.declared.SignalRead.{SignalRead}
 use Rattle.signal_read.specs.declared.SignalRead.the-variants.{NotSupported, Decode, Is}
-use Rattle.signal.specs.declared.forms.Signal.{Signal}
-use Rattle.signal.specs.declared.forms.Signal.the-variants.{CommandRejectRes, DisconnectionReq, DisconnectionRes, ConnParamUpdateReq, ConnParamUpdateRes, LeCreditConnReq, LeCreditConnRes, LeCreditFlowInd}
-use Rattle.writer.specs.Writer.{octetsOf, codeOf, fieldsOf}
+use Rattle.signal_forms.specs.declared.Signal.{Signal}
+use Rattle.signal_forms.specs.declared.Signal.the-variants.{CommandRejectRes, DisconnectionReq, DisconnectionRes, ConnParamUpdateReq, ConnParamUpdateRes, LeCreditConnReq, LeCreditConnRes, LeCreditFlowInd}
+use Rattle.signal_write.specs.Writer.{octetsOf, codeOf, fieldsOf}
 use Rattle.signal_laws.specs.Fields.{Below, fieldsAt, octets-back}
 
 -- what is written decodes to what was meant, in every form

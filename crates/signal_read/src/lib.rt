@@ -1,21 +1,21 @@
 // Any signal, read: its body by its code (Core Vol 3 Part A 4).
-use bodies::CommandRejectResRead;
-use bodies::ConnParamUpdateReqRead;
-use bodies::ConnParamUpdateResRead;
-use bodies::DisconnectionReqRead;
-use bodies::DisconnectionResRead;
-use bodies::read_command_reject_res;
-use bodies::read_conn_param_update_req;
-use bodies::read_conn_param_update_res;
-use bodies::read_disconnection_req;
-use bodies::read_disconnection_res;
-use le_credit_bodies::LeCreditConnReqRead;
-use le_credit_bodies::LeCreditConnResRead;
-use le_credit_bodies::LeCreditFlowIndRead;
-use le_credit_bodies::read_le_credit_conn_req;
-use le_credit_bodies::read_le_credit_conn_res;
-use le_credit_bodies::read_le_credit_flow_ind;
-use signal::forms::Signal;
+use signal_bodies::CommandRejectResRead;
+use signal_bodies::ConnParamUpdateReqRead;
+use signal_bodies::ConnParamUpdateResRead;
+use signal_bodies::DisconnectionReqRead;
+use signal_bodies::DisconnectionResRead;
+use signal_bodies::le_credit::LeCreditConnReqRead;
+use signal_bodies::le_credit::LeCreditConnResRead;
+use signal_bodies::le_credit::LeCreditFlowIndRead;
+use signal_bodies::le_credit::read_le_credit_conn_req;
+use signal_bodies::le_credit::read_le_credit_conn_res;
+use signal_bodies::le_credit::read_le_credit_flow_ind;
+use signal_bodies::read_command_reject_res;
+use signal_bodies::read_conn_param_update_req;
+use signal_bodies::read_conn_param_update_res;
+use signal_bodies::read_disconnection_req;
+use signal_bodies::read_disconnection_res;
+use signal_forms::Signal;
 ghost use mathlib.Core.Path.{_≡_};
 ghost use Rattle.signal_read.specs.SignalRead.{signalOf};
 

@@ -1,12 +1,12 @@
 // Replays the vectors of the file stdin over headers, signal and writer: a line is a PDU in hex, '=', and what is to come of it; a line
 // without '=' says what follows. Each line that differs is written, and at the end how many there are.
-use first_signal::HeaderRead;
-use headers::Checked;
 use octets::least;
 use octets::put;
-use signal::forms::Signal;
+use signal_forms::Signal;
+use signal_headers::Checked;
+use signal_headers::first::HeaderRead;
 use signal_read::SignalRead;
-use writer::SignalWritten;
+use signal_write::SignalWritten;
 ghost use mathlib.Core.Path.{_≡_};
 ghost use Prim.Native.Nat.{_≤_};
 ghost use lib.ListN.{length};
@@ -57,7 +57,7 @@ fn valid(s: Signal) -> u8 {
     let Signal::ConnParamUpdateReq(p) = s else {
         return 0;
     };
-    if parameter_rule::parameters_valid(p) {
+    if signal_parameter_rule::parameters_valid(p) {
         1
     } else {
         0
@@ -79,7 +79,7 @@ fn again(code: u8, id: u8, body: &[u8], head: &mut [u8], out: &mut [u8]) -> usiz
         SignalRead::Is(s) => {
             put(head, 2, 3);
             put(head, 4, valid(s));
-            match writer::write_signal(out, id, s) {
+            match signal_write::write_signal(out, id, s) {
                 SignalWritten::NoRoom => 0,
                 SignalWritten::Octets(n) => n,
             }
@@ -90,8 +90,8 @@ fn again(code: u8, id: u8, body: &[u8], head: &mut [u8], out: &mut [u8]) -> usiz
 // What comes of a PDU: `head` gets what the header check finds (0 good, 1 cut, 2 past), the identifier of a header past the PDU, what
 // `again` says, and how many octets are left after the first signal.
 fn answer(pdu: &[u8], head: &mut [u8], out: &mut [u8]) -> usize {
-    put(head, 3, (headers::rest(pdu).len() % 256) as u8);
-    match headers::check_headers(pdu) {
+    put(head, 3, (signal_headers::rest(pdu).len() % 256) as u8);
+    match signal_headers::check_headers(pdu) {
         Checked::Cut => {
             put(head, 0, 1);
             0
@@ -101,9 +101,9 @@ fn answer(pdu: &[u8], head: &mut [u8], out: &mut [u8]) -> usize {
             put(head, 1, id);
             0
         }
-        Checked::Good => match headers::read_header(pdu) {
+        Checked::Good => match signal_headers::read_header(pdu) {
             HeaderRead::Short => 0,
-            HeaderRead::Is(h) => again(h.code, h.identifier, headers::body(pdu), head, out),
+            HeaderRead::Is(h) => again(h.code, h.identifier, signal_headers::body(pdu), head, out),
         },
     }
 }

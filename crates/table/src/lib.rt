@@ -1,73 +1,56 @@
-// The table by value: slots read and stored, the one search, freeing. Total: a slot past the end reads as an unused one and takes no store.
+// What a call gives back. The crate `table` has the table's slots, and the crate `table_identifiers` the numbers that name them.
 // Each contract is the equation with the function of that name in the crate `definition`.
+mod slots;
+
 ghost use mathlib.Core.Path.{_≡_};
-ghost use Rattle.lists.specs.Choose.{choose};
-ghost use Rattle.channel.specs.declared.Answer.the-variants.{Done};
-ghost use Rattle.definition.specs.Table.{slotAt, putSlot, found, freed};
-ghost use Rattle.definition.specs.Outcome.{sweep};
-ghost use Rattle.slot.specs.Want.{wanted};
-use channel::SLOTS;
+ghost use Rattle.definition.specs.Table.{putSlot};
+ghost use Rattle.definition.specs.Outcome.{refuse, done};
+ghost use Rattle.definition.specs.Ending.{gave, servedOf};
+use channel::Answer;
+use channel::Served;
 use channel::Slot;
 use channel::Table;
-use slot::Want;
+use codes::Refusal;
+pub use slots::find;
+pub use slots::free_all;
+pub use slots::put_slot;
+pub use slots::slot_at;
+pub use table_identifiers::cid_of;
+pub use table_identifiers::index_at;
+pub use table_identifiers::is_cid;
+pub use table_identifiers::next_id;
+pub use table_identifiers::number;
+pub use table_identifiers::slot_of;
+pub use table_identifiers::spent;
 
-pub fn slot_at(t: Table, s: usize) -> Slot
-    ensures { λ r. ⌜ r ≡ slotAt t s ⌝ }
+// Nothing changes, and the call is refused.
+pub fn refused(t: Table, r: Refusal) -> Served
+    ensures { λ x. ⌜ x ≡ servedOf (refuse t r) ⌝ }
 {
-    if s < SLOTS {
-        t.slots[s]
-    } else {
-        slot::fresh(0)
+    still(t, Answer::Refused(r), 0)
+}
+
+// Nothing changes, and there is nothing to tell.
+pub fn done(t: Table) -> Served
+    ensures { λ x. ⌜ x ≡ servedOf (done t) ⌝ }
+{
+    still(t, Answer::Done, 0)
+}
+
+// No slot changes; so many octets were written.
+pub fn still(t: Table, a: Answer, octets: usize) -> Served
+    ensures { λ x. ⌜ x ≡ gave a t octets ⌝ }
+{
+    Served {
+        answer: a,
+        table: t,
+        octets,
     }
 }
 
-pub fn put_slot(t: Table, s: usize, x: Slot) -> Table
-    ensures { λ r. ⌜ r ≡ putSlot t s x ⌝ }
+// Slot s becomes x; so many octets were written.
+pub fn changed(t: Table, s: usize, x: Slot, a: Answer, octets: usize) -> Served
+    ensures { λ r. ⌜ r ≡ gave a (putSlot t s x) octets ⌝ }
 {
-    if s < SLOTS {
-        let mut u = t;
-        u.slots[s] = x;
-        u
-    } else {
-        t
-    }
-}
-
-// The lowest slot that is wanted, and N where none is.
-pub fn find(t: Table, w: Want) -> usize
-    ensures { λ r. ⌜ r ≡ found (wanted w) t ⌝ }
-{
-    let n = octets::least(t.n, SLOTS);
-    let mut i = 0;
-    while i < n {
-        let x = t.slots[i];
-        if slot::fits(x, w) {
-            return i;
-        }
-        i += 1;
-    }
-    i
-}
-
-// The slot, freed if it is wanted.
-fn freed_if(x: Slot, w: Want) -> Slot
-    ensures { λ r. ⌜ r ≡ choose (wanted w x) (freed x) x ⌝ }
-{
-    if slot::fits(x, w) { slot::freed(x) } else { x }
-}
-
-// Every slot that is wanted is freed.
-pub fn free_all(t: Table, w: Want) -> Table
-    ensures { λ r. ⌜ r ≡ sweep t (wanted w) Done .table ⌝ }
-{
-    let n = octets::least(t.n, SLOTS);
-    let mut u = t;
-    let mut i = 0;
-    while i < n {
-        let x = u.slots[i];
-        let y = freed_if(x, w);
-        u.slots[i] = y;
-        i += 1;
-    }
-    u
+    still(put_slot(t, s, x), a, octets)
 }

@@ -1,4 +1,4 @@
-//! The table's octets (crates/layout/specs/Layout.antt): 16 of sizes and the identifier, 32 of SPSMs, then a column of 16 for each octet of a
+//! The table's octets (crates/edge_layout/specs/Layout.antt): 16 of sizes and the identifier, 32 of SPSMs, then a column of 16 for each octet of a
 //! slot's row. A table has one spelling, so that two tables are equal where their octets are.
 
 use language::{Policy, SlotView, Stale, State, View};

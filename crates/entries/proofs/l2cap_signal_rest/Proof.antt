@@ -1,4 +1,4 @@
--- `entries::l2cap_signal_rest` meets its contract: the length of what `remaining::rest` gives.
+-- `entries::l2cap_signal_rest` meets its contract: the length of what `signal_headers::rest` gives.
 use mathlib.Core.Path.{ap}
 use lib.ListN.{length}
 use borrow.Author.Needs.{needs}

@@ -1,2 +1,0 @@
--- A frame that has passed the first refusals.
-pub mod Admitted

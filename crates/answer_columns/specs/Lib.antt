@@ -1,2 +1,0 @@
--- What an answer tells.
-pub mod Told

@@ -1,2 +1,0 @@
--- What the row of a call shows of its answer.
-pub mod Answers

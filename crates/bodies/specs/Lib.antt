@@ -1,2 +1,0 @@
--- The bodies of the signals, read.
-pub mod Bodies

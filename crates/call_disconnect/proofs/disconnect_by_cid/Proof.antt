@@ -1,0 +1,101 @@
+-- `call_disconnect::disconnect_by_cid` meets its contract: behind the gate code and definition make the same tests in the same order.
+use mathlib.Core.Path.{sym, ap, _∙_}
+use Rattle.definition.specs.Ending.{end-still}
+use Rattle.table_gate.specs.Passed.{passed}
+use Rattle.table_room.specs.Placed.{room-of}
+use Rattle.lists.specs.Choose.{choose}
+use Rattle.definition.specs.Mem.{sizes}
+use Rattle.definition.specs.Closing.{disconnectByCid}
+use native.Mathlib.Omega.{arith}
+use borrow.Author.Needs.{needs}
+use Rattle.channel.specs.declared.ChannelIndex.{ChannelIndex}
+use Rattle.table.specs.Named.{named}
+use Rattle.call_disconnect.proofs.disconnect_by_cid.Statement.{statement}
+use Rattle.call_disconnect.proofs.disconnect_by_cid.Tie as tie
+
+gate-requires : tie.Need-gate-requires
+gate-requires c κs = search needs
+
+enum-known-r : tie.Need-enum-known-r
+enum-known-r c = search needs
+
+refused-requires : tie.Need-refused-requires
+refused-requires c κs = search needs
+
+enum-told : tie.Need-enum-told
+enum-told c = search needs
+
+is-cid-requires : tie.Need-is-cid-requires
+is-cid-requires c κs = search needs
+
+slot-of-requires : tie.Need-slot-of-requires
+slot-of-requires c κs =
+    let p = passed _ _ _ _ _ (sym (c .before .before .before .before .gate .ensures) ∙ c .before .before .enum-told .given .1) in
+    let g = c .before .before .before .before .before .before .args in
+    let h = named (g .t) (g .cid .0) (sym (c .before .is-cid .ensures) ∙ c .if1 .taken) in
+    omega (arith, h, p .sizes .n-most)
+
+number-requires : tie.Need-number-requires
+number-requires c κs = search needs
+
+disconnecting-requires : tie.Need-disconnecting-requires
+disconnecting-requires c κs =
+    let p = passed _ _ _ _ _ (sym (c .before .before .before .before .before .before .before .gate .ensures) ∙ c .before .before .before .before .before .enum-told .given .1) in
+    let g = c .before .before .before .before .before .before .before .before .before .args in
+    let h = named (g .t) (g .cid .0) (sym (c .before .before .before .before .is-cid .ensures) ∙ c .before .before .before .if1 .taken) in
+    (room-of p, rw (c .before .number .ensures ∙ ap (λ (i : ChannelIndex). i .0) (c .before .before .slot-of .ensures)) h)
+
+same-length : tie.Need-same-length
+same-length c = search needs
+
+returns : tie.Need-returns
+unfolding choose sizes disconnectByCid
+returns c =
+    rw (
+      ← c .before .before .before .before .before .before .before .before .before .before .gate .ensures,
+      c .before .before .before .before .before .before .before .before .enum-told .given .1,
+      ← c .before .before .before .before .before .before .before .is-cid .ensures,
+      c .before .before .before .before .before .before .if1 .taken,
+      ← (c .before .before .before .before .number .ensures ∙ ap (λ (i : ChannelIndex). i .0) (c .before .before .before .before .before .slot-of .ensures)),
+    ) (c .before .before .disconnecting .ensures)
+
+done-requires : tie.Need-done-requires
+done-requires c κs = search needs
+
+returns-2 : tie.Need-returns-2
+unfolding choose sizes disconnectByCid
+returns-2 c =
+    rw (
+      ← c .before .before .before .before .gate .ensures,
+      c .before .before .r .given .1,
+      c .refused .ensures,
+    ) (sym (end-still _ _ _ _ _ _ _))
+
+returns-3 : tie.Need-returns-3
+unfolding choose sizes disconnectByCid
+returns-3 c =
+    rw (
+      ← c .before .before .before .before .before .gate .ensures,
+      c .before .before .before .enum-told .given .1,
+      ← c .before .before .is-cid .ensures,
+      c .before .if1 .left,
+      c .done .ensures,
+    ) (sym (end-still _ _ _ _ _ _ _))
+
+pub disconnect-by-cid-spec : {M : Type 1} → statement M
+disconnect-by-cid-spec =
+    tie.close
+    (tie.spec
+    gate-requires
+    enum-known-r
+    refused-requires
+    enum-told
+    is-cid-requires
+    slot-of-requires
+    number-requires
+    disconnecting-requires
+    same-length
+    returns
+    done-requires
+    returns-2
+    returns-3)

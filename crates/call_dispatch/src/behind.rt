@@ -1,0 +1,43 @@
+// A frame in, behind the gate: whose frame it is, one credit used, and the payload joined. Its
+// contract is the equation with what follows the gate in the definition, for every payload.
+ghost use mathlib.Core.Path.{_≡_};
+ghost use mathlib.Core.Bool.{true};
+ghost use mathlib.Core.List.{[]};
+ghost use lib.ListN.{length};
+ghost use Rattle.definition.specs.Table.{wellFormed};
+ghost use Rattle.definition.specs.Calls.{frame, jobs};
+ghost use Rattle.definition.specs.Ending.{end, endOf};
+ghost use Rattle.table_room.specs.Placed.{RoomOf};
+ghost use Rattle.call_dispatch.specs.Admitted.{headOf, admitted};
+use channel::Cid;
+use channel::Served;
+use channel::Table;
+use codes::Refusal;
+
+// A frame that passed the first refusals.
+pub fn admitted(t: Table, room: &mut [u8], link: u16, cid: Cid, payload: &[u8]) -> Served
+    requires { ⌜ RoomOf t (length (now room)) × (wellFormed t ≡ true) ⌝ }
+    ensures { λ r. ⌜ end r (now (room .exit)) [] [] ≡ endOf t (jobs t (frame link (cid .0) (now (payload .entry)))) (now (room .entry)) [] []
+        (admitted t link (cid .0) (headOf t (cid .0) (now (payload .entry))) (length (jobs t (frame link (cid .0) (now (payload .entry)))))) ⌝ }
+{
+    if !table::is_cid(t, cid) {
+        return table::refused(t, Refusal::InvalidChannelId);
+    }
+    let s = table::number(table::slot_of(cid));
+    let x = table::slot_at(t, s);
+    let k = x.state;
+    if !table_state::is_connected(k) {
+        return table::done(t);
+    }
+    let account = x.account;
+    let stranger = x.link != link;
+    let no_credit = account.credits == 0;
+    if stranger {
+        return table::refused(t, Refusal::NotFound);
+    }
+    if no_credit {
+        return table::refused(t, Refusal::OutOfMemory);
+    }
+    let y = table_slot::with_account(x, credit_in_place::received_through(account, 1));
+    call_dispatch_join::join(t, room, s, y, payload)
+}

@@ -1,0 +1,42 @@
+// The two parameter senders under the original's names: a parameter request and a parameter response of ours, each with the next identifier.
+mod telling;
+
+ghost use mathlib.Core.Path.{_≡_};
+ghost use mathlib.Core.List.{[]};
+ghost use lib.ListN.{length};
+ghost use Rattle.definition.specs.Ending.{end, endOf};
+ghost use Rattle.definition.specs.Asking.{sendConnParamUpdateReq, sendConnParamUpdateRes};
+use channel::Served;
+use channel::Table;
+use signal_forms::ConnParamUpdateReq;
+use signal_forms::ConnParamUpdateRes;
+use signal_forms::Signal;
+
+// Asks the peer for connection parameters.
+pub fn send_conn_param_update_req(
+    t: Table,
+    signal: &mut [u8],
+    link: u16,
+    min: u16,
+    max: u16,
+    latency: u16,
+    timeout: u16,
+) -> Served
+    ensures { λ r. ⌜ end r [] (now (signal .exit)) [] ≡ endOf t [] [] (now (signal .entry)) [] (sendConnParamUpdateReq t (length (now (signal .entry))) link min max latency timeout) ⌝ }
+{
+    let form = ConnParamUpdateReq {
+        min,
+        max,
+        latency,
+        timeout,
+    };
+    telling::send_signal(t, signal, link, Signal::ConnParamUpdateReq(form))
+}
+
+// Answers the peer's request for connection parameters: 0 accepts, 1 refuses.
+pub fn send_conn_param_update_res(t: Table, signal: &mut [u8], link: u16, result: u16) -> Served
+    ensures { λ r. ⌜ end r [] (now (signal .exit)) [] ≡ endOf t [] [] (now (signal .entry)) [] (sendConnParamUpdateRes t (length (now (signal .entry))) link result) ⌝ }
+{
+    let form = ConnParamUpdateRes { result };
+    telling::send_signal(t, signal, link, Signal::ConnParamUpdateRes(form))
+}

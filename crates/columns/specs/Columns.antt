@@ -1,9 +1,0 @@
--- Columns of a row (docs/CHANRUN.md).
-use mathlib.Core.List.{List, [], _∷_, _++_}
-use Prim.Native.Nat.{ℕ}
-use Rattle.decimal_write.specs.NumberText.{numberText}
-
--- a column is a space and a number
-unfoldable pub columnsText : List ℕ → List ℕ
-columnsText [] = []
-columnsText (n ∷ ns) = (32 ∷ numberText n) ++ columnsText ns

@@ -1,2 +1,0 @@
--- The table of calls of a script.
-pub mod Commands

@@ -1,3 +1,0 @@
--- Decimal numbers, read; and what is written is read again.
-pub mod Decimal
-pub mod DecimalLaws

@@ -1,3 +1,0 @@
--- Decimal numbers, written.
-pub mod NumberText
-pub mod NumberTextLaws

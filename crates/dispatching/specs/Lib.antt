@@ -1,2 +1,0 @@
--- A frame in, from its payload.
-pub mod Framed

@@ -1,2 +1,0 @@
--- Holding, on octets.
-pub mod Holding

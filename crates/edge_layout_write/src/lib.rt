@@ -1,0 +1,78 @@
+// A slot written into its row of the table's octets: our side (`local`), then the peer's, what is held and what waits. `edge_layout_encode`
+// writes the whole table. It stands on `edge_layout`, whose specs/Layout.antt says what the octets mean.
+mod local;
+
+use channel::Peer;
+use channel::Queue;
+use channel::SLOTS;
+use channel::Slot;
+use edge_layout::COUNT;
+use edge_layout::HAVE;
+use edge_layout::HOLD;
+use edge_layout::LENS;
+use edge_layout::PEER_CID;
+use edge_layout::PEER_CREDITS;
+use edge_layout::PEER_MPS;
+use edge_layout::PEER_MTU;
+use edge_layout::WANT;
+use local::put_account;
+use local::put_local;
+use local::put_number;
+use local::put_octet;
+use local::put_state;
+use sar_join::Assembly;
+ghost use mathlib.Core.Path.{_≡_};
+ghost use Prim.Native.Nat.{_≤_, _<_};
+ghost use lib.ListN.{length};
+ghost use Rattle.channel.specs.Limits.{slotsMost};
+ghost use Rattle.edge_layout.specs.Layout.{tableOctets, peerOctets, assemblyOctets, queueOctets, row};
+ghost use Rattle.edge_layout_write.specs.Puts.{puts};
+
+fn put_peer(t: &mut [u8], i: usize, p: Peer)
+    requires { ⌜ (tableOctets ≤ length (now t)) × (i < slotsMost) ⌝ }
+    ensures { λ _. ⌜ now (t .exit) ≡ puts (now (t .entry)) i 18 (peerOctets p) ⌝ }
+{
+    put_number(t, i, PEER_CID, p.cid);
+    put_number(t, i, PEER_MPS, p.mps);
+    put_number(t, i, PEER_MTU, p.mtu);
+    put_number(t, i, PEER_CREDITS, p.credits);
+}
+
+fn put_assembly(t: &mut [u8], i: usize, a: Assembly)
+    requires { ⌜ (tableOctets ≤ length (now t)) × (i < slotsMost) ⌝ }
+    ensures { λ _. ⌜ now (t .exit) ≡ puts (now (t .entry)) i 26 (assemblyOctets a) ⌝ }
+{
+    put_number(t, i, HAVE, a.have);
+    put_number(t, i, WANT, a.want);
+}
+
+fn put_queue(t: &mut [u8], i: usize, q: Queue)
+    requires { ⌜ (tableOctets ≤ length (now t)) × (i < slotsMost) ⌝ }
+    ensures { λ _. ⌜ now (t .exit) ≡ puts (now (t .entry)) i 30 (queueOctets q) ⌝ }
+{
+    let lens = q.lens;
+    put_octet(t, i, COUNT, q.count);
+    put_number(t, i, LENS, lens[0]);
+    put_number(t, i, LENS + 2 * SLOTS, lens[1]);
+    put_number(t, i, LENS + 4 * SLOTS, lens[2]);
+    put_number(t, i, LENS + 6 * SLOTS, lens[3]);
+}
+
+// Writes the slot's octets into row i.
+pub fn put_slot(t: &mut [u8], i: usize, x: Slot)
+    requires { ⌜ (tableOctets ≤ length (now t)) × (i < slotsMost) ⌝ }
+    ensures { λ _. ⌜ now (t .exit) ≡ puts (now (t .entry)) i 0 (row x) ⌝ }
+{
+    let k = x.state;
+    put_state(t, i, k);
+    put_local(t, i, x.link, x.spsm, x.mps, x.mtu);
+    let a = x.account;
+    put_account(t, i, a);
+    put_octet(t, i, HOLD, x.hold);
+    let p = x.peer;
+    put_peer(t, i, p);
+    let b = x.assembly;
+    put_assembly(t, i, b);
+    let q = x.queue;
+    put_queue(t, i, q);
+}

@@ -1,0 +1,2 @@
+-- Pending, on octets.
+pub mod Pending

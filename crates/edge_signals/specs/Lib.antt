@@ -1,0 +1,2 @@
+-- Signals, on octets.
+pub mod Signals

@@ -1,2 +1,0 @@
--- How each form's code comes to the definition's end.
-pub mod Endings

@@ -1,2 +1,0 @@
--- The first signal of a PDU.
-pub mod FirstSignal

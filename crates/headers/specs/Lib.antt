@@ -1,2 +1,0 @@
--- What the headers of the signals in a PDU say.
-pub mod Headers

@@ -1,2 +1,0 @@
--- A frame joined in its slot's part of the room.
-pub mod Joins

@@ -1,2 +1,0 @@
--- Every slot's row written, and the head before them: the spelling of the table.
-pub mod Whole

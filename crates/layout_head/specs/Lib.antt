@@ -1,2 +1,0 @@
--- The head in its parts.
-pub mod Head

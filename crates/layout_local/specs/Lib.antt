@@ -1,2 +1,0 @@
--- What is written into a row.
-pub mod Puts

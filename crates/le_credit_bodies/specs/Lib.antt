@@ -1,2 +1,0 @@
--- The bodies of the signals of LE credit based connections, read.
-pub mod LeCreditBodies

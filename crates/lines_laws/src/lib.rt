@@ -1,1 +1,0 @@
-// No functions: the laws of `lines` (specs/), which say that the lines of an input do not depend on the pieces in which it is read.

@@ -1,2 +1,0 @@
--- The table of long calls.
-pub mod LongCommands

@@ -1,0 +1,14 @@
+-- `on_conn_req::asked` meets its contract: what is not named is as in a slot never used (`fresh`).
+use borrow.Author.Needs.{needs}
+use Rattle.on_conn_req.proofs.asked.Statement.{statement}
+use Rattle.on_conn_req.proofs.asked.Tie as tie
+
+fresh-requires : tie.Need-fresh-requires
+fresh-requires c κs = search needs
+
+returns : tie.Need-returns
+returns c =
+    rw (c .before .before .before .fresh .ensures)
+
+pub asked-spec : {M : Type 1} → statement M
+asked-spec = tie.close (tie.spec fresh-requires returns)

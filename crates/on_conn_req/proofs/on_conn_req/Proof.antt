@@ -1,0 +1,152 @@
+-- `on_conn_req::on_conn_req` meets its contract: code and definition make the same tests in the same order.
+use borrow.Author.Tests.{le-leb, lt-leb, lt-ltb, le-ltb}
+use Rattle.lists.specs.Choose.{choose}
+use Rattle.definition.specs.Mem.{sizes}
+use Rattle.definition.specs.Signals.{onConnReq}
+use borrow.Author.Needs.{needs}
+use Rattle.on_conn_req.proofs.on_conn_req.Statement.{statement}
+use Rattle.on_conn_req.proofs.on_conn_req.Tie as tie
+
+enum-told : tie.Need-enum-told
+enum-told c = search needs
+
+bad-body-requires : tie.Need-bad-body-requires
+bad-body-requires c κs = search needs
+
+enum-known-read : tie.Need-enum-known-read
+enum-known-read c = search needs
+
+is-registered-requires : tie.Need-is-registered-requires
+is-registered-requires c κs = search needs
+
+refuse-requires : tie.Need-refuse-requires
+refuse-requires c κs = search needs
+
+same-length : tie.Need-same-length
+same-length c = search needs
+
+returns : tie.Need-returns
+unfolding choose sizes onConnReq
+returns c t₀ room job =
+    rw (
+      c .before .before .before .before .before .before .before .read .given .1,
+      ← c .before .before .before .before .before .is-registered .ensures,
+      c .before .before .before .before .if1 .taken,
+    ) (c .before .before .refuse .ensures t₀ room job)
+
+refuse-requires-2 : tie.Need-refuse-requires-2
+refuse-requires-2 c κs = search needs
+
+same-length-2 : tie.Need-same-length-2
+same-length-2 c = search needs
+
+returns-2 : tie.Need-returns-2
+unfolding choose sizes onConnReq
+returns-2 c t₀ room job =
+    rw (
+      c .before .before .before .before .before .before .before .before .read .given .1,
+      ← c .before .before .before .before .before .before .is-registered .ensures,
+      c .before .before .before .before .before .if1 .left,
+      c .before .before .before .before .if2 .taken,
+    ) (c .before .before .refuse2 .ensures t₀ room job)
+
+find-requires : tie.Need-find-requires
+find-requires c κs = search needs
+
+refuse-requires-3 : tie.Need-refuse-requires-3
+refuse-requires-3 c κs = search needs
+
+same-length-3 : tie.Need-same-length-3
+same-length-3 c = search needs
+
+returns-3 : tie.Need-returns-3
+unfolding choose sizes onConnReq
+returns-3 c t₀ room job =
+    rw (
+      c .before .before .before .before .before .before .before .before .before .before .before .read .given .1,
+      ← c .before .before .before .before .before .before .before .before .before .is-registered .ensures,
+      c .before .before .before .before .before .before .before .before .if1 .left,
+      c .before .before .before .before .before .before .before .if2 .left,
+      ← c .before .before .before .before .before .before .find .ensures,
+      lt-ltb _ _ (c .before .before .before .before .if3 .taken),
+    ) (c .before .before .refuse3 .ensures t₀ room job)
+
+find-requires-2 : tie.Need-find-requires-2
+find-requires-2 c κs = search needs
+
+refuse-requires-4 : tie.Need-refuse-requires-4
+refuse-requires-4 c κs = search needs
+
+same-length-4 : tie.Need-same-length-4
+same-length-4 c = search needs
+
+returns-4 : tie.Need-returns-4
+unfolding choose sizes onConnReq
+returns-4 c t₀ room job =
+    rw (
+      c .before .before .before .before .before .before .before .before .before .before .before .before .before .before .read .given .1,
+      ← c .before .before .before .before .before .before .before .before .before .before .before .before .is-registered .ensures,
+      c .before .before .before .before .before .before .before .before .before .before .before .if1 .left,
+      c .before .before .before .before .before .before .before .before .before .before .if2 .left,
+      ← c .before .before .before .before .before .before .before .before .before .find .ensures,
+      le-ltb _ _ (c .before .before .before .before .before .before .before .if3 .left),
+      ← c .before .before .before .before .before .before .find2 .ensures,
+      le-leb _ _ (c .before .before .before .before .if4 .taken),
+    ) (c .before .before .refuse4 .ensures t₀ room job)
+
+asked-requires : tie.Need-asked-requires
+asked-requires c κs = search needs
+
+alter-requires : tie.Need-alter-requires
+alter-requires c κs = search needs
+
+same-length-5 : tie.Need-same-length-5
+same-length-5 c = search needs
+
+returns-5 : tie.Need-returns-5
+unfolding choose sizes onConnReq
+returns-5 c t₀ room job =
+    rw (c .before .before .before .before .enum-told .given .1) (c .before .before .bad-body .ensures t₀ room job)
+
+returns-6 : tie.Need-returns-6
+unfolding choose sizes onConnReq
+returns-6 c t₀ room job =
+    rw (
+      c .before .before .before .before .before .before .before .before .before .before .before .before .read .given .1,
+      ← c .before .before .before .before .before .before .before .before .before .before .is-registered .ensures,
+      c .before .before .before .before .before .before .before .before .before .if1 .left,
+      c .before .before .before .before .before .before .before .before .if2 .left,
+      ← c .before .before .before .before .before .before .before .find .ensures,
+      le-ltb _ _ (c .before .before .before .before .before .if3 .left),
+      ← c .before .before .before .before .find2 .ensures,
+      lt-leb _ _ (c .before .before .if4 .left),
+      ← c .before .asked .ensures,
+    ) (c .alter .ensures t₀ room _ job)
+
+pub on-conn-req-spec : {M : Type 1} → statement M
+on-conn-req-spec =
+    tie.close
+    (tie.spec
+    enum-told
+    bad-body-requires
+    enum-known-read
+    is-registered-requires
+    refuse-requires
+    same-length
+    returns
+    refuse-requires-2
+    same-length-2
+    returns-2
+    find-requires
+    refuse-requires-3
+    same-length-3
+    returns-3
+    find-requires-2
+    refuse-requires-4
+    same-length-4
+    returns-4
+    asked-requires
+    alter-requires
+    same-length-5
+    returns-5
+    returns-6)

@@ -1,0 +1,70 @@
+// Connect responses of the peer: code 0x15 (`handle_connect_response` in the original). They stand behind the gate, which has found room and
+// signal buffer to be as long as the table says; `on_conn_res` is `pub` for the signal call alone. Its contract is the equation with the
+// definition's handler.
+ghost use mathlib.Core.Path.{_≡_};
+ghost use mathlib.Core.List.{List, []};
+ghost use Prim.Native.Nat.{ℕ, _≤_};
+ghost use lib.ListN.{length};
+ghost use Rattle.channel.specs.Limits.{signalMost};
+ghost use Rattle.channel.specs.declared.Table.{Table as TableOf};
+ghost use Rattle.definition.specs.Ending.{end, endOf};
+ghost use Rattle.definition.specs.Signals.{answered, onConnRes};
+ghost use Rattle.table_room.specs.Placed.{RoomOf};
+use channel::Answer;
+use channel::ChannelState;
+use channel::Peer;
+use channel::Served;
+use channel::Table;
+use codes::Refusal;
+use signal_bodies::le_credit::LeCreditConnResRead;
+use signal_forms::LeCreditConnRes;
+use table_slot::Want;
+
+// The response to the attempt in slot s: Connected with the peer's numbers, or failed with its result.
+fn on_answer(t: Table, s: usize, res: LeCreditConnRes) -> Served
+    ensures { λ r. ⌜ ((t₀ : TableOf) (room out job : List ℕ) → end r room out job ≡ endOf t₀ [] room out job (answered t s res)) ⌝ }
+{
+    let x = table::slot_at(t, s);
+    let result = res.result;
+    if codes::result_number(result) == 0 {
+        let peer = Peer {
+            cid: res.dcid,
+            mps: res.mps,
+            mtu: res.mtu,
+            credits: res.credits,
+        };
+        let y = table_slot::in_state(table_slot::with_peer(x, peer), ChannelState::Connected);
+        return table_endings::alter(t, s, y, Answer::Done);
+    }
+    let y = table_slot::in_state(x, ChannelState::ConnectFailed(result));
+    table_endings::alter(t, s, y, Answer::Refused(Refusal::ConnectError(result)))
+}
+
+// Code 0x15: to the lowest attempt of this link with that identifier; where there is none, all attempts of this link are given up.
+pub fn on_conn_res(
+    t: Table,
+    room: &mut [u8],
+    out: &mut [u8],
+    link: u16,
+    id: u8,
+    read: LeCreditConnResRead,
+) -> Served
+    requires { ⌜ RoomOf t (length (now room)) × (signalMost ≤ length (now out)) ⌝ }
+    ensures { λ r. ⌜ end r (now (room .exit)) (now (out .exit)) [] ≡ endOf t [] (now (room .entry)) (now (out .entry)) [] (onConnRes t link id read) ⌝ }
+{
+    match read {
+        LeCreditConnResRead::Decode => on_rejects::bad_body(t, out, id),
+        LeCreditConnResRead::Is(res) => {
+            let s = table::find(t, Want::AttemptBy { link, id });
+            if t.n <= s {
+                return table_endings::free_all(
+                    t,
+                    room,
+                    Want::AttemptOf(link),
+                    Answer::Refused(Refusal::NotFound),
+                );
+            }
+            on_answer(t, s, res)
+        }
+    }
+}

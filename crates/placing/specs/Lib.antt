@@ -1,2 +1,0 @@
--- A payload joined in its slot's part of the room.
-pub mod Moved

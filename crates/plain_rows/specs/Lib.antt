@@ -1,2 +1,0 @@
--- The plain rows of a call.
-pub mod PlainRows

@@ -1,2 +1,0 @@
--- The rows of a call.
-pub mod Printed

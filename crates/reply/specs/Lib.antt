@@ -1,2 +1,0 @@
--- What a written reply leaves.
-pub mod Reply

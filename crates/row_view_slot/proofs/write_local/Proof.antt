@@ -1,0 +1,48 @@
+-- `row_view_slot::write_local` meets its contract: its pieces follow one another (writes-append).
+use Rattle.text_write.specs.Rows.{writes-append}
+use Rattle.row_view_slot.specs.SlotLine.{localText}
+use borrow.Author.Needs.{needs}
+use Rattle.row_view_slot.proofs.write_local.Statement.{statement}
+use Rattle.row_view_slot.proofs.write_local.Tie as tie
+
+add-t14 : tie.Need-add-t14
+add-t14 c = search needs
+
+slice-aggregate-write-columns : tie.Need-slice-aggregate-write-columns
+slice-aggregate-write-columns c = search needs
+
+write-columns-requires : tie.Need-write-columns-requires
+write-columns-requires c κs = search needs
+
+write-character-requires : tie.Need-write-character-requires
+write-character-requires c κs = search needs
+
+write-policy-requires : tie.Need-write-policy-requires
+write-policy-requires c κs = search needs
+
+slice-aggregate-write-columns-2 : tie.Need-slice-aggregate-write-columns-2
+slice-aggregate-write-columns-2 c = search needs
+
+write-columns-requires-2 : tie.Need-write-columns-requires-2
+write-columns-requires-2 c κs = search needs
+
+same-length : tie.Need-same-length
+same-length c = search needs
+
+returns : tie.Need-returns
+unfolding localText
+returns c = writes-append (writes-append (writes-append (c .before .before .before .before .before .before .before .before .before .before .before .before .before .before .before .before .write-columns .ensures) (c .before .before .before .before .before .before .before .before .before .before .before .before .write-character .ensures)) (c .before .before .before .before .before .before .before .write-policy .ensures)) (c .before .before .write-columns2 .ensures)
+
+pub write-local-spec : {M : Type 1} → statement M
+write-local-spec =
+    tie.close
+    (tie.spec
+    add-t14
+    slice-aggregate-write-columns
+    write-columns-requires
+    write-character-requires
+    write-policy-requires
+    slice-aggregate-write-columns-2
+    write-columns-requires-2
+    same-length
+    returns)

@@ -1,3 +1,0 @@
--- What a joined payload leaves in the room, and its laws.
-pub mod SarRoom
-pub mod RoomLaws

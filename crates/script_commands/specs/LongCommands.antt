@@ -1,0 +1,44 @@
+-- The table of calls of four words and more (docs/CHANRUN.md), as commands' Commands has those of fewer.
+use mathlib.Core.Bool.{_&&_}
+use mathlib.Core.List.{List}
+use Prim.Native.Nat.{ℕ}
+use lib.Dec.{eqb}
+use Rattle.lists.specs.Choose.{choose}
+use Rattle.text_hex_words.specs.HexWords.{isHexWord}
+use Rattle.text_words.specs.declared.Word.{Word}
+use Rattle.script_fields_plain.specs.PlainFields.{isNumber, numberOf, isFlag, flagOf, isRole, centralOf}
+use Rattle.script_fields_config.specs.Configs.{isConfig, configOf}
+use Rattle.script_commands.specs.declared.Command.{Command}
+use Rattle.script_commands.specs.declared.Command.the-variants as Command
+
+unfoldable pub fourWords : (c : ℕ) (a b d : List ℕ) (last : Word) → Command
+fourWords c a b d last =
+    choose (isNumber a && isNumber b)
+    (choose (eqb c 84) (choose (isNumber d) (Command.Make (numberOf a) (numberOf b) (numberOf d)) Command.Bad)  -- T n d m
+    (choose (eqb c 79) (choose (isFlag d) (Command.Opened (numberOf a) (numberOf b) (flagOf d)) Command.Bad)  -- O slot link up
+    (choose (eqb c 70) (choose (isHexWord d) (Command.Dispatch (numberOf a) (numberOf b) last) Command.Bad)  -- F link cid hex
+    Command.Bad)))
+    Command.Bad
+
+-- S link listening role hex
+unfoldable pub fiveWords : (c : ℕ) (a b d e : List ℕ) (last : Word) → Command
+fiveWords c a b d e last =
+    choose (eqb c 83 && isNumber a && isFlag b && isRole d && isHexWord e)
+    (Command.Signal (numberOf a) (flagOf b) (centralOf d) last)
+    Command.Bad
+
+unfoldable pub sixWords : (c : ℕ) (a b d e f : List ℕ) → Command
+sixWords c a b d e f =
+    choose (isNumber a)
+    (choose (eqb c 65) (choose (isConfig b d e f) (Command.AcceptPending (numberOf a) (configOf b d e f)) Command.Bad)  -- A slot mtu mps policy credits
+    (choose (eqb c 89)
+    (choose (isNumber b && isNumber d && isNumber e && isNumber f)
+    (Command.SendConnParamUpdateReq (numberOf a) (numberOf b) (numberOf d) (numberOf e) (numberOf f))  -- Y link min max latency timeout
+    Command.Bad)
+    Command.Bad))
+    Command.Bad
+
+-- C link spsm mtu mps policy credits
+unfoldable pub sevenWords : (c : ℕ) (a b d e f g : List ℕ) → Command
+sevenWords c a b d e f g =
+    choose (eqb c 67 && isNumber a && isNumber b && isConfig d e f g) (Command.Create (numberOf a) (numberOf b) (configOf d e f g)) Command.Bad

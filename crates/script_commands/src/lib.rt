@@ -1,0 +1,234 @@
+// The calls of a script (docs/CHANRUN.md), and those of at most three words, by the number of words of their line: the letter, then what the call
+// is given; the longer ones are in `long`. The table of these calls is specs/Commands.antt, which every function here follows test by
+// test. It rests on `text_words`, `script_fields_plain` and `text_hex_words`.
+pub mod long;
+
+use channel::ChannelIndex;
+use channel::L2capChannelConfig;
+use octets::least;
+use script_fields_plain::flag_of;
+use script_fields_plain::is_flag;
+use script_fields_plain::is_number;
+use script_fields_plain::number_of;
+use text_hex_words::hex_ok;
+use text_words::Word;
+ghost use mathlib.Core.Path.{_≡_};
+ghost use Rattle.script_commands.specs.Commands.{slotNumber, oneWord, withNumber, twoWords, withNumbers, threeWords};
+
+// A call, with the words of its line as values. Octets are left where they stand: as the place of their word in the line.
+pub enum Command {
+    // A line that asks for nothing: `? -`.
+    Bad,
+    // T
+    Make {
+        n: u16,
+        d: u16,
+        m: u16,
+    },
+    // R
+    RegisterSpsm(u16),
+    // S
+    Signal {
+        link: u16,
+        listening: bool,
+        central: bool,
+        pdu: Word,
+    },
+    // P
+    NextPending {
+        link: u16,
+        up: bool,
+    },
+    // J
+    RejectAllPending(u16),
+    // A
+    AcceptPending {
+        slot: u16,
+        config: L2capChannelConfig,
+    },
+    // X
+    RejectPending {
+        slot: u16,
+        result: u16,
+    },
+    // Z
+    DropPending(u16),
+    // C
+    Create {
+        link: u16,
+        spsm: u16,
+        config: L2capChannelConfig,
+    },
+    // O
+    Opened {
+        slot: u16,
+        link: u16,
+        up: bool,
+    },
+    // G
+    GiveUp(u16),
+    // H
+    IncRef(u16),
+    // L
+    DecRef(u16),
+    // D
+    Disconnect(u16),
+    // E
+    DisconnectByCid(u16),
+    // W
+    Disconnected(u16),
+    // Q
+    NextDisconnect,
+    // F
+    Dispatch {
+        link: u16,
+        cid: u16,
+        payload: Word,
+    },
+    // K
+    Send {
+        slot: u16,
+        job: Word,
+    },
+    // B
+    Receive {
+        slot: u16,
+        size: u16,
+    },
+    // I
+    Attention,
+    // U
+    Queries(u16),
+    // Y
+    SendConnParamUpdateReq {
+        link: u16,
+        min: u16,
+        max: u16,
+        latency: u16,
+        timeout: u16,
+    },
+    // y
+    SendConnParamUpdateRes {
+        link: u16,
+        result: u16,
+    },
+    // V
+    View,
+    // M
+    Room(u16),
+}
+
+// The slot that a command names. A number that is no octet is past every table, as 255 is.
+pub fn slot_of(n: u16) -> ChannelIndex
+    ensures { λ r. ⌜ r .0 ≡ slotNumber n ⌝ }
+{
+    ChannelIndex(least(n as usize, 255) as u8)
+}
+
+pub fn one_word(c: u8) -> Command
+    ensures { λ r. ⌜ r ≡ oneWord c ⌝ }
+{
+    if c == 81 {
+        return Command::NextDisconnect;
+    }
+    if c == 73 {
+        return Command::Attention;
+    }
+    if c == 86 {
+        return Command::View;
+    }
+    Command::Bad
+}
+
+// The calls that are given one number.
+fn with_number(c: u8, n: u16) -> Command
+    ensures { λ r. ⌜ r ≡ withNumber c n ⌝ }
+{
+    if c == 82 {
+        return Command::RegisterSpsm(n);
+    }
+    if c == 74 {
+        return Command::RejectAllPending(n);
+    }
+    if c == 90 {
+        return Command::DropPending(n);
+    }
+    if c == 71 {
+        return Command::GiveUp(n);
+    }
+    if c == 72 {
+        return Command::IncRef(n);
+    }
+    if c == 76 {
+        return Command::DecRef(n);
+    }
+    if c == 68 {
+        return Command::Disconnect(n);
+    }
+    if c == 69 {
+        return Command::DisconnectByCid(n);
+    }
+    if c == 87 {
+        return Command::Disconnected(n);
+    }
+    if c == 85 {
+        return Command::Queries(n);
+    }
+    if c == 77 {
+        return Command::Room(n);
+    }
+    Command::Bad
+}
+
+pub fn two_words(c: u8, a: &[u8]) -> Command
+    ensures { λ r. ⌜ r ≡ twoWords c (now (a .entry)) ⌝ }
+{
+    if is_number(a) {
+        return with_number(c, number_of(a));
+    }
+    Command::Bad
+}
+
+// The calls that are given two numbers.
+fn with_numbers(c: u8, n: u16, m: u16) -> Command
+    ensures { λ r. ⌜ r ≡ withNumbers c n m ⌝ }
+{
+    if c == 88 {
+        return Command::RejectPending { slot: n, result: m };
+    }
+    if c == 66 {
+        return Command::Receive { slot: n, size: m };
+    }
+    if c == 121 {
+        return Command::SendConnParamUpdateRes { link: n, result: m };
+    }
+    Command::Bad
+}
+
+pub fn three_words(c: u8, a: &[u8], b: &[u8], last: Word) -> Command
+    ensures { λ r. ⌜ r ≡ threeWords c (now (a .entry)) (now (b .entry)) last ⌝ }
+{
+    if !is_number(a) {
+        return Command::Bad;
+    }
+    let n = number_of(a);
+    if c == 80 {
+        if is_flag(b) {
+            return Command::NextPending {
+                link: n,
+                up: flag_of(b),
+            };
+        }
+        return Command::Bad;
+    }
+    if c == 75 {
+        if hex_ok(b) {
+            return Command::Send { slot: n, job: last };
+        }
+        return Command::Bad;
+    }
+    if is_number(b) {
+        return with_numbers(c, n, number_of(b));
+    }
+    Command::Bad
+}

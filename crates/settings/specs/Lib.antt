@@ -1,2 +1,0 @@
--- The response of an accept.
-pub mod Response

@@ -1,2 +1,0 @@
--- The moves of a job that is handed out.
-pub mod Upwards

@@ -1,0 +1,4 @@
+-- The bodies of the signals, read.
+pub mod Bodies
+-- The bodies of the signals of LE credit based connections, read.
+pub mod LeCreditBodies

@@ -1,2 +1,0 @@
--- Two tests with one refusal.
-pub mod Sizing

@@ -1,0 +1,4 @@
+-- How each form's code comes to the definition's end.
+pub mod Endings
+-- What a written reply leaves.
+pub mod Reply

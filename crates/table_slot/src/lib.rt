@@ -1,0 +1,115 @@
+// One slot by value: what slots are searched for. The crate `table_slot_changes` has the slot with one thing changed.
+// Each contract is the equation with the function of that name in the crate `definition`.
+ghost use mathlib.Core.Path.{_≡_};
+ghost use Rattle.definition.specs.Table.{isFree, ofLink, pendingOf, unheldPendingOf, attemptOf, attemptBy, connectedTo, usesPeer, dueSlot, calls};
+ghost use Rattle.table_slot.specs.Want.{wanted};
+use channel::Slot;
+pub use table_slot_changes::freed;
+pub use table_slot_changes::fresh;
+pub use table_slot_changes::in_state;
+pub use table_slot_changes::left;
+pub use table_slot_changes::with_account;
+pub use table_slot_changes::with_assembly;
+pub use table_slot_changes::with_hold;
+pub use table_slot_changes::with_peer;
+pub use table_slot_changes::with_peer_credits;
+pub use table_slot_changes::with_queue;
+
+pub enum Want {
+    Free,
+    OfLink(u16),
+    PendingOf(u16),
+    UnheldPendingOf(u16),
+    AttemptOf(u16),
+    AttemptBy { link: u16, id: u8 },
+    ConnectedTo { link: u16, cid: u16 },
+    UsesPeer { link: u16, cid: u16 },
+    Due,
+    Calls,
+}
+
+pub fn is_free(x: Slot) -> bool
+    ensures { λ r. ⌜ r ≡ isFree x ⌝ }
+{
+    let k = x.state;
+    table_state::is_disconnected(k) & (x.hold == 0)
+}
+
+pub fn of_link(x: Slot, link: u16) -> bool
+    ensures { λ r. ⌜ r ≡ ofLink link x ⌝ }
+{
+    let k = x.state;
+    !table_state::is_disconnected(k) & (x.link == link)
+}
+
+pub fn pending_of(x: Slot, link: u16) -> bool
+    ensures { λ r. ⌜ r ≡ pendingOf link x ⌝ }
+{
+    let k = x.state;
+    table_state::is_peer_connecting(k) & (x.link == link)
+}
+
+pub fn unheld_pending_of(x: Slot, link: u16) -> bool
+    ensures { λ r. ⌜ r ≡ unheldPendingOf link x ⌝ }
+{
+    pending_of(x, link) & (x.hold == 0)
+}
+
+pub fn attempt_of(x: Slot, link: u16) -> bool
+    ensures { λ r. ⌜ r ≡ attemptOf link x ⌝ }
+{
+    let k = x.state;
+    table_state::is_connecting(k) & (x.link == link)
+}
+
+pub fn attempt_by(x: Slot, link: u16, id: u8) -> bool
+    ensures { λ r. ⌜ r ≡ attemptBy link id x ⌝ }
+{
+    let k = x.state;
+    attempt_of(x, link) & (table_state::identifier_of(k) == id)
+}
+
+pub fn connected_to(x: Slot, link: u16, cid: u16) -> bool
+    ensures { λ r. ⌜ r ≡ connectedTo link cid x ⌝ }
+{
+    let k = x.state;
+    table_state::is_connected(k) & ((x.link == link) & (x.peer.cid == cid))
+}
+
+pub fn uses_peer(x: Slot, link: u16, cid: u16) -> bool
+    ensures { λ r. ⌜ r ≡ usesPeer link cid x ⌝ }
+{
+    of_link(x, link) & (x.peer.cid == cid)
+}
+
+pub fn due_slot(x: Slot) -> bool
+    ensures { λ r. ⌜ r ≡ dueSlot x ⌝ }
+{
+    let k = x.state;
+    table_state::is_due(k)
+}
+
+pub fn calls(x: Slot) -> bool
+    ensures { λ r. ⌜ r ≡ calls x ⌝ }
+{
+    let k = x.state;
+    (0 < x.queue.count) | (table_state::is_due(k) | table_state::is_connect_failed(k))
+}
+
+// Does the slot fit what is searched for?
+pub fn fits(x: Slot, w: Want) -> bool
+    ensures { λ r. ⌜ r ≡ wanted w x ⌝ }
+{
+    match w {
+        Want::Free => is_free(x),
+        Want::OfLink(link) => of_link(x, link),
+        Want::PendingOf(link) => pending_of(x, link),
+        Want::UnheldPendingOf(link) => unheld_pending_of(x, link),
+        Want::AttemptOf(link) => attempt_of(x, link),
+        Want::AttemptBy { link, id } => attempt_by(x, link, id),
+        Want::ConnectedTo { link, cid } => connected_to(x, link, cid),
+        Want::UsesPeer { link, cid } => uses_peer(x, link, cid),
+        Want::Due => due_slot(x),
+        Want::Calls => calls(x),
+    }
+}

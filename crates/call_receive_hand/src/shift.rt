@@ -8,11 +8,11 @@ ghost use lib.Seq.{sets};
 ghost use Rattle.octets.specs.Octets.{part};
 ghost use Rattle.channel.specs.Limits.{packetMost, jobHead};
 ghost use Rattle.definition.specs.Mem.{moves, parts};
+ghost use Rattle.definition.specs.Table.{partWidth};
 ghost use Rattle.definition.specs.Outcome.{only};
+ghost use Rattle.definition.specs.Frames.{upwards};
 ghost use Rattle.definition.specs.Ending.{itself};
-ghost use Rattle.table_gate.specs.Sizes.{partWidth};
 ghost use Rattle.table_room.specs.Placed.{Placed};
-ghost use Rattle.call_receive_hand.specs.Upwards.{upwards};
 
 // Copies n octets of slot s's oldest job to the buffer, and moves the later ones of its `count` jobs up.
 pub fn hand_out(room: &mut [u8], d: usize, m: usize, s: usize, count: u8, job: &mut [u8], n: usize)

@@ -13,12 +13,13 @@ use Rattle.credit.specs.Account.{received, granted, grantOf}
 use Rattle.sar_join.specs.declared.Assembly.{Assembly}
 use Rattle.sar_join.specs.declared.Joined.{Joined}
 use Rattle.sar_join.specs.declared.Joined.the-variants as Joined
-use Rattle.sar_join.specs.Joining.{isIdle, idle, assembled, joinStep}
+use Rattle.sar_join.specs.Joining.{isIdle, idle, assembled, queueAt, joinStep}
 use Rattle.sar_cut.specs.declared.Plan.{Plan}
 use Rattle.sar_cut.specs.declared.Plan.the-variants as Plan
 use Rattle.sar_cut.specs.Cutting.{planSend}
 use Rattle.signal_write.specs.Writer.{encodeOf}
-use Rattle.signal_forms.specs.declared.Signal.the-variants.{LeCreditFlowInd}
+use Rattle.signal_forms.specs.declared.LeCreditFlowInd.{LeCreditFlowInd}
+use Rattle.signal_forms.specs.declared.Signal.the-variants as Signal
 use Rattle.channel.specs.declared.Answer.the-variants.{Done, Refused, Frames, Job}
 use Rattle.channel.specs.declared.ChannelState.{ChannelState}
 use Rattle.channel.specs.declared.ChannelState.the-variants.{Disconnecting}
@@ -34,37 +35,54 @@ use Rattle.definition.specs.Outcome.{Outcome, change, refuse, done, leav
 
 -- Where the next finished job goes: behind the assembly place and the jobs that wait.
 abbrev pub queuePlace : Table → Slot → ℕ
-queuePlace t x = suc (x .queue .count) * placeOf t
+queuePlace t x = queueAt (placeOf t) (x .queue .count)
 
 abbrev pub queued : ℕ → Queue → Queue
 queued len q = record { count = q .count + 1; lens = set (q .lens) (q .count) len }
 
--- A finished job at its place's start: what stood in the assembly place, then this frame's octets. The assembly place of a joined job
--- is zeroed; a first frame that is complete never touches it.
-abbrev pub finishing : Table → Slot → ℕ → List Move
-finishing t x count =
-    if isIdle (x .assembly) then put (queuePlace t x) (job 0 count) ∷ []
-    else put (queuePlace t x) (held 0 (x .assembly .have)) ∷ put (queuePlace t x + x .assembly .have) (job 0 count) ∷ put 0 (zeros (placeOf t)) ∷ []
+-- In a slot's part, of places of that size, with that assembly and `queued` jobs waiting: a finished job at its place's start, what stood in
+-- the assembly place, then this frame's octets. The assembly place of a joined job is zeroed; a first frame that is complete never touches it.
+abbrev pub finishMoves : (place : ℕ) → Assembly → (queued count : ℕ) → List Move
+finishMoves place a queued count =
+    if isIdle a then put (queueAt place queued) (job 0 count) ∷ []
+    else put (queueAt place queued) (held 0 (a .have)) ∷ put (queueAt place queued + a .have) (job 0 count) ∷ put 0 (zeros place) ∷ []
 
--- What the join step (crate sar_join) decided, for slot s as x, whose credit is used.
+-- What the join step (crate sar_join) moves there. (A refusal moves nothing by itself: the slot leaves Connected, which zeroes the assembly place.)
+abbrev pub joinMoves : (place : ℕ) → Assembly → (queued count : ℕ) → Joined → List Move
+joinMoves place a queued count (Joined.Refused r) = []
+joinMoves place a queued count (Joined.Assembling b) = put (assembled a) (job 0 count) ∷ []
+joinMoves place a queued count (Joined.Finished len) = finishMoves place a queued count
+joinMoves place a queued count Joined.Dropped = put 0 (zeros place) ∷ []
+
+abbrev pub moved : Table → Slot → (count : ℕ) → Joined → List Move
+moved t x count j = joinMoves (placeOf t) (x .assembly) (x .queue .count) count j
+
+abbrev pub finishing : Table → Slot → (count : ℕ) → List Move
+finishing t x count = finishMoves (placeOf t) (x .assembly) (x .queue .count) count
+
+-- What the join step decided, for slot s as x, whose credit is used.
 unfoldable pub joined : Table → (slot : ℕ) → Slot → (count : ℕ) → Joined → Outcome
 joined t s x count (Joined.Refused r) = leaving t s x (Disconnecting false) (Refused r)
-joined t s x count (Joined.Assembling a) = change t s (withAssembly a x) (put (assembled (x .assembly)) (job 0 count) ∷ []) Done []
-joined t s x count (Joined.Finished len) = change t s (withQueue (queued len (x .queue)) (withAssembly idle x)) (finishing t x count) Done []
-joined t s x count Joined.Dropped = change t s (withAssembly idle x) (put 0 (zeros (placeOf t)) ∷ []) (Refused QueueFull) []
+joined t s x count (Joined.Assembling a) = change t s (withAssembly a x) (moved t x count (Joined.Assembling a)) Done []
+joined t s x count (Joined.Finished len) = change t s (withQueue (queued len (x .queue)) (withAssembly idle x)) (moved t x count (Joined.Finished len)) Done []
+joined t s x count Joined.Dropped = change t s (withAssembly idle x) (moved t x count Joined.Dropped) (Refused QueueFull) []
 
 -- "Frame in (CID, payload): 7; not Connected: dropped, answer 0; another link's slot 8; no credit 10; one credit used."
-unfoldable pub dispatch : Table → (room link cid : ℕ) (head : List ℕ) (count : ℕ) → Outcome
-dispatch t room link cid head count =
-    gate t (Is room) Nothing (Is link) Nothing
-    (let s = slotOf cid in
+
+-- Behind the first refusals.
+abbrev pub admitted : Table → (link cid : ℕ) (head : List ℕ) (count : ℕ) → Outcome
+admitted t link cid head count =
+    let s = slotOf cid in
     let x = slotAt t s in
     if not (isCid t cid) then refuse t InvalidChannelId
     else if not (isConnected (x .state)) then done t
     else if not (eqb (x .link) link) then refuse t NotFound
     else if eqb (x .account .credits) 0 then refuse t OutOfMemory
     else joined t s (withAccount (received (x .account) 1) x) count
-    (joinStep (x .mtu) (x .mps) (t .d) (x .assembly) (x .queue .count) (length head + count) (u16At head 0)))
+    (joinStep (x .mtu) (x .mps) (t .d) (x .assembly) (x .queue .count) (length head + count) (u16At head 0))
+
+unfoldable pub dispatch : Table → (room link cid : ℕ) (head : List ℕ) (count : ℕ) → Outcome
+dispatch t room link cid head count = gate t (Is room) Nothing (Is link) Nothing (admitted t link cid head count)
 
 -- ---- send
 
@@ -87,13 +105,15 @@ unfoldable pub planned : Table → (slot : ℕ) → Slot → (l : ℕ) → Plan 
 planned t s x l (Plan.Refused r) = refuse t r
 planned t s x l (Plan.Frames n octets) = change t s (withPeerCredits (x .peer .credits - n) x) [] (Frames (x .link) n) (frames (x .peer .cid) (x .peer .mps) l n)
 
--- "Send order: 11, 12, 23, 20, 14, 3." Of these 12 to 3 are the plan's (crate sar_cut).
-unfoldable pub send : Table → (slot l out : ℕ) → Outcome
-send t s l out =
-    gate t Nothing Nothing Nothing (Is s)
-    (let x = slotAt t s in
+-- "Send order: 11, 12, 23, 20, 14, 3." Of these 12 to 3 are the plan's (crate sar_cut). Behind the first refusals:
+abbrev pub sentOn : Table → (slot l out : ℕ) → Outcome
+sentOn t s l out =
+    let x = slotAt t s in
     if not (isConnected (x .state)) then refuse t ChannelClosed
-    else planned t s x l (planSend l (x .peer .mtu) (x .peer .mps) (x .peer .credits) out))
+    else planned t s x l (planSend l (x .peer .mtu) (x .peer .mps) (x .peer .credits) out)
+
+unfoldable pub send : Table → (slot l out : ℕ) → Outcome
+send t s l out = gate t Nothing Nothing Nothing (Is s) (sentOn t s l out)
 
 -- ---- take
 
@@ -101,11 +121,12 @@ send t s l out =
 abbrev pub shifted : Queue → Queue
 shifted q = record { count = q .count - 1; lens = drop 1 (q .lens) ++ (0 ∷ []) }
 
--- Later places move up, and the last that was occupied is zeroed.
+-- Later places move up, and the last that was occupied is zeroed: in the part of a slot with so many jobs, in places of p octets.
+abbrev pub upwards : (p count : ℕ) → List Move
+upwards p count = put p (held (2 * p) ((count - 1) * p)) ∷ put (count * p) (zeros p) ∷ []
+
 abbrev pub movingUp : Table → Slot → List Move
-movingUp t x =
-    let p = placeOf t in
-    put p (held (2 * p) ((x .queue .count - 1) * p)) ∷ put (x .queue .count * p) (zeros p) ∷ []
+movingUp t x = upwards (placeOf t) (x .queue .count)
 
 -- The oldest job is copied out, min(job, buffer) octets; x is the slot with its account as it is left.
 abbrev pub handing : Table → (slot : ℕ) → Slot → (size : ℕ) → List Fill → Outcome
@@ -118,15 +139,25 @@ handing t s x size signal =
 unfoldable pub grantIn : Slot → Grant
 grantIn x = if isConnected (x .state) then grantOf (x .account) else Grant.Nothing
 
+-- The signal that grants n credits to slot s's peer (Core Vol 3 Part A 4.24).
+abbrev pub crediting : (slot n : ℕ) → LeCreditFlowInd
+crediting s n = record { cid = cidOf s; credits = n }
+
 unfoldable pub taken : Table → (slot : ℕ) → Slot → (size : ℕ) → Grant → Outcome
 taken t s x size Grant.Nothing = handing t s x size []
-taken t s x size (Grant.Credits n) = handing (spent t) s (withAccount (granted (x .account) n) x) size (given (encodeOf (nextId t) (LeCreditFlowInd (record { cid = cidOf s; credits = n }))) ∷ [])
+taken t s x size (Grant.Credits n) = handing (spent t) s (withAccount (granted (x .account) n) x) size (given (encodeOf (nextId t) (Signal.LeCreditFlowInd (crediting s n))) ∷ [])
 
--- Row 11: "taking when free, connecting, pending or failed". "no job waiting is reported as such .. and writes and grants nothing"
-unfoldable pub receive : Table → (room signal slot size : ℕ) → Outcome
-receive t room signal s size =
-    gate t (Is room) (Is signal) Nothing (Is s)
-    (let x = slotAt t s in
-    if isDisconnected (x .state) || (isConnecting (x .state) || (isPeerConnecting (x .state) || isConnectFailed (x .state))) then refuse t ChannelClosed
+-- Row 11: "taking when free, connecting, pending or failed"
+abbrev pub closed : ChannelState → Bool
+closed k = isDisconnected k || (isConnecting k || (isPeerConnecting k || isConnectFailed k))
+
+-- "no job waiting is reported as such .. and writes and grants nothing". Behind the first refusals:
+abbrev pub takenOn : Table → (slot size : ℕ) → Outcome
+takenOn t s size =
+    let x = slotAt t s in
+    if closed (x .state) then refuse t ChannelClosed
     else if eqb (x .queue .count) 0 then done t
-    else taken t s x size (grantIn x))
+    else taken t s x size (grantIn x)
+
+unfoldable pub receive : Table → (room signal slot size : ℕ) → Outcome
+receive t room signal s size = gate t (Is room) (Is signal) Nothing (Is s) (takenOn t s size)

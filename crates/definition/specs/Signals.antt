@@ -1,5 +1,5 @@
 -- One signal PDU: document 01, 'Signals'. Every header is checked, then the first signal is handled; the part after it is `restOf`
--- (crate signal_forms). Core Vol 3 Part A, 4.
+-- (crate signal_headers), which the next call is given, until nothing is left (Run.antt, `signalCalls`). Core Vol 3 Part A, 4.
 use mathlib.Core.Bool.{Bool, true, false, _&&_, not}
 use mathlib.Core.List.{List, [], _∷_}
 use Prim.Native.Nat.{ℕ, _+_}

@@ -33,9 +33,12 @@ if_then_else_ = choose
 abbrev pub placeOf : Table → ℕ
 placeOf t = t .m - jobHead
 
--- "one place for assembly, then D for finished jobs": a slot's part of the room
+-- "one place for assembly, then D for finished jobs": a slot's part of the room, of a table of these sizes
+abbrev pub partWidth : (d m : ℕ) → ℕ
+partWidth d m = suc d * (m - jobHead)
+
 abbrev pub width : Table → ℕ
-width t = suc (t .d) * placeOf t
+width t = partWidth (t .d) (t .m)
 
 -- "room exactly N·(D+1)·(M-6) octets"
 abbrev pub roomSize : Table → ℕ
@@ -296,11 +299,15 @@ registered t spsm =
 abbrev pub sizesFit : ℕ → ℕ → ℕ → Bool
 sizesFit n d m = leb 1 n && (leb n slotsMost && (leb 1 d && (leb d depthMost && (leb packetLeast m && leb m packetMost))))
 
+-- Each job that waits fits its place.
+abbrev pub lensFit : (place : ℕ) → Queue → Bool
+lensFit place q = every (λ n. leb n place) (take (q .count) (q .lens))
+
 -- "a job, queue count or local MTU beyond its place, or a credit sum (held plus received) above 65,535"
 unfoldable pub slotFits : ℕ → ℕ → Slot → Bool
 slotFits d place x =
     leb (x .queue .count) d
-    && (every (λ n. leb n place) (take (x .queue .count) (x .queue .lens))
+    && (lensFit place (x .queue)
     && (leb (x .assembly .have) place
     && (leb (x .assembly .want) place
     && (leb (x .mtu) place && leb (creditSum (x .account)) creditsMost))))

@@ -12,7 +12,7 @@ use Rattle.text_words.specs.declared.Word.{Word}
 use Rattle.channel.specs.declared.Table.{Table}
 use Rattle.definition.specs.Table.{sizesFit}
 use Rattle.definition.specs.Ending.{End}
-use Rattle.table_gate.specs.Sizes.{partWidth}
+use Rattle.definition.specs.Table.{partWidth}
 use Rattle.row_call.specs.Printed.{rowText, openedText, takenText}
 use Rattle.run_play.specs.declared.Played.{Played}
 

@@ -8,7 +8,7 @@ use native.Mathlib.Omega.{arith}
 use borrow.Author.Tests.{leb-true}
 use Rattle.channel.specs.Limits.{slotsMost, depthMost, packetLeast, packetMost, jobHead}
 use Rattle.channel.specs.declared.Table.{Table}
-use Rattle.definition.specs.Table.{sizesFit, wellFormed, slotFits, placeOf, width, live}
+use Rattle.definition.specs.Table.{placeOf, partWidth, live, sizesFit, slotFits, wellFormed}
 use Rattle.lists.specs.Every.{every}
 
 -- a table of n slots, d waiting jobs a slot and packets of m octets
@@ -44,10 +44,6 @@ sizes-fit n d m e0 =
 pub formed-sizes : (t : Table) → wellFormed t ≡ true → Sized (t .n) (t .d) (t .m)
 unfolding wellFormed
 formed-sizes t e = sizes-fit (t .n) (t .d) (t .m) (both _ (every (slotFits (t .d) (placeOf t)) (live t)) e .0)
-
--- a slot's part of the room, from the two sizes that decide it (`width` of a table)
-abbrev pub partWidth : ℕ → ℕ → ℕ
-partWidth d m = suc d * (m - jobHead)
 
 -- the most octets of a slot's part, and of n parts
 pub width-most : (d m : ℕ) → d ≤ depthMost → m ≤ packetMost → partWidth d m ≤ partWidth depthMost packetMost

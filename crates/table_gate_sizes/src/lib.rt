@@ -2,8 +2,8 @@
 ghost use mathlib.Core.Path.{_≡_};
 ghost use Prim.Native.Nat.{_-_, _*_, _≤_};
 ghost use Rattle.channel.specs.Limits.{depthMost, packetMost, jobHead};
-ghost use Rattle.definition.specs.Table.{sizesFit};
-ghost use Rattle.table_gate_sizes.specs.Sizes.{Sized, partWidth};
+ghost use Rattle.definition.specs.Table.{partWidth, sizesFit};
+ghost use Rattle.table_gate_sizes.specs.Sizes.{Sized};
 use channel::DEPTH;
 use channel::JOB_HEAD;
 use channel::PACKET_LEAST;

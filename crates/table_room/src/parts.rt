@@ -6,8 +6,8 @@ ghost use Prim.Native.Nat.{_-_, _*_, _≤_, _<_};
 ghost use lib.ListN.{length};
 ghost use Rattle.channel.specs.Limits.{slotsMost, depthMost, packetMost, jobHead};
 ghost use Rattle.definition.specs.Mem.{zeros, put, wipe, parts};
+ghost use Rattle.definition.specs.Table.{partWidth};
 ghost use Rattle.definition.specs.Outcome.{only};
-ghost use Rattle.table_gate_sizes.specs.Sizes.{partWidth};
 ghost use Rattle.table_room.specs.Placed.{Placed};
 
 // Where slot s's part begins.

@@ -16,7 +16,9 @@ use Rattle.channel.specs.declared.Given.the-variants.{Nothing, Is}
 use Rattle.channel.specs.declared.Slot.{Slot}
 use Rattle.channel.specs.declared.Table.{Table}
 use Rattle.definition.specs.Mem.{given}
-use Rattle.definition.specs.Table.{if_then_else_, slotAt, found, isConnected, isPeerDisconnecting, identifierOf, ofLink, dueSlot, inState, withHold, index, cidOf, isCid, slotOf, nextId, spent}
+use Rattle.definition.specs.States.{isConnected, isPeerDisconnecting, identifierOf}
+use Rattle.definition.specs.Slots.{inState, withHold}
+use Rattle.definition.specs.Table.{if_then_else_, slotAt, found, ofLink, dueSlot, index, cidOf, isCid, slotOf, nextId, spent}
 use Rattle.definition.specs.Outcome.{Outcome, change, sweep, refuse, done, freeing, leaving, gate}
 
 -- "Adding a hold at 255, or releasing at 0, gives 22."

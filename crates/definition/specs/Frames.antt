@@ -28,7 +28,9 @@ use Rattle.channel.specs.declared.Queue.{Queue}
 use Rattle.channel.specs.declared.Slot.{Slot}
 use Rattle.channel.specs.declared.Table.{Table}
 use Rattle.definition.specs.Mem.{Fill, zeros, given, job, held, Move, put}
-use Rattle.definition.specs.Table.{if_then_else_, placeOf, width, slotAt, isDisconnected, isConnecting, isPeerConnecting, isConnected, isConnectFailed, withAccount, withPeerCredits, withAssembly, withQueue, cidOf, isCid, slotOf, nextId, spent}
+use Rattle.definition.specs.States.{isDisconnected, isConnecting, isPeerConnecting, isConnected, isConnectFailed}
+use Rattle.definition.specs.Slots.{withAccount, withPeerCredits, withAssembly, withQueue}
+use Rattle.definition.specs.Table.{if_then_else_, placeOf, width, slotAt, cidOf, isCid, slotOf, nextId, spent}
 use Rattle.definition.specs.Outcome.{Outcome, change, refuse, done, leaving, gate}
 
 -- ---- frame in

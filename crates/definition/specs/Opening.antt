@@ -16,7 +16,9 @@ use Rattle.channel.specs.declared.L2capChannelConfig.{L2capChannelConfig}
 use Rattle.channel.specs.declared.Slot.{Slot}
 use Rattle.channel.specs.declared.Table.{Table}
 use Rattle.definition.specs.Mem.{given}
-use Rattle.definition.specs.Table.{if_then_else_, slotAt, found, fresh, isFree, isDisconnected, isConnecting, isConnected, isConnectFailed, isPeerDisconnecting, isDisconnecting, failureOf, withHold, index, cidOf, nextId, spent}
+use Rattle.definition.specs.States.{isDisconnected, isConnecting, isConnected, isConnectFailed, isPeerDisconnecting, isDisconnecting, failureOf}
+use Rattle.definition.specs.Slots.{withHold}
+use Rattle.definition.specs.Table.{if_then_else_, slotAt, found, fresh, isFree, index, cidOf, nextId, spent}
 use Rattle.definition.specs.Outcome.{Outcome, change, refuse, done, freeing, gate}
 use Rattle.definition.specs.Pending.{mtuOf, mpsOf, creditsOf, mpsTooLarge, mtuTooLarge}
 

@@ -20,7 +20,8 @@ use Rattle.channel.specs.declared.Verdict.the-variants.{Pass, Stop}
 use Rattle.channel.specs.declared.Slot.{Slot}
 use Rattle.channel.specs.declared.Table.{Table}
 use Rattle.definition.specs.Mem.{Fill, zeros, Move, put, wipe}
-use Rattle.definition.specs.Table.{if_then_else_, placeOf, roomSize, slotAt, live, withSlots, putSlot, freed, left, wellFormed}
+use Rattle.definition.specs.Slots.{left}
+use Rattle.definition.specs.Table.{if_then_else_, placeOf, roomSize, slotAt, live, withSlots, putSlot, freed, wellFormed}
 
 pub record Outcome : Type 0 where
   pub answer : Answer

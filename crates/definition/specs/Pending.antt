@@ -25,7 +25,9 @@ use Rattle.channel.specs.declared.Setting.the-variants as Setting
 use Rattle.channel.specs.declared.Slot.{Slot}
 use Rattle.channel.specs.declared.Table.{Table}
 use Rattle.definition.specs.Mem.{Fill, given}
-use Rattle.definition.specs.Table.{if_then_else_, slotAt, found, isPeerConnecting, isConnected, identifierOf, pendingOf, unheldPendingOf, withHold, index, cidOf}
+use Rattle.definition.specs.States.{isPeerConnecting, isConnected, identifierOf}
+use Rattle.definition.specs.Slots.{withHold}
+use Rattle.definition.specs.Table.{if_then_else_, slotAt, found, pendingOf, unheldPendingOf, index, cidOf}
 use Rattle.definition.specs.Outcome.{Outcome, still, change, refuse, done, freeing, gate}
 
 -- ---- "Defaults: credits D, MTU M-6, MPS M-4."

@@ -44,7 +44,9 @@ use Rattle.channel.specs.declared.Given.the-variants.{Nothing, Is}
 use Rattle.channel.specs.declared.Slot.{Slot}
 use Rattle.channel.specs.declared.Table.{Table}
 use Rattle.definition.specs.Mem.{Fill, given}
-use Rattle.definition.specs.Table.{if_then_else_, slotAt, found, fresh, isFree, isDisconnecting, ofLink, attemptOf, attemptBy, connectedTo, usesPeer, inState, withPeer, withPeerCredits, isCid, slotOf, isRegistered}
+use Rattle.definition.specs.States.{isDisconnecting}
+use Rattle.definition.specs.Slots.{inState, withPeer, withPeerCredits}
+use Rattle.definition.specs.Table.{if_then_else_, slotAt, found, fresh, isFree, ofLink, attemptOf, attemptBy, connectedTo, usesPeer, isCid, slotOf, isRegistered}
 use Rattle.definition.specs.Outcome.{Outcome, still, change, sweep, refuse, done, freeing, leaving, gate}
 use Rattle.definition.specs.Pending.{refusedResponse}
 

@@ -19,6 +19,8 @@ pub mod Pending
 pub mod Opening
 -- holds, disconnects, link down, next disconnect
 pub mod Closing
+-- the bodies of signals in one shape, read or bad
+pub mod Readers
 -- one signal PDU: header check, the eight signals, all other codes
 pub mod Signals
 -- frame in, send, take

@@ -1,6 +1,6 @@
 -- Making and registering, the attention set, the five queries, the two parameter senders. Document 01, 'The job and its edge',
 -- rows 1, 2 and 5, and 'Slots'; the senders and queries as S has them (READINGS L3).
-use mathlib.Core.Bool.{Bool, _&&_, not}
+use mathlib.Core.Bool.{_&&_, not}
 use mathlib.Core.List.{List, [], _∷_, map}
 use Prim.Native.Nat.{ℕ}
 use lib.Dec.{eqb, leb, ltb}

@@ -1,6 +1,6 @@
 -- All calls, and what is job and what is public in each (document 01, 'Slots': "Job octets are the SDU octets handed to a send, and a
 -- frame's payload but for the two length octets of a frame that arrives with no assembly open").
-use mathlib.Core.Bool.{Bool, true, false, _&&_, not}
+use mathlib.Core.Bool.{Bool, false, _&&_, not}
 use mathlib.Core.List.{List, [], _∷_}
 use Prim.Native.Nat.{ℕ}
 use lib.Dec.{eqb}

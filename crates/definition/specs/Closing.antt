@@ -1,7 +1,6 @@
 -- Holds, disconnects, link down, next disconnect. Document 01, 'Slots'.
-use mathlib.Core.Bool.{Bool, _&&_, not}
-use mathlib.Core.List.{List, [], _∷_}
-use mathlib.Core.Bool.{true, false}
+use mathlib.Core.Bool.{true, false, _&&_}
+use mathlib.Core.List.{[], _∷_}
 use Prim.Native.Nat.{ℕ, _+_, _-_}
 use lib.Dec.{eqb, leb}
 use Rattle.codes.specs.declared.Refusal.the-variants.{Held}

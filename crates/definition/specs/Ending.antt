@@ -10,7 +10,7 @@ use Rattle.channel.specs.declared.Answer.{Answer}
 use Rattle.channel.specs.declared.Served.{Served}
 use Rattle.channel.specs.declared.Slot.{Slot}
 use Rattle.channel.specs.declared.Table.{Table}
-use Rattle.definition.specs.Mem.{Fill, given, Move, size, sizes, fill, fills, written, moves, parts}
+use Rattle.definition.specs.Mem.{given, size, sizes, fill, fills, written, moves, parts}
 use Rattle.definition.specs.Table.{width, putSlot}
 use Rattle.definition.specs.Outcome.{Outcome, still, only, change}
 use Rattle.definition.specs.Asking.{Made}

@@ -1,9 +1,9 @@
 -- Frames in, jobs out: frame in, send, take. Document 01, 'Cutting, joining, credits'. None of these sees a job octet: a frame comes
 -- as its length octets (`head`) and the number of its job octets, a send as the number of octets of its SDU.
-use mathlib.Core.Bool.{Bool, true, false, _&&_, _||_, not}
+use mathlib.Core.Bool.{Bool, false, _||_, not}
 use mathlib.Core.List.{List, [], _∷_, _++_}
-use Prim.Native.Nat.{ℕ, zero, suc, _+_, _-_, _*_, _/_, _%_, min}
-use lib.Dec.{eqb, leb, ltb}
+use Prim.Native.Nat.{ℕ, zero, suc, _+_, _-_, _*_, min}
+use lib.Dec.{eqb}
 use lib.ListN.{length, getD, set, drop}
 use Rattle.octets.specs.Octets.{le16, u16At}
 use Rattle.codes.specs.declared.Refusal.the-variants.{InvalidChannelId, NotFound, OutOfMemory, ChannelClosed, QueueFull}
@@ -31,14 +31,11 @@ use Rattle.definition.specs.Mem.{Fill, zeros, given, job, held, Move, pu
 use Rattle.definition.specs.States.{isDisconnected, isConnecting, isPeerConnecting, isConnected, isConnectFailed}
 use Rattle.definition.specs.Slots.{withAccount, withPeerCredits, withAssembly, withQueue}
 use Rattle.definition.specs.Table.{if_then_else_, placeOf, width, slotAt, cidOf, isCid, slotOf, nextId, spent}
-use Rattle.definition.specs.Outcome.{Outcome, change, refuse, done, leaving, gate}
+use Rattle.definition.specs.Outcome.{Outcome, change, handout, refuse, done, unassembled, leaving, gate}
 
 -- ---- frame in
 
--- Where the next finished job goes: behind the assembly place and the jobs that wait.
-abbrev pub queuePlace : Table → Slot → ℕ
-queuePlace t x = queueAt (placeOf t) (x .queue .count)
-
+-- One more job waits. (It stands at `queueAt`, crate sar: behind the assembly place and the jobs that wait.)
 abbrev pub queued : ℕ → Queue → Queue
 queued len q = record { count = q .count + 1; lens = set (q .lens) (q .count) len }
 
@@ -47,14 +44,14 @@ queued len q = record { count = q .count + 1; lens = set (q .lens) (q .count) le
 abbrev pub finishMoves : (place : ℕ) → Assembly → (queued count : ℕ) → List Move
 finishMoves place a queued count =
     if isIdle a then put (queueAt place queued) (job 0 count) ∷ []
-    else put (queueAt place queued) (held 0 (a .have)) ∷ put (queueAt place queued + a .have) (job 0 count) ∷ put 0 (zeros place) ∷ []
+    else put (queueAt place queued) (held 0 (a .have)) ∷ put (queueAt place queued + a .have) (job 0 count) ∷ unassembled place ∷ []
 
 -- What the join step (crate sar_join) moves there. (A refusal moves nothing by itself: the slot leaves Connected, which zeroes the assembly place.)
 abbrev pub joinMoves : (place : ℕ) → Assembly → (queued count : ℕ) → Joined → List Move
 joinMoves place a queued count (Joined.Refused r) = []
 joinMoves place a queued count (Joined.Assembling b) = put (assembled a) (job 0 count) ∷ []
 joinMoves place a queued count (Joined.Finished len) = finishMoves place a queued count
-joinMoves place a queued count Joined.Dropped = put 0 (zeros place) ∷ []
+joinMoves place a queued count Joined.Dropped = unassembled place ∷ []
 
 abbrev pub moved : Table → Slot → (count : ℕ) → Joined → List Move
 moved t x count j = joinMoves (placeOf t) (x .assembly) (x .queue .count) count j
@@ -69,6 +66,23 @@ joined t s x count (Joined.Assembling a) = change t s (withAssembly a x) (moved 
 joined t s x count (Joined.Finished len) = change t s (withQueue (queued len (x .queue)) (withAssembly idle x)) (moved t x count (Joined.Finished len)) Done []
 joined t s x count Joined.Dropped = change t s (withAssembly idle x) (moved t x count Joined.Dropped) (Refused QueueFull) []
 
+-- What the join step is told of a frame and of the slot that it comes to.
+pub record Arrival : Type 0 where
+  pub mtu : ℕ
+  pub mps : ℕ
+  pub depth : ℕ  -- D
+  pub assembly : Assembly
+  pub queued : ℕ  -- the jobs that wait
+  pub payload : ℕ  -- how many octets came
+  pub said : ℕ  -- what the length octets say
+
+abbrev pub stepOf : Arrival → Joined
+stepOf a = joinStep (a .mtu) (a .mps) (a .depth) (a .assembly) (a .queued) (a .payload) (a .said)
+
+abbrev pub arriving : Table → Slot → (head : List ℕ) (count : ℕ) → Arrival
+arriving t x head count =
+    record { mtu = x .mtu; mps = x .mps; depth = t .d; assembly = x .assembly; queued = x .queue .count; payload = length head + count; said = u16At head 0 }
+
 -- "Frame in (CID, payload): 7; not Connected: dropped, answer 0; another link's slot 8; no credit 10; one credit used."
 
 -- Behind the first refusals.
@@ -80,8 +94,7 @@ admitted t link cid head count =
     else if not (isConnected (x .state)) then done t
     else if not (eqb (x .link) link) then refuse t NotFound
     else if eqb (x .account .credits) 0 then refuse t OutOfMemory
-    else joined t s (withAccount (received (x .account) 1) x) count
-    (joinStep (x .mtu) (x .mps) (t .d) (x .assembly) (x .queue .count) (length head + count) (u16At head 0))
+    else joined t s (withAccount (received (x .account) 1) x) count (stepOf (arriving t x head count))
 
 unfoldable pub dispatch : Table → (room link cid : ℕ) (head : List ℕ) (count : ℕ) → Outcome
 dispatch t room link cid head count = gate t (Is room) Nothing (Is link) Nothing (admitted t link cid head count)
@@ -123,19 +136,29 @@ send t s l out = gate t Nothing Nothing Nothing (Is s) (sentOn t s l out)
 abbrev pub shifted : Queue → Queue
 shifted q = record { count = q .count - 1; lens = drop 1 (q .lens) ++ (0 ∷ []) }
 
--- Later places move up, and the last that was occupied is zeroed: in the part of a slot with so many jobs, in places of p octets.
+-- Later places move up, and the last that was occupied is zeroed: in the part of a slot with so many jobs, in places of p octets, of which place k
+-- begins at k * p (the assembly place is 0, the oldest job's 1).
 abbrev pub upwards : (p count : ℕ) → List Move
 upwards p count = put p (held (2 * p) ((count - 1) * p)) ∷ put (count * p) (zeros p) ∷ []
 
 abbrev pub movingUp : Table → Slot → List Move
 movingUp t x = upwards (placeOf t) (x .queue .count)
 
--- The oldest job is copied out, min(job, buffer) octets; x is the slot with its account as it is left.
+-- Where slot s's oldest job stands in the room: in the place behind that for assembly.
+abbrev pub oldestAt : Table → (slot : ℕ) → ℕ
+oldestAt t s = s * width t + placeOf t
+
+-- The octets of a slot's oldest job, and how many of them are copied: "min(job, buffer) octets".
+abbrev pub oldest : Slot → ℕ
+oldest x = getD (x .queue .lens) 0 0
+
+abbrev pub copied : Slot → (size : ℕ) → ℕ
+copied x size = min (oldest x) size
+
+-- The oldest job is copied out; x is the slot with its account as it is left.
 abbrev pub handing : Table → (slot : ℕ) → Slot → (size : ℕ) → List Fill → Outcome
 handing t s x size signal =
-    let len = getD (x .queue .lens) 0 0 in
-    let o = change t s (withQueue (shifted (x .queue)) x) (movingUp t x) (Job (x .link) (min len size) len) signal in
-    record { answer = o .answer; table = o .table; parts = o .parts; out = o .out; job = held (s * width t + placeOf t) (min len size) ∷ [] }
+    handout t s (withQueue (shifted (x .queue)) x) (movingUp t x) (Job (x .link) (copied x size) (oldest x)) signal (held (oldestAt t s) (copied x size) ∷ [])
 
 -- "Connected only: Every(k) grants all received when received ≥ k, MinThreshold(t) when credits < t, never 0 credits."
 unfoldable pub grantIn : Slot → Grant

@@ -1,6 +1,6 @@
 -- From the contracts to runs. A call that ends as its contract says leaves what stands next in a run: ONE law for all calls. And what the
 -- contract of a call that is not lent the room says without it (Roomless.antt) holds with the run's room, which stays as it was.
-use mathlib.Core.Path.{_≡_, refl, sym, ap, ap₂, _∙_}
+use mathlib.Core.Path.{_≡_, refl, ap, ap₂}
 use mathlib.Core.Bool.{true, false≢true}
 use mathlib.Core.List.{List, [], _∷_, _++_}
 use Prim.Native.Nat.{ℕ}

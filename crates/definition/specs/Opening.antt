@@ -1,6 +1,6 @@
 -- Connections that we ask for: create, the opened query, give-up. Document 01, 'Slots' and row 13.
 use mathlib.Core.Bool.{Bool, _&&_, _||_, not}
-use mathlib.Core.List.{List, [], _∷_}
+use mathlib.Core.List.{[], _∷_}
 use Prim.Native.Nat.{ℕ}
 use lib.Dec.{eqb, leb}
 use Rattle.codes.specs.declared.Refusal.the-variants.{NotFound, InsufficientSpace, NoChannelAvailable, ConnectError, Disconnected, Held}

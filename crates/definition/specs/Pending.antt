@@ -15,8 +15,7 @@ use Rattle.signal_forms.specs.Forms.{rejectRes}
 use Rattle.signal_write.specs.Writer.{encodeOf}
 use Rattle.signal_forms.specs.declared.LeCreditConnRes.{LeCreditConnRes}
 use Rattle.signal_forms.specs.declared.Signal.the-variants as Signal
-use Rattle.channel.specs.Limits.{frameHead, jobHead}
-use Rattle.channel.specs.declared.Answer.the-variants.{Done, Refused, At, Link}
+use Rattle.channel.specs.declared.Answer.the-variants.{Done, At, Link}
 use Rattle.channel.specs.declared.ChannelState.the-variants.{Connected}
 use Rattle.channel.specs.declared.Given.the-variants.{Nothing, Is}
 use Rattle.channel.specs.declared.L2capChannelConfig.{L2capChannelConfig}
@@ -27,8 +26,8 @@ use Rattle.channel.specs.declared.Table.{Table}
 use Rattle.definition.specs.Mem.{Fill, given}
 use Rattle.definition.specs.States.{isPeerConnecting, isConnected, identifierOf}
 use Rattle.definition.specs.Slots.{withHold}
-use Rattle.definition.specs.Table.{if_then_else_, slotAt, found, pendingOf, unheldPendingOf, index, cidOf}
-use Rattle.definition.specs.Outcome.{Outcome, still, change, refuse, done, freeing, gate}
+use Rattle.definition.specs.Table.{if_then_else_, placeOf, mpsMost, slotAt, found, pendingOf, unheldPendingOf, index, cidOf}
+use Rattle.definition.specs.Outcome.{Outcome, change, refuse, done, freeing, gate}
 
 -- ---- "Defaults: credits D, MTU M-6, MPS M-4."
 
@@ -37,10 +36,10 @@ settled usual Setting.Default = usual
 settled usual (Setting.Is n) = n
 
 abbrev pub mtuOf : Table → L2capChannelConfig → ℕ
-mtuOf t c = settled (t .m - jobHead) (c .mtu)
+mtuOf t c = settled (placeOf t) (c .mtu)
 
 abbrev pub mpsOf : Table → L2capChannelConfig → ℕ
-mpsOf t c = settled (t .m - frameHead) (c .mps)
+mpsOf t c = settled (mpsMost t) (c .mps)
 
 abbrev pub creditsOf : Table → L2capChannelConfig → ℕ
 creditsOf t c = settled (t .d) (c .credits)
@@ -48,10 +47,10 @@ creditsOf t c = settled (t .d) (c .credits)
 -- "MPS and MTU (12)": "local MPS > M-4, then local MTU > M-6"
 
 abbrev pub mpsTooLarge : Table → L2capChannelConfig → Bool
-mpsTooLarge t c = ltb (t .m - frameHead) (mpsOf t c)
+mpsTooLarge t c = ltb (mpsMost t) (mpsOf t c)
 
 abbrev pub mtuTooLarge : Table → L2capChannelConfig → Bool
-mtuTooLarge t c = ltb (t .m - jobHead) (mtuOf t c)
+mtuTooLarge t c = ltb (placeOf t) (mtuOf t c)
 
 -- ---- "Refused responses carry zeros before the result."
 

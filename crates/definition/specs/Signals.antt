@@ -1,14 +1,12 @@
 -- One signal PDU: document 01, 'Signals'. Every header is checked, then the first signal is handled; the part after it is `restOf`
 -- (crate signal_headers), which the next call is given, until nothing is left (Run.antt, `signalCalls`). Core Vol 3 Part A, 4.
-use mathlib.Core.Bool.{Bool, true, false, _&&_, not}
+use mathlib.Core.Bool.{Bool, false, _&&_, not}
 use mathlib.Core.List.{List, [], _∷_}
 use Prim.Native.Nat.{ℕ, _+_}
 use lib.Dec.{eqb, leb, ltb}
-use lib.ListN.{length, getD, take, drop}
-use Rattle.codes.specs.declared.LeCreditConnResultCode.{LeCreditConnResultCode}
+use lib.ListN.{length, getD}
 use Rattle.codes.specs.declared.LeCreditConnResultCode.the-variants as Result
 use Rattle.codes.specs.Codes.{resultNumber}
-use Rattle.codes.specs.declared.Refusal.{Refusal}
 use Rattle.codes.specs.declared.Refusal.the-variants.{NotFound, InvalidValue, Decode, NotSupported, ConnectError}
 use Rattle.signal_headers.specs.Headers.{headersOf, bodyIn}
 use Rattle.signal_parameter_rule.specs.Parameters.{parametersValid}
@@ -19,7 +17,6 @@ use Rattle.signal_forms.specs.declared.LeCreditConnReq.{LeCreditConnReq}
 use Rattle.signal_forms.specs.declared.LeCreditConnRes.{LeCreditConnRes}
 use Rattle.signal_forms.specs.declared.Signal.the-variants as Signal
 use Rattle.channel.specs.Limits.{creditsMost}
-use Rattle.channel.specs.declared.Answer.{Answer}
 use Rattle.channel.specs.declared.Answer.the-variants.{Done, Refused, Event}
 use Rattle.channel.specs.declared.ChannelState.the-variants.{PeerConnecting, Connected, ConnectFailed, PeerDisconnecting, Disconnecting}
 use Rattle.channel.specs.declared.Given.the-variants.{Nothing, Is}
@@ -131,6 +128,10 @@ onParameters t id b =
     if parametersValid req then still t (Event (req .min) (req .max) (req .latency) (req .timeout)) []
     else still t Done (given (encodeOf id (Signal.ConnParamUpdateRes (record { result = 1 }))) ∷ [])
 
+-- "not Central → reject, answer 0, before the body is read"
+abbrev pub onUpdate : Table → (central : Bool) (id : ℕ) (body : List ℕ) → Outcome
+onUpdate t central id body = if central then onParameters t id (connParamUpdateReq body) else still t Done (rejectReply id 0)
+
 -- ---- "0x01 and 0x13: read, no reply, answer 0." (4.1, 4.21)
 
 unfoldable pub onReject : Table → (id : ℕ) → CommandRejectResRead → Outcome
@@ -146,7 +147,7 @@ handled t link listening central code id body =
     if eqb code 0x01 then onReject t id (commandRejectRes body)
     else if eqb code 0x06 then onDisconnectionReq t link id (disconnectionReq body)
     else if eqb code 0x07 then onDisconnectionRes t link id (disconnectionRes body)
-    else if eqb code 0x12 then (if central then onParameters t id (connParamUpdateReq body) else still t Done (rejectReply id 0))
+    else if eqb code 0x12 then onUpdate t central id body
     else if eqb code 0x13 then onParameterResponse t id (connParamUpdateRes body)
     else if eqb code 0x14 then onConnReq t link listening id (leCreditConnReq body)
     else if eqb code 0x15 then onConnRes t link id (leCreditConnRes body)

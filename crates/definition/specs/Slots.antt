@@ -2,6 +2,7 @@
 use Prim.Native.Nat.{ℕ}
 use Rattle.credit.specs.declared.CreditFlowControl.{CreditFlowControl}
 use Rattle.sar_join.specs.declared.Assembly.{Assembly}
+use Rattle.sar_join.specs.Joining.{idle}
 use Rattle.channel.specs.declared.ChannelState.{ChannelState}
 use Rattle.channel.specs.declared.Peer.{Peer}
 use Rattle.channel.specs.declared.Queue.{Queue}
@@ -30,4 +31,4 @@ withQueue q x = record { state = x .state; link = x .link; spsm = x .spsm; mps =
 
 -- "leaving Connected [zeroes] the assembly place": no assembly is open any more
 abbrev pub left : ChannelState → Slot → Slot
-left k x = withAssembly (record { have = 0; want = 0 }) (inState k x)
+left k x = withAssembly idle (inState k x)

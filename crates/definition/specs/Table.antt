@@ -10,7 +10,8 @@ use Rattle.lists.specs.First.{first}
 use Rattle.lists.specs.Every.{every}
 use Rattle.credit.specs.declared.CreditFlowPolicy.the-variants.{Every}
 use Rattle.credit.specs.Account.{newAccount, creditSum}
-use Rattle.channel.specs.Limits.{slotsMost, depthMost, packetLeast, packetMost, jobHead, cidBase, identifierMost, spsmMost, creditsMost}
+use Rattle.sar_join.specs.Joining.{idle}
+use Rattle.channel.specs.Limits.{slotsMost, depthMost, packetLeast, packetMost, frameHead, jobHead, cidBase, identifierMost, spsmMost, creditsMost}
 use Rattle.channel.specs.declared.ChannelIndex.{ChannelIndex}
 use Rattle.channel.specs.declared.ChannelState.the-variants.{Disconnected}
 use Rattle.channel.specs.declared.Queue.{Queue}
@@ -29,6 +30,10 @@ if_then_else_ = choose
 -- "place M-6 octets"
 abbrev pub placeOf : Table → ℕ
 placeOf t = t .m - jobHead
+
+-- "MPS M-4": the most octets of a frame's payload
+abbrev pub mpsMost : Table → ℕ
+mpsMost t = t .m - frameHead
 
 -- "one place for assembly, then D for finished jobs": a slot's part of the room, of a table of these sizes
 abbrev pub partWidth : (d m : ℕ) → ℕ
@@ -55,7 +60,7 @@ fresh hold =
       account = newAccount (Every 1) 0;
       hold = hold;
       peer = record { cid = 0; mps = 0; mtu = 0; credits = 0 };
-      assembly = record { have = 0; want = 0 };
+      assembly = idle;
       queue = record { count = 0; lens = replicate depthMost 0 };
     }
 
@@ -149,9 +154,12 @@ slotOf cid = cid - cidBase
 abbrev pub nextId : Table → ℕ
 nextId t = choose (eqb (t .identifier) 0) 1 (t .identifier)
 
+abbrev pub idAfter : ℕ → ℕ
+idAfter id = choose (eqb id identifierMost) 1 (id + 1)
+
 -- The table once that identifier was used.
 abbrev pub spent : Table → Table
-spent t = record { slots = t .slots; n = t .n; d = t .d; m = t .m; identifier = choose (eqb (nextId t) identifierMost) 1 (nextId t + 1); spsms = t .spsms }
+spent t = record { slots = t .slots; n = t .n; d = t .d; m = t .m; identifier = idAfter (nextId t); spsms = t .spsms }
 
 -- ---- registered SPSMs: bit s % 8 of octet s / 8
 

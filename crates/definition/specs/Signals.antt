@@ -22,7 +22,9 @@ use Rattle.channel.specs.declared.ChannelState.the-variants.{PeerConnecting, Co
 use Rattle.channel.specs.declared.Given.the-variants.{Nothing, Is}
 use Rattle.channel.specs.declared.Slot.{Slot}
 use Rattle.channel.specs.declared.Table.{Table}
-use Rattle.definition.specs.Readers.{CommandRejectResRead, DisconnectionReqRead, DisconnectionResRead, ConnParamUpdateReqRead, ConnParamUpdateResRead, LeCreditConnReqRead, LeCreditConnResRead, LeCreditFlowIndRead, Body, bad, read, rejectBody, disconnectionReqBody, disconnectionResBody, parametersBody, parameterResponseBody, connReqBody, connResBody, creditsBody, commandRejectRes, disconnectionReq, disconnectionRes, connParamUpdateReq, connParamUpdateRes, leCreditConnReq, leCreditConnRes, leCreditFlowInd}
+use Rattle.definition.specs.Readers.{CommandRejectResRead, DisconnectionReqRead, DisconnectionResRead, ConnParamUpdateReqRead, ConnParamUpdateResRead, LeCreditConnReqRead, LeCreditConnResRead, LeCreditFlowIndRead}
+use Rattle.definition.specs.Readers.{Body, bad, read, rejectBody, disconnectionReqBody, disconnectionResBody, parametersBody, parameterResponseBody, connReqBody, connResBody, creditsBody}
+use Rattle.definition.specs.Readers.{commandRejectRes, disconnectionReq, disconnectionRes, connParamUpdateReq, connParamUpdateRes, leCreditConnReq, leCreditConnRes, leCreditFlowInd}
 use Rattle.definition.specs.Mem.{Fill, given}
 use Rattle.definition.specs.States.{isDisconnecting}
 use Rattle.definition.specs.Slots.{inState, withPeer, withPeerCredits}

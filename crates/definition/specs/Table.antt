@@ -28,8 +28,11 @@ if_then_else_ = choose
 -- ---- sizes
 
 -- "place M-6 octets"
+abbrev pub placeSize : (m : ℕ) → ℕ
+placeSize m = m - jobHead
+
 abbrev pub placeOf : Table → ℕ
-placeOf t = t .m - jobHead
+placeOf t = placeSize (t .m)
 
 -- "MPS M-4": the most octets of a frame's payload
 abbrev pub mpsMost : Table → ℕ
@@ -37,14 +40,17 @@ mpsMost t = t .m - frameHead
 
 -- "one place for assembly, then D for finished jobs": a slot's part of the room, of a table of these sizes
 abbrev pub partWidth : (d m : ℕ) → ℕ
-partWidth d m = suc d * (m - jobHead)
+partWidth d m = suc d * placeSize m
 
 abbrev pub width : Table → ℕ
 width t = partWidth (t .d) (t .m)
 
 -- "room exactly N·(D+1)·(M-6) octets"
+abbrev pub roomWidth : (n d m : ℕ) → ℕ
+roomWidth n d m = n * partWidth d m
+
 abbrev pub roomSize : Table → ℕ
-roomSize t = t .n * width t
+roomSize t = roomWidth (t .n) (t .d) (t .m)
 
 -- ---- slots
 

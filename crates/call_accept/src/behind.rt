@@ -1,13 +1,13 @@
 // An accept that nothing refuses: our numbers, a new account, and the response. It stands behind the gate, which has found the sizes to be within
-// their limits and the signal buffer to be long enough. Its contract is the last line of the definition.
+// their limits and the signal buffer to be long enough. Its contract is the equation with the definition's `agreed`.
 ghost use mathlib.Core.Path.{_≡_};
 ghost use mathlib.Core.List.{[]};
 ghost use Prim.Native.Nat.{_≤_, _<_};
 ghost use lib.ListN.{length};
 ghost use Rattle.channel.specs.Limits.{signalMost};
 ghost use Rattle.definition.specs.Ending.{end, endOf};
+ghost use Rattle.definition.specs.Pending.{agreed};
 ghost use Rattle.table_gate.specs.Sizes.{Sized};
-ghost use Rattle.call_accept.specs.Agreed.{agreed};
 use channel::Answer;
 use channel::L2capChannelConfig;
 use channel::Served;

@@ -1,13 +1,13 @@
 // A create that nothing refuses: our attempt in a free slot, and the request. It stands behind the gate, which has found the sizes to be within
-// their limits and the signal buffer to be long enough. Its contract is the last line of the definition.
+// their limits and the signal buffer to be long enough. Its contract is the equation with the definition's `started`.
 ghost use mathlib.Core.Path.{_≡_};
 ghost use mathlib.Core.List.{[]};
 ghost use Prim.Native.Nat.{_≤_, _<_};
 ghost use lib.ListN.{length};
 ghost use Rattle.channel.specs.Limits.{signalMost};
 ghost use Rattle.definition.specs.Ending.{end, endOf};
+ghost use Rattle.definition.specs.Opening.{started};
 ghost use Rattle.table_gate.specs.Sizes.{Sized};
-ghost use Rattle.call_create.specs.Started.{started};
 use channel::Answer;
 use channel::L2capChannelConfig;
 use channel::Served;

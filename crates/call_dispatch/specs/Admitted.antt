@@ -1,46 +1,23 @@
--- A frame that has passed the first refusals: which of its octets are length octets and which are job octets, as the calls of a run have it
--- (definition, Calls.antt), and what it comes to.
-use mathlib.Core.Path.{_≡_, refl, sym, ap, _∙_}
+-- A frame that has passed the first refusals: the step that its length octets and the number of its job octets decide (definition, Calls.antt) is
+-- that which its payload decides.
+use mathlib.Core.Path.{_≡_, refl}
 use mathlib.Core.Bool.{Bool, true, false, not}
-use mathlib.Core.List.{List, [], _∷_}
-use Prim.Native.Nat.{ℕ, zero, suc, _+_, _≤_, _<_}
+use mathlib.Core.List.{List, []}
+use Prim.Native.Nat.{ℕ, _+_}
 use native.Mathlib.Nat.{zero-add}
 use native.Mathlib.Omega.{arith}
-use lib.Dec.{eqb, leb}
-use lib.ListN.{length, getD, take, drop, length-take, length-drop}
+use lib.ListN.{length, take, drop, length-take, length-drop}
 use lib.Seq.{getD-take}
-use borrow.Author.Tests.{leb-true, le-leb}
 use Rattle.lists.specs.Choose.{choose}
-use Rattle.lists.specs.Both.{and-left, and-right}
-use Rattle.lists.specs.Every.{every}
 use Rattle.octets.specs.Octets.{u16At}
-use Rattle.codes.specs.declared.Refusal.the-variants.{InvalidChannelId, NotFound, OutOfMemory}
-use Rattle.credit.specs.Account.{received}
 use Rattle.sar_join.specs.declared.Assembly.{Assembly}
 use Rattle.sar_join.specs.Joining.{isIdle, jobOctets, joinStep}
 use Rattle.channel.specs.declared.Slot.{Slot}
 use Rattle.channel.specs.declared.Table.{Table}
-use Rattle.definition.specs.Table.{if_then_else_, placeOf, gap, slotAt, live, isConnected, withAccount, isCid, slotOf, sizesFit, slotFits, wellFormed}
-use Rattle.definition.specs.Outcome.{Outcome, refuse, done}
+use Rattle.definition.specs.Table.{slotAt, isCid, slotOf}
 use Rattle.definition.specs.Frames.{joined}
-use Rattle.definition.specs.Calls.{frame, joining, jobs}
+use Rattle.definition.specs.Calls.{frame, headOf, jobs}
 use Rattle.definition.specs.Ending.{endOf}
-
--- the length octets of a payload: its first two, where no assembly is open
-unfoldable pub headOf : Table → (cid : ℕ) → List ℕ → List ℕ
-headOf t cid p = choose (joining t cid) [] (take 2 p)
-
--- behind the first refusals
-unfoldable pub admitted : Table → (link cid : ℕ) → List ℕ → ℕ → Outcome
-admitted t link cid head count =
-    let s = slotOf cid in
-    let x = slotAt t s in
-    if not (isCid t cid) then refuse t InvalidChannelId
-    else if not (isConnected (x .state)) then done t
-    else if not (eqb (x .link) link) then refuse t NotFound
-    else if eqb (x .account .credits) 0 then refuse t OutOfMemory
-    else joined t s (withAccount (received (x .account) 1) x) count
-    (joinStep (x .mtu) (x .mps) (t .d) (x .assembly) (x .queue .count) (length head + count) (u16At head 0))
 
 -- ---- a frame to a slot with the assembly a
 
@@ -61,7 +38,6 @@ module _ (t : Table) (link cid : ℕ) (p : List ℕ) (a : Assembly) (named : isC
   jobs-are = rw (named, mine, swap (isIdle a) p (drop 2 p))
 
   head-is : headOf t cid p ≡ choose (isIdle a) (take 2 p) []
-  unfolding headOf
   head-is = rw (named, mine, swap (isIdle a) [] (take 2 p))
 
 -- the step that the length octets and the number of job octets decide is that which the payload decides

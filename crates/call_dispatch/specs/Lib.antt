@@ -1,4 +1,2 @@
--- A frame in, from its payload.
-pub mod Framed
--- A frame that has passed the first refusals.
+-- What a frame that has passed the first refusals decides.
 pub mod Admitted

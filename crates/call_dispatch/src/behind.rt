@@ -1,14 +1,14 @@
 // A frame in, behind the gate: whose frame it is, one credit used, and the payload joined. Its
-// contract is the equation with what follows the gate in the definition, for every payload.
+// contract is the equation with the definition of that name, for every payload.
 ghost use mathlib.Core.Path.{_≡_};
 ghost use mathlib.Core.Bool.{true};
 ghost use mathlib.Core.List.{[]};
 ghost use lib.ListN.{length};
 ghost use Rattle.definition.specs.Table.{wellFormed};
-ghost use Rattle.definition.specs.Calls.{frame, jobs};
+ghost use Rattle.definition.specs.Frames.{admitted};
+ghost use Rattle.definition.specs.Calls.{frame, headOf, jobs};
 ghost use Rattle.definition.specs.Ending.{end, endOf};
 ghost use Rattle.table_room.specs.Placed.{RoomOf};
-ghost use Rattle.call_dispatch.specs.Admitted.{headOf, admitted};
 use channel::Cid;
 use channel::Served;
 use channel::Table;

@@ -1,17 +1,16 @@
 // The payload of a frame joined in its slot's part of the room: what crate sar_join leaves there is what the
 // definition's moves make of it; and one more job in a queue.
 ghost use mathlib.Core.Path.{_≡_};
-ghost use Prim.Native.Nat.{_-_, _≤_, _<_};
+ghost use Prim.Native.Nat.{_≤_, _<_};
 ghost use lib.ListN.{length};
 ghost use Rattle.octets.specs.Octets.{u16At};
 ghost use Rattle.sar_join.specs.Joining.{jobOctets, joinStep};
-ghost use Rattle.channel.specs.Limits.{depthMost, jobHead};
+ghost use Rattle.channel.specs.Limits.{depthMost};
 ghost use Rattle.definition.specs.Mem.{parts};
+ghost use Rattle.definition.specs.Table.{placeSize, partWidth};
 ghost use Rattle.definition.specs.Outcome.{only};
-ghost use Rattle.definition.specs.Frames.{queued};
-ghost use Rattle.table_gate.specs.Sizes.{partWidth};
+ghost use Rattle.definition.specs.Frames.{queued, joinMoves};
 ghost use Rattle.table_room.specs.Placed.{Placed};
-ghost use Rattle.call_dispatch_join.specs.Moved.{joinMoves};
 use channel::Queue;
 use sar_join::Assembly;
 use sar_join::Joined;
@@ -28,9 +27,9 @@ pub fn join_part(
     queued: usize,
     payload: &[u8],
 ) -> Joined
-    requires { ⌜ Placed d m s (length (now room)) × (a .have ≤ m - jobHead) ⌝ }
+    requires { ⌜ Placed d m s (length (now room)) × (a .have ≤ placeSize m) ⌝ }
     ensures { λ r. ⌜ (r ≡ joinStep mtu mps d a queued (length (now (payload .entry))) (u16At (now (payload .entry)) 0))
-        × (now (room .exit) ≡ parts (λ x. x) (jobOctets a (now (payload .entry))) (partWidth d m) (only s (joinMoves (m - jobHead) a queued (length (jobOctets a (now (payload .entry)))) r)) (now (room .entry))) ⌝ }
+        × (now (room .exit) ≡ parts (λ x. x) (jobOctets a (now (payload .entry))) (partWidth d m) (only s (joinMoves (placeSize m) a queued (length (jobOctets a (now (payload .entry)))) r)) (now (room .entry))) ⌝ }
 {
     let place = table_gate::place_size(m);
     let w = table_gate::part_size(d, m);

@@ -3,9 +3,8 @@
 ghost use mathlib.Core.Path.{_≡_};
 ghost use mathlib.Core.List.{[], map};
 ghost use Rattle.lists.specs.Choose.{choose};
-ghost use Rattle.definition.specs.Ending.{end};
-ghost use Rattle.definition.specs.Asking.{blank, make};
-ghost use Rattle.call_make.specs.Made.{endMade, notMade};
+ghost use Rattle.definition.specs.Ending.{end, servedMade, endMade};
+ghost use Rattle.definition.specs.Asking.{blank, notMade, make};
 use channel::Answer;
 use channel::SLOTS;
 use channel::Served;
@@ -41,7 +40,7 @@ fn zero_if(room: &mut [u8], made: bool)
 
 // A refused making gives the table of no slots.
 fn not_made(r: Refusal) -> Served
-    ensures { λ x. ⌜ x ≡ notMade r ⌝ }
+    ensures { λ x. ⌜ x ≡ servedMade (notMade r []) ⌝ }
 {
     table::refused(blank(0, 0, 0), r)
 }

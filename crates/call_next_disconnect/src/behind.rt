@@ -1,15 +1,15 @@
 // What is told the peer of a disconnect: the response to its request, or our own request. They stand behind the gate, which has found room and
-// signal buffer to be as long as the table says. Each contract is a line of the definition's
-// `nextDisconnect`.
+// signal buffer to be as long as the table says. Each contract is the equation with the
+// definition's `responded` or `requested`.
 ghost use mathlib.Core.Path.{_≡_};
 ghost use mathlib.Core.List.{List, []};
 ghost use Prim.Native.Nat.{ℕ, _≤_, _<_};
 ghost use lib.ListN.{length};
 ghost use Rattle.channel.specs.Limits.{signalMost};
 ghost use Rattle.channel.specs.declared.Table.{Table as TableOf};
+ghost use Rattle.definition.specs.Closing.{responding, requesting, responded, requested};
 ghost use Rattle.definition.specs.Ending.{end, endOf};
 ghost use Rattle.table_room.specs.Placed.{RoomOf};
-ghost use Rattle.call_next_disconnect.specs.Parting.{responding, requesting, responded, requested};
 use channel::Answer;
 use channel::CID_BASE;
 use channel::ChannelState;

@@ -1,13 +1,13 @@
 // The opened query of a slot that is in use and of the link asked: what has ended is freed, and Connected takes a hold. It stands behind the gate,
-// which has found the room to be as long as the table says. Its contract is the equation with what follows
-// there in the definition.
+// which has found the room to be as long as the table says. Its contract is the equation with the
+// definition of that name.
 ghost use mathlib.Core.Path.{_≡_};
 ghost use mathlib.Core.List.{[]};
 ghost use Prim.Native.Nat.{_<_};
 ghost use lib.ListN.{length};
 ghost use Rattle.definition.specs.Ending.{end, endOf};
+ghost use Rattle.definition.specs.Opening.{polled};
 ghost use Rattle.table_room.specs.Placed.{RoomOf};
-ghost use Rattle.call_opened.specs.Polled.{polled};
 use channel::Answer;
 use channel::Served;
 use channel::Slot;

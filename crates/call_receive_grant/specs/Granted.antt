@@ -1,4 +1,4 @@
--- The signal of a grant, and how what was handed out, booked and written comes to the definition's end.
+-- How what was handed out, booked and written comes to the definition's end.
 use mathlib.Core.Path.{_≡_, refl}
 use mathlib.Core.List.{List, []}
 use Prim.Native.Nat.{ℕ}
@@ -11,15 +11,11 @@ use Rattle.signal_write.specs.Writer.{encodeOf}
 use Rattle.channel.specs.declared.Served.{Served}
 use Rattle.channel.specs.declared.Slot.{Slot}
 use Rattle.channel.specs.declared.Table.{Table}
-use Rattle.definition.specs.Table.{withAccount, cidOf, nextId, spent}
+use Rattle.definition.specs.Table.{withAccount, nextId, spent}
 use Rattle.definition.specs.Ending.{end, endOf}
-use Rattle.definition.specs.Frames.{taken}
+use Rattle.definition.specs.Frames.{crediting, taken}
 use Rattle.table_endings.specs.Reply.{Replied}
 use Rattle.call_receive_hand.specs.Handed.{Handed, hands-telling}
-
--- The signal that grants n credits to slot s's peer.
-abbrev pub crediting : (s n : ℕ) → LeCreditFlowInd
-crediting s n = record { cid = cidOf s; credits = n }
 
 -- the identifier is used, the credits are booked, and their signal is written
 pub takes-granting : (t : Table) (s : ℕ) (x : Slot) {room job : List ℕ} {r : Served} {room′ job′ : List ℕ} (out : List ℕ) {u : Table} {y : Slot} {id n octets : ℕ} {ind : LeCreditFlowInd} {out′ : List ℕ}

@@ -1,4 +1,2 @@
 -- A job handed out, as the code does it, and how that comes to the definition's end.
 pub mod Handed
--- The moves of a job that is handed out.
-pub mod Upwards

@@ -2,23 +2,23 @@
 // occupied is zeroed.
 ghost use mathlib.Core.Path.{_≡_};
 ghost use mathlib.Core.List.{[]};
-ghost use Prim.Native.Nat.{_+_, _-_, _*_, _≤_, _<_};
+ghost use Prim.Native.Nat.{_+_, _*_, _≤_, _<_};
 ghost use lib.ListN.{length};
 ghost use lib.Seq.{sets};
 ghost use Rattle.octets.specs.Octets.{part};
-ghost use Rattle.channel.specs.Limits.{packetMost, jobHead};
+ghost use Rattle.channel.specs.Limits.{packetMost};
 ghost use Rattle.definition.specs.Mem.{moves, parts};
+ghost use Rattle.definition.specs.Table.{placeSize, partWidth};
 ghost use Rattle.definition.specs.Outcome.{only};
+ghost use Rattle.definition.specs.Frames.{upwards};
 ghost use Rattle.definition.specs.Ending.{itself};
-ghost use Rattle.table_gate.specs.Sizes.{partWidth};
 ghost use Rattle.table_room.specs.Placed.{Placed};
-ghost use Rattle.call_receive_hand.specs.Upwards.{upwards};
 
 // Copies n octets of slot s's oldest job to the buffer, and moves the later ones of its `count` jobs up.
 pub fn hand_out(room: &mut [u8], d: usize, m: usize, s: usize, count: u8, job: &mut [u8], n: usize)
     requires { ⌜ Placed d m s (length (now room)) × (0 < count) ⌝ }
-    ensures { λ _. ⌜ (now (room .exit) ≡ parts itself [] (partWidth d m) (only s (upwards (m - jobHead) count)) (now (room .entry)))
-        × (now (job .exit) ≡ sets (now (job .entry)) 0 (part (now (room .entry)) (s * partWidth d m + (m - jobHead)) n)) ⌝ }
+    ensures { λ _. ⌜ (now (room .exit) ≡ parts itself [] (partWidth d m) (only s (upwards (placeSize m) count)) (now (room .entry)))
+        × (now (job .exit) ≡ sets (now (job .entry)) 0 (part (now (room .entry)) (s * partWidth d m + placeSize m) n)) ⌝ }
 {
     let place = table_gate::place_size(m);
     let w = table_gate::part_size(d, m);

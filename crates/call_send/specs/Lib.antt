@@ -1,2 +1,2 @@
--- What a send behind the gate comes to, and that its frames are those that are cut.
+-- The frames of a send are those that are cut.
 pub mod Sent

@@ -1,37 +1,26 @@
--- A send behind the gate, and its law: the octets of the definition's frames, given the job's, are those that `sar_cut` writes. It rests on
--- the frames of a job taken one by one (crate cutting: framed-start, framed-turn, count-first).
-use mathlib.Core.Path.{_≡_, refl, sym, ap, _∙_}
-use mathlib.Core.Bool.{not}
-use mathlib.Core.List.{List, [], _∷_, _++_}
+-- The law of a send: the octets of the definition's frames, given the job's, are those that `sar_cut` writes. It rests on the frames
+-- of a job taken one by one (crate framing: framed-start, framed-turn, count-first).
+use mathlib.Core.Path.{_≡_, refl, sym, _∙_}
+use mathlib.Core.List.{List, []}
 use Prim.Native.Nat.{ℕ, zero, suc, _+_, _-_, _*_, _≤_, _<_, min}
 use native.Mathlib.Omega.{arith}
 use lib.ListN.{length, take, drop, length-drop}
 use lib.Seq.{sets, length-take-le}
-use Rattle.codes.specs.declared.Refusal.{Refusal}
-use Rattle.codes.specs.declared.Refusal.the-variants.{ChannelClosed}
-use Rattle.octets.specs.Octets.{part, le16}
+use Rattle.octets.specs.Octets.{part}
 use Rattle.octets.specs.Sets.{part-length}
 use Rattle.sar_cut.specs.declared.Plan.{Plan}
 use Rattle.sar_cut.specs.declared.Plan.the-variants as Plan
-use Rattle.sar_cut.specs.Cutting.{ceil, frameCount, framesLength, frame, framesOf, planSend, outputAfter}
-use Rattle.sar_cut.specs.CutLaws.{split, ceil-zero, ceil-more, Allowed, plan-allowed}
+use Rattle.sar_cut.specs.Cutting.{ceil, frameCount, framesLength, frame, framesOf}
+use Rattle.sar_cut.specs.CutLaws.{ceil-zero, ceil-more, Allowed}
 use Rattle.sar_frames.specs.FrameLaws.{framed, framed-nil, framed-start, framed-turn, count-first}
 use Rattle.channel.specs.declared.Answer.the-variants.{Frames}
 use Rattle.channel.specs.declared.Served.{Served}
 use Rattle.channel.specs.declared.Slot.{Slot}
 use Rattle.channel.specs.declared.Table.{Table}
 use Rattle.definition.specs.Mem.{size, sizes, fill, fills, written}
-use Rattle.definition.specs.Table.{if_then_else_, width, slotAt, putSlot, isConnected, withPeerCredits}
-use Rattle.definition.specs.Outcome.{Outcome, refuse}
-use Rattle.definition.specs.Ending.{itself, end, endOf, gave, end-still, parts-none, written-none}
+use Rattle.definition.specs.Table.{width, putSlot, withPeerCredits}
+use Rattle.definition.specs.Ending.{itself, end, endOf, gave, parts-none, written-none}
 use Rattle.definition.specs.Frames.{laterFrames, frames, planned}
-
--- What follows the gate in the definition's `send`.
-abbrev pub sentOn : Table → (s l out : ℕ) → Outcome
-sentOn t s l out =
-    let x = slotAt t s in
-    if not (isConnected (x .state)) then refuse t ChannelClosed
-    else planned t s x l (planSend l (x .peer .mtu) (x .peer .mps) (x .peer .credits) out)
 
 -- ---- the frames
 

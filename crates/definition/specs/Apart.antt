@@ -35,7 +35,8 @@ use Rattle.channel.specs.declared.L2capChannelConfig.{L2capChannelConfig}
 use Rattle.channel.specs.declared.Slot.{Slot}
 use Rattle.channel.specs.declared.Table.{Table}
 use Rattle.definition.specs.Mem.{Move}
-use Rattle.definition.specs.Table.{slotAt, found, isDisconnected, isConnecting, isPeerConnecting, isConnected, isDisconnecting, ofLink, pendingOf, unheldPendingOf, attemptOf, attemptBy, connectedTo, slotOf}
+use Rattle.definition.specs.States.{isDisconnected, isConnecting, isPeerConnecting, isConnected, isDisconnecting}
+use Rattle.definition.specs.Table.{slotAt, found, ofLink, pendingOf, unheldPendingOf, attemptOf, attemptBy, connectedTo, slotOf}
 use Rattle.definition.specs.Outcome.{Outcome}
 use Rattle.definition.specs.Pending.{nextPending, rejectAllPending}
 use Rattle.definition.specs.Opening.{create, opened}

@@ -1,12 +1,13 @@
 -- Making and registering, the attention set, the five queries, the two parameter senders. Document 01, 'The job and its edge',
 -- rows 1, 2 and 5, and 'Slots'; the senders and queries as S has them (READINGS L3).
-use mathlib.Core.Bool.{Bool, _&&_, not}
+use mathlib.Core.Bool.{_&&_, not}
 use mathlib.Core.List.{List, [], _∷_, map}
 use Prim.Native.Nat.{ℕ}
-use lib.Dec.{eqb, leb}
+use lib.Dec.{eqb, leb, ltb}
 use lib.ListN.{length, replicate}
 use Rattle.lists.specs.First.{first}
 use Rattle.lists.specs.Bits.{bitset, count}
+use Rattle.codes.specs.declared.Refusal.{Refusal}
 use Rattle.codes.specs.declared.Refusal.the-variants.{BadTable, BadRoom, BadSpsm}
 use Rattle.signal_write.specs.Writer.{encodeOf}
 use Rattle.signal_forms.specs.declared.Signal.{Signal}
@@ -36,11 +37,15 @@ pub record Made : Type 0 where
   pub table : Table
   pub room : List ℕ
 
+-- .. and leaves the room.
+abbrev pub notMade : Refusal → (room : List ℕ) → Made
+notMade r room = record { answer = Refused r; table = noSlots; room = room }
+
 -- Row 1: "sizes outside the limits"; row 2: "room length wrong". "making a table zeroes the room"
 unfoldable pub make : (n d m : ℕ) (room : List ℕ) → Made
 make n d m room =
-    if not (sizesFit n d m) then record { answer = Refused BadTable; table = noSlots; room = room }
-    else if not (eqb (length room) (roomSize (blank n d m))) then record { answer = Refused BadRoom; table = noSlots; room = room }
+    if not (sizesFit n d m) then notMade BadTable room
+    else if not (eqb (length room) (roomSize (blank n d m))) then notMade BadRoom room
     else record { answer = Done; table = blank n d m; room = map (λ _. 0) room }
 
 -- ---- row 5: "registering outside 1..=255"
@@ -64,6 +69,10 @@ attention t =
 
 abbrev pub lowestFree : List Slot → ℕ
 lowestFree = first isFree
+
+-- "answers slot or none", in whatever words a caller has for these two.
+abbrev pub freeAmong : {A : Type 0} → (slot : ℕ → A) (none : A) → List Slot → A
+freeAmong slot none l = if ltb (lowestFree l) (length l) then slot (lowestFree l) else none
 
 -- ---- the five queries of a slot, in any state
 

@@ -1,6 +1,6 @@
 -- All calls, and what is job and what is public in each (document 01, 'Slots': "Job octets are the SDU octets handed to a send, and a
 -- frame's payload but for the two length octets of a frame that arrives with no assembly open").
-use mathlib.Core.Bool.{Bool, true, false, _&&_, not}
+use mathlib.Core.Bool.{Bool, false, _&&_, not}
 use mathlib.Core.List.{List, [], _∷_}
 use Prim.Native.Nat.{ℕ}
 use lib.Dec.{eqb}
@@ -65,6 +65,10 @@ pub data Call : Type 0 where
 abbrev pub joining : Table → (cid : ℕ) → Bool
 joining t cid = isCid t cid && not (isIdle (slotAt t (slotOf cid) .assembly))
 
+-- The length octets of a frame: its first two, where no assembly is open.
+abbrev pub headOf : Table → (cid : ℕ) (payload : List ℕ) → List ℕ
+headOf t cid payload = choose (joining t cid) [] (take 2 payload)
+
 -- The job octets of a call.
 unfoldable pub jobs : Table → Call → List ℕ
 jobs t (frame link cid payload) = choose (joining t cid) payload (drop 2 payload)
@@ -74,10 +78,14 @@ jobs t (plain r out job) = []
 
 -- The call with its job octets taken out.
 unfoldable pub bare : Table → Call → Call
-bare t (frame link cid payload) = frame link cid (choose (joining t cid) [] (take 2 payload))
+bare t (frame link cid payload) = frame link cid (headOf t cid payload)
 bare t (sends s sdu out) = sends s [] out
 bare t (down link) = down link
 bare t (plain r out job) = plain r out job
+
+-- Frame in, from its payload.
+abbrev pub frameIn : Table → (room link cid : ℕ) (payload : List ℕ) → Outcome
+frameIn t room link cid payload = dispatch t room link cid (headOf t cid payload) (length (jobs t (frame link cid payload)))
 
 -- ---- whose they are
 

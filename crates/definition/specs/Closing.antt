@@ -1,12 +1,13 @@
 -- Holds, disconnects, link down, next disconnect. Document 01, 'Slots'.
-use mathlib.Core.Bool.{Bool, _&&_, not}
-use mathlib.Core.List.{List, [], _∷_}
-use mathlib.Core.Bool.{true, false}
+use mathlib.Core.Bool.{true, false, _&&_}
+use mathlib.Core.List.{[], _∷_}
 use Prim.Native.Nat.{ℕ, _+_, _-_}
 use lib.Dec.{eqb, leb}
 use Rattle.codes.specs.declared.Refusal.the-variants.{Held}
 use Rattle.signal_write.specs.Writer.{encodeOf}
-use Rattle.signal_forms.specs.declared.Signal.the-variants.{DisconnectionReq, DisconnectionRes}
+use Rattle.signal_forms.specs.declared.DisconnectionReq.{DisconnectionReq}
+use Rattle.signal_forms.specs.declared.DisconnectionRes.{DisconnectionRes}
+use Rattle.signal_forms.specs.declared.Signal.the-variants as Signal
 use Rattle.channel.specs.Limits.{holdsMost}
 use Rattle.channel.specs.declared.Answer.the-variants.{Done, Due}
 use Rattle.channel.specs.declared.ChannelState.the-variants.{Disconnecting}
@@ -14,7 +15,9 @@ use Rattle.channel.specs.declared.Given.the-variants.{Nothing, Is}
 use Rattle.channel.specs.declared.Slot.{Slot}
 use Rattle.channel.specs.declared.Table.{Table}
 use Rattle.definition.specs.Mem.{given}
-use Rattle.definition.specs.Table.{if_then_else_, slotAt, found, isConnected, isPeerDisconnecting, identifierOf, ofLink, dueSlot, inState, withHold, index, cidOf, isCid, slotOf, nextId, spent}
+use Rattle.definition.specs.States.{isConnected, isPeerDisconnecting, identifierOf}
+use Rattle.definition.specs.Slots.{inState, withHold}
+use Rattle.definition.specs.Table.{if_then_else_, slotAt, found, ofLink, dueSlot, index, cidOf, isCid, slotOf, nextId, spent}
 use Rattle.definition.specs.Outcome.{Outcome, change, sweep, refuse, done, freeing, leaving, gate}
 
 -- "Adding a hold at 255, or releasing at 0, gives 22."
@@ -57,13 +60,27 @@ disconnected t room link = gate t (Is room) Nothing (Is link) Nothing (sweep t (
 
 -- "The next disconnect, given with its link, is the lowest slot in PeerDisconnecting (response written, freed) or Disconnecting not
 -- yet announced (request written with the next identifier, marked); none: nothing. The response carries our CID as DCID and the
--- peer's as SCID, the request the reverse."
+-- peer's as SCID, the request the reverse." (Core Vol 3 Part A 4.6, 4.7)
+
+abbrev pub responding : (slot peer : ℕ) → DisconnectionRes
+responding s peer = record { dcid = cidOf s; scid = peer }
+
+abbrev pub requesting : (slot peer : ℕ) → DisconnectionReq
+requesting s peer = record { dcid = peer; scid = cidOf s }
+
+-- The peer's request is answered, and the slot freed.
+abbrev pub responded : Table → (slot : ℕ) → Slot → Outcome
+responded t s x = freeing t s x (Due (x .link) (index s)) (given (encodeOf (identifierOf (x .state)) (Signal.DisconnectionRes (responding s (x .peer .cid)))) ∷ [])
+
+-- Our own request is told, and the slot marked.
+abbrev pub requested : Table → (slot : ℕ) → Slot → Outcome
+requested t s x = change (spent t) s (inState (Disconnecting true) x) [] (Due (x .link) (index s)) (given (encodeOf (nextId t) (Signal.DisconnectionReq (requesting s (x .peer .cid)))) ∷ [])
+
 unfoldable pub nextDisconnect : Table → (room signal : ℕ) → Outcome
 nextDisconnect t room signal =
     gate t (Is room) (Is signal) Nothing Nothing
     (let s = found dueSlot t in
     let x = slotAt t s in
     if leb (t .n) s then done t
-    else if isPeerDisconnecting (x .state)
-    then freeing t s x (Due (x .link) (index s)) (given (encodeOf (identifierOf (x .state)) (DisconnectionRes (record { dcid = cidOf s; scid = x .peer .cid }))) ∷ [])
-    else change (spent t) s (inState (Disconnecting true) x) [] (Due (x .link) (index s)) (given (encodeOf (nextId t) (DisconnectionReq (record { dcid = x .peer .cid; scid = cidOf s }))) ∷ []))
+    else if isPeerDisconnecting (x .state) then responded t s x
+    else requested t s x)

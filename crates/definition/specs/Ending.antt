@@ -10,12 +10,16 @@ use Rattle.channel.specs.declared.Answer.{Answer}
 use Rattle.channel.specs.declared.Served.{Served}
 use Rattle.channel.specs.declared.Slot.{Slot}
 use Rattle.channel.specs.declared.Table.{Table}
-use Rattle.definition.specs.Mem.{Fill, given, Move, size, sizes, fill, fills, written, moves, parts}
+use Rattle.definition.specs.Mem.{given, size, sizes, fill, fills, written, moves, parts}
 use Rattle.definition.specs.Table.{width, putSlot}
 use Rattle.definition.specs.Outcome.{Outcome, still, only, change}
+use Rattle.definition.specs.Asking.{Made}
+
+abbrev pub gave : Answer → Table → (octets : ℕ) → Served
+gave a t n = record { answer = a; table = t; octets = n }
 
 abbrev pub servedOf : Outcome → Served
-servedOf o = record { answer = o .answer; table = o .table; octets = sizes (o .out) }
+servedOf o = gave (o .answer) (o .table) (sizes (o .out))
 
 pub record End : Type 0 where
   pub served : Served
@@ -42,6 +46,14 @@ endOf t jobs room out job o =
       job = written itself jobs room (o .job) job;
     }
 
+-- ---- what stands when a making has ended: no signal buffer and no job buffer is lent, and no octet is written but in the room
+
+abbrev pub servedMade : Made → Served
+servedMade x = gave (x .answer) (x .table) 0
+
+abbrev pub endMade : Made → End
+endMade x = end (servedMade x) (x .room) [] []
+
 -- ---- "that two results meeting it coincide is proved": what ends as one contract says is the same, answer, table and every lent memory
 
 pub record Coincide (r₁ r₂ : Served) (room₁ room₂ out₁ out₂ job₁ job₂ : List ℕ) : Type 0 where
@@ -57,9 +69,6 @@ coincide p q =
     record { served = ap (λ (x : End). x .served) h; room = ap (λ (x : End). x .room) h; out = ap (λ (x : End). x .out) h; job = ap (λ (x : End). x .job) h }
 
 -- ---- what the forms come to
-
-abbrev pub gave : Answer → Table → ℕ → Served
-gave a t n = record { answer = a; table = t; octets = n }
 
 -- nothing is written
 pub end-still : (t t′ : Table) (a : Answer) (jobs room out job : List ℕ) → endOf t jobs room out job (still t′ a []) ≡ end (gave a t′ 0) room out job

@@ -26,7 +26,8 @@ use Rattle.channel.specs.declared.Verdict.the-variants.{Pass, Stop}
 use Rattle.channel.specs.declared.Slot.{Slot}
 use Rattle.channel.specs.declared.Table.{Table}
 use Rattle.definition.specs.Mem.{Fill, Move, wipe}
-use Rattle.definition.specs.Table.{gap, freed, slotAt, live, width, found, isDisconnected, isFree, isCid, slotOf, spent, registered, wellFormed}
+use Rattle.definition.specs.States.{isDisconnected}
+use Rattle.definition.specs.Table.{gap, freed, slotAt, live, width, found, isFree, isCid, slotOf, spent, registered, wellFormed}
 use Rattle.definition.specs.Outcome.{Outcome, still, only, change, sweep, verdict, passed, gate}
 use Rattle.definition.specs.Calls.{nobody, by, holderIn, holder}
 

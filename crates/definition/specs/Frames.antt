@@ -1,9 +1,9 @@
 -- Frames in, jobs out: frame in, send, take. Document 01, 'Cutting, joining, credits'. None of these sees a job octet: a frame comes
 -- as its length octets (`head`) and the number of its job octets, a send as the number of octets of its SDU.
-use mathlib.Core.Bool.{Bool, true, false, _&&_, _||_, not}
+use mathlib.Core.Bool.{Bool, false, _||_, not}
 use mathlib.Core.List.{List, [], _∷_, _++_}
-use Prim.Native.Nat.{ℕ, zero, suc, _+_, _-_, _*_, _/_, _%_, min}
-use lib.Dec.{eqb, leb, ltb}
+use Prim.Native.Nat.{ℕ, zero, suc, _+_, _-_, _*_, min}
+use lib.Dec.{eqb}
 use lib.ListN.{length, getD, set, drop}
 use Rattle.octets.specs.Octets.{le16, u16At}
 use Rattle.codes.specs.declared.Refusal.the-variants.{InvalidChannelId, NotFound, OutOfMemory, ChannelClosed, QueueFull}
@@ -13,12 +13,13 @@ use Rattle.credit.specs.Account.{received, granted, grantOf}
 use Rattle.sar_join.specs.declared.Assembly.{Assembly}
 use Rattle.sar_join.specs.declared.Joined.{Joined}
 use Rattle.sar_join.specs.declared.Joined.the-variants as Joined
-use Rattle.sar_join.specs.Joining.{isIdle, idle, assembled, joinStep}
+use Rattle.sar_join.specs.Joining.{isIdle, idle, assembled, queueAt, joinStep}
 use Rattle.sar_cut.specs.declared.Plan.{Plan}
 use Rattle.sar_cut.specs.declared.Plan.the-variants as Plan
 use Rattle.sar_cut.specs.Cutting.{planSend}
 use Rattle.signal_write.specs.Writer.{encodeOf}
-use Rattle.signal_forms.specs.declared.Signal.the-variants.{LeCreditFlowInd}
+use Rattle.signal_forms.specs.declared.LeCreditFlowInd.{LeCreditFlowInd}
+use Rattle.signal_forms.specs.declared.Signal.the-variants as Signal
 use Rattle.channel.specs.declared.Answer.the-variants.{Done, Refused, Frames, Job}
 use Rattle.channel.specs.declared.ChannelState.{ChannelState}
 use Rattle.channel.specs.declared.ChannelState.the-variants.{Disconnecting}
@@ -27,44 +28,76 @@ use Rattle.channel.specs.declared.Queue.{Queue}
 use Rattle.channel.specs.declared.Slot.{Slot}
 use Rattle.channel.specs.declared.Table.{Table}
 use Rattle.definition.specs.Mem.{Fill, zeros, given, job, held, Move, put}
-use Rattle.definition.specs.Table.{if_then_else_, placeOf, width, slotAt, isDisconnected, isConnecting, isPeerConnecting, isConnected, isConnectFailed, withAccount, withPeerCredits, withAssembly, withQueue, cidOf, isCid, slotOf, nextId, spent}
-use Rattle.definition.specs.Outcome.{Outcome, change, refuse, done, leaving, gate}
+use Rattle.definition.specs.States.{isDisconnected, isConnecting, isPeerConnecting, isConnected, isConnectFailed}
+use Rattle.definition.specs.Slots.{withAccount, withPeerCredits, withAssembly, withQueue}
+use Rattle.definition.specs.Table.{if_then_else_, placeOf, width, slotAt, cidOf, isCid, slotOf, nextId, spent}
+use Rattle.definition.specs.Outcome.{Outcome, change, handout, refuse, done, unassembled, leaving, gate}
 
 -- ---- frame in
 
--- Where the next finished job goes: behind the assembly place and the jobs that wait.
-abbrev pub queuePlace : Table → Slot → ℕ
-queuePlace t x = suc (x .queue .count) * placeOf t
-
+-- One more job waits. (It stands at `queueAt`, crate sar: behind the assembly place and the jobs that wait.)
 abbrev pub queued : ℕ → Queue → Queue
 queued len q = record { count = q .count + 1; lens = set (q .lens) (q .count) len }
 
--- A finished job at its place's start: what stood in the assembly place, then this frame's octets. The assembly place of a joined job
--- is zeroed; a first frame that is complete never touches it.
-abbrev pub finishing : Table → Slot → ℕ → List Move
-finishing t x count =
-    if isIdle (x .assembly) then put (queuePlace t x) (job 0 count) ∷ []
-    else put (queuePlace t x) (held 0 (x .assembly .have)) ∷ put (queuePlace t x + x .assembly .have) (job 0 count) ∷ put 0 (zeros (placeOf t)) ∷ []
+-- In a slot's part, of places of that size, with that assembly and `queued` jobs waiting: a finished job at its place's start, what stood in
+-- the assembly place, then this frame's octets. The assembly place of a joined job is zeroed; a first frame that is complete never touches it.
+abbrev pub finishMoves : (place : ℕ) → Assembly → (queued count : ℕ) → List Move
+finishMoves place a queued count =
+    if isIdle a then put (queueAt place queued) (job 0 count) ∷ []
+    else put (queueAt place queued) (held 0 (a .have)) ∷ put (queueAt place queued + a .have) (job 0 count) ∷ unassembled place ∷ []
 
--- What the join step (crate sar_join) decided, for slot s as x, whose credit is used.
+-- What the join step (crate sar_join) moves there. (A refusal moves nothing by itself: the slot leaves Connected, which zeroes the assembly place.)
+abbrev pub joinMoves : (place : ℕ) → Assembly → (queued count : ℕ) → Joined → List Move
+joinMoves place a queued count (Joined.Refused r) = []
+joinMoves place a queued count (Joined.Assembling b) = put (assembled a) (job 0 count) ∷ []
+joinMoves place a queued count (Joined.Finished len) = finishMoves place a queued count
+joinMoves place a queued count Joined.Dropped = unassembled place ∷ []
+
+abbrev pub moved : Table → Slot → (count : ℕ) → Joined → List Move
+moved t x count j = joinMoves (placeOf t) (x .assembly) (x .queue .count) count j
+
+abbrev pub finishing : Table → Slot → (count : ℕ) → List Move
+finishing t x count = finishMoves (placeOf t) (x .assembly) (x .queue .count) count
+
+-- What the join step decided, for slot s as x, whose credit is used.
 unfoldable pub joined : Table → (slot : ℕ) → Slot → (count : ℕ) → Joined → Outcome
 joined t s x count (Joined.Refused r) = leaving t s x (Disconnecting false) (Refused r)
-joined t s x count (Joined.Assembling a) = change t s (withAssembly a x) (put (assembled (x .assembly)) (job 0 count) ∷ []) Done []
-joined t s x count (Joined.Finished len) = change t s (withQueue (queued len (x .queue)) (withAssembly idle x)) (finishing t x count) Done []
-joined t s x count Joined.Dropped = change t s (withAssembly idle x) (put 0 (zeros (placeOf t)) ∷ []) (Refused QueueFull) []
+joined t s x count (Joined.Assembling a) = change t s (withAssembly a x) (moved t x count (Joined.Assembling a)) Done []
+joined t s x count (Joined.Finished len) = change t s (withQueue (queued len (x .queue)) (withAssembly idle x)) (moved t x count (Joined.Finished len)) Done []
+joined t s x count Joined.Dropped = change t s (withAssembly idle x) (moved t x count Joined.Dropped) (Refused QueueFull) []
+
+-- What the join step is told of a frame and of the slot that it comes to.
+pub record Arrival : Type 0 where
+  pub mtu : ℕ
+  pub mps : ℕ
+  pub depth : ℕ  -- D
+  pub assembly : Assembly
+  pub queued : ℕ  -- the jobs that wait
+  pub payload : ℕ  -- how many octets came
+  pub said : ℕ  -- what the length octets say
+
+abbrev pub stepOf : Arrival → Joined
+stepOf a = joinStep (a .mtu) (a .mps) (a .depth) (a .assembly) (a .queued) (a .payload) (a .said)
+
+abbrev pub arriving : Table → Slot → (head : List ℕ) (count : ℕ) → Arrival
+arriving t x head count =
+    record { mtu = x .mtu; mps = x .mps; depth = t .d; assembly = x .assembly; queued = x .queue .count; payload = length head + count; said = u16At head 0 }
 
 -- "Frame in (CID, payload): 7; not Connected: dropped, answer 0; another link's slot 8; no credit 10; one credit used."
-unfoldable pub dispatch : Table → (room link cid : ℕ) (head : List ℕ) (count : ℕ) → Outcome
-dispatch t room link cid head count =
-    gate t (Is room) Nothing (Is link) Nothing
-    (let s = slotOf cid in
+
+-- Behind the first refusals.
+abbrev pub admitted : Table → (link cid : ℕ) (head : List ℕ) (count : ℕ) → Outcome
+admitted t link cid head count =
+    let s = slotOf cid in
     let x = slotAt t s in
     if not (isCid t cid) then refuse t InvalidChannelId
     else if not (isConnected (x .state)) then done t
     else if not (eqb (x .link) link) then refuse t NotFound
     else if eqb (x .account .credits) 0 then refuse t OutOfMemory
-    else joined t s (withAccount (received (x .account) 1) x) count
-    (joinStep (x .mtu) (x .mps) (t .d) (x .assembly) (x .queue .count) (length head + count) (u16At head 0)))
+    else joined t s (withAccount (received (x .account) 1) x) count (stepOf (arriving t x head count))
+
+unfoldable pub dispatch : Table → (room link cid : ℕ) (head : List ℕ) (count : ℕ) → Outcome
+dispatch t room link cid head count = gate t (Is room) Nothing (Is link) Nothing (admitted t link cid head count)
 
 -- ---- send
 
@@ -87,13 +120,15 @@ unfoldable pub planned : Table → (slot : ℕ) → Slot → (l : ℕ) → Plan 
 planned t s x l (Plan.Refused r) = refuse t r
 planned t s x l (Plan.Frames n octets) = change t s (withPeerCredits (x .peer .credits - n) x) [] (Frames (x .link) n) (frames (x .peer .cid) (x .peer .mps) l n)
 
--- "Send order: 11, 12, 23, 20, 14, 3." Of these 12 to 3 are the plan's (crate sar_cut).
-unfoldable pub send : Table → (slot l out : ℕ) → Outcome
-send t s l out =
-    gate t Nothing Nothing Nothing (Is s)
-    (let x = slotAt t s in
+-- "Send order: 11, 12, 23, 20, 14, 3." Of these 12 to 3 are the plan's (crate sar_cut). Behind the first refusals:
+abbrev pub sentOn : Table → (slot l out : ℕ) → Outcome
+sentOn t s l out =
+    let x = slotAt t s in
     if not (isConnected (x .state)) then refuse t ChannelClosed
-    else planned t s x l (planSend l (x .peer .mtu) (x .peer .mps) (x .peer .credits) out))
+    else planned t s x l (planSend l (x .peer .mtu) (x .peer .mps) (x .peer .credits) out)
+
+unfoldable pub send : Table → (slot l out : ℕ) → Outcome
+send t s l out = gate t Nothing Nothing Nothing (Is s) (sentOn t s l out)
 
 -- ---- take
 
@@ -101,32 +136,53 @@ send t s l out =
 abbrev pub shifted : Queue → Queue
 shifted q = record { count = q .count - 1; lens = drop 1 (q .lens) ++ (0 ∷ []) }
 
--- Later places move up, and the last that was occupied is zeroed.
-abbrev pub movingUp : Table → Slot → List Move
-movingUp t x =
-    let p = placeOf t in
-    put p (held (2 * p) ((x .queue .count - 1) * p)) ∷ put (x .queue .count * p) (zeros p) ∷ []
+-- Later places move up, and the last that was occupied is zeroed: in the part of a slot with so many jobs, in places of p octets, of which place k
+-- begins at k * p (the assembly place is 0, the oldest job's 1).
+abbrev pub upwards : (p count : ℕ) → List Move
+upwards p count = put p (held (2 * p) ((count - 1) * p)) ∷ put (count * p) (zeros p) ∷ []
 
--- The oldest job is copied out, min(job, buffer) octets; x is the slot with its account as it is left.
+abbrev pub movingUp : Table → Slot → List Move
+movingUp t x = upwards (placeOf t) (x .queue .count)
+
+-- Where slot s's oldest job stands in the room: in the place behind that for assembly.
+abbrev pub oldestAt : Table → (slot : ℕ) → ℕ
+oldestAt t s = s * width t + placeOf t
+
+-- The octets of a slot's oldest job, and how many of them are copied: "min(job, buffer) octets".
+abbrev pub oldest : Slot → ℕ
+oldest x = getD (x .queue .lens) 0 0
+
+abbrev pub copied : Slot → (size : ℕ) → ℕ
+copied x size = min (oldest x) size
+
+-- The oldest job is copied out; x is the slot with its account as it is left.
 abbrev pub handing : Table → (slot : ℕ) → Slot → (size : ℕ) → List Fill → Outcome
 handing t s x size signal =
-    let len = getD (x .queue .lens) 0 0 in
-    let o = change t s (withQueue (shifted (x .queue)) x) (movingUp t x) (Job (x .link) (min len size) len) signal in
-    record { answer = o .answer; table = o .table; parts = o .parts; out = o .out; job = held (s * width t + placeOf t) (min len size) ∷ [] }
+    handout t s (withQueue (shifted (x .queue)) x) (movingUp t x) (Job (x .link) (copied x size) (oldest x)) signal (held (oldestAt t s) (copied x size) ∷ [])
 
 -- "Connected only: Every(k) grants all received when received ≥ k, MinThreshold(t) when credits < t, never 0 credits."
 unfoldable pub grantIn : Slot → Grant
 grantIn x = if isConnected (x .state) then grantOf (x .account) else Grant.Nothing
 
+-- The signal that grants n credits to slot s's peer (Core Vol 3 Part A 4.24).
+abbrev pub crediting : (slot n : ℕ) → LeCreditFlowInd
+crediting s n = record { cid = cidOf s; credits = n }
+
 unfoldable pub taken : Table → (slot : ℕ) → Slot → (size : ℕ) → Grant → Outcome
 taken t s x size Grant.Nothing = handing t s x size []
-taken t s x size (Grant.Credits n) = handing (spent t) s (withAccount (granted (x .account) n) x) size (given (encodeOf (nextId t) (LeCreditFlowInd (record { cid = cidOf s; credits = n }))) ∷ [])
+taken t s x size (Grant.Credits n) = handing (spent t) s (withAccount (granted (x .account) n) x) size (given (encodeOf (nextId t) (Signal.LeCreditFlowInd (crediting s n))) ∷ [])
 
--- Row 11: "taking when free, connecting, pending or failed". "no job waiting is reported as such .. and writes and grants nothing"
-unfoldable pub receive : Table → (room signal slot size : ℕ) → Outcome
-receive t room signal s size =
-    gate t (Is room) (Is signal) Nothing (Is s)
-    (let x = slotAt t s in
-    if isDisconnected (x .state) || (isConnecting (x .state) || (isPeerConnecting (x .state) || isConnectFailed (x .state))) then refuse t ChannelClosed
+-- Row 11: "taking when free, connecting, pending or failed"
+abbrev pub closed : ChannelState → Bool
+closed k = isDisconnected k || (isConnecting k || (isPeerConnecting k || isConnectFailed k))
+
+-- "no job waiting is reported as such .. and writes and grants nothing". Behind the first refusals:
+abbrev pub takenOn : Table → (slot size : ℕ) → Outcome
+takenOn t s size =
+    let x = slotAt t s in
+    if closed (x .state) then refuse t ChannelClosed
     else if eqb (x .queue .count) 0 then done t
-    else taken t s x size (grantIn x))
+    else taken t s x size (grantIn x)
+
+unfoldable pub receive : Table → (room signal slot size : ℕ) → Outcome
+receive t room signal s size = gate t (Is room) (Is signal) Nothing (Is s) (takenOn t s size)

@@ -43,7 +43,8 @@ use Rattle.channel.specs.declared.Verdict.{Verdict}
 use Rattle.channel.specs.declared.Verdict.the-variants.{Pass, Stop}
 use Rattle.channel.specs.declared.Slot.{Slot}
 use Rattle.channel.specs.declared.Table.{Table}
-use Rattle.definition.specs.Table.{slotAt, live, withAccount, slotOf, gap, placeOf, width, slotFits, sizesFit, wellFormed, spent}
+use Rattle.definition.specs.Slots.{withAccount}
+use Rattle.definition.specs.Table.{slotAt, live, slotOf, gap, placeOf, width, slotFits, sizesFit, wellFormed, spent}
 use Rattle.definition.specs.Outcome.{Outcome, verdict, passed, gate, still}
 use Rattle.definition.specs.Pending.{nextPending, rejectAllPending, acceptPending, rejectPending, notCode, rejectRead, dropPending}
 use Rattle.definition.specs.Opening.{create, opened, giveUp}

@@ -1,6 +1,6 @@
 -- From the contracts to runs. A call that ends as its contract says leaves what stands next in a run: ONE law for all calls. And what the
 -- contract of a call that is not lent the room says without it (Roomless.antt) holds with the run's room, which stays as it was.
-use mathlib.Core.Path.{_≡_, refl, sym, ap, ap₂, _∙_}
+use mathlib.Core.Path.{_≡_, refl, ap, ap₂}
 use mathlib.Core.Bool.{true, false≢true}
 use mathlib.Core.List.{List, [], _∷_, _++_}
 use Prim.Native.Nat.{ℕ}
@@ -11,7 +11,7 @@ use Rattle.channel.specs.declared.Served.{Served}
 use Rattle.channel.specs.declared.Table.{Table}
 use Rattle.definition.specs.Mem.{Fill, zeros, given, job, held, fill, fills, written}
 use Rattle.definition.specs.Outcome.{Outcome}
-use Rattle.definition.specs.Calls.{Call, jobs}
+use Rattle.definition.specs.Calls.{Call, frame, jobs, bare, frameIn, decide}
 use Rattle.definition.specs.Ending.{itself, End, end, endOf, roomAfter}
 use Rattle.definition.specs.Run.{State, lent, outWindow, jobWindow, outcome, after}
 use Rattle.definition.specs.Roomless.{unheld, unheldAll, Roomless}
@@ -33,6 +33,13 @@ call-after s c r room out tray h apart =
     rw (e, f, g, i)
     (ap (λ (l : List ℕ). record { table = o .table; room = roomAfter (s .table) js (s .room) o; memory = sets (sets (s .memory) (jobWindow c .from) (written itself js (s .room) (o .job) (lent (jobWindow c) (s .memory)))) (outWindow c .from) (written itself js (s .room) (o .out) l) })
     (rw i at apart))
+
+-- ---- frame in
+
+-- what frame in comes to from its payload is what a run has for that frame
+pub frame-in : (s : State) (link cid : ℕ) (p : List ℕ) → outcome s (frame link cid p) ≡ frameIn (s .table) (length (s .room)) link cid p
+unfolding decide bare
+frame-in s link cid p = refl
 
 -- ---- the calls that are not lent the room
 

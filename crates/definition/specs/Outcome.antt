@@ -1,10 +1,9 @@
 -- What a call comes to: an answer, the table after it, and what it does to memory as data (Mem.antt). An outcome is built from
--- three forms only: `still`, `change` and `sweep`. And `gate`, the refusals that come first in every call.
-use mathlib.Core.Bool.{Bool, true, false, _&&_, not}
+-- four forms only: `still`, `change`, `handout` and `sweep`. And `gate`, the refusals that come first in every call.
+use mathlib.Core.Bool.{Bool, false, not}
 use mathlib.Core.List.{List, [], _∷_, map}
 use Prim.Native.Nat.{ℕ, zero, suc}
 use lib.Dec.{eqb, leb, ltb}
-use lib.ListN.{take}
 use Rattle.lists.specs.Choose.{choose}
 use Rattle.lists.specs.Each.{mapFirst}
 use Rattle.codes.specs.declared.Refusal.{Refusal}
@@ -20,7 +19,8 @@ use Rattle.channel.specs.declared.Verdict.the-variants.{Pass, Stop}
 use Rattle.channel.specs.declared.Slot.{Slot}
 use Rattle.channel.specs.declared.Table.{Table}
 use Rattle.definition.specs.Mem.{Fill, zeros, Move, put, wipe}
-use Rattle.definition.specs.Table.{if_then_else_, placeOf, roomSize, slotAt, live, withSlots, putSlot, freed, left, wellFormed}
+use Rattle.definition.specs.Slots.{left}
+use Rattle.definition.specs.Table.{if_then_else_, placeOf, roomSize, live, withSlots, putSlot, freed, wellFormed}
 
 pub record Outcome : Type 0 where
   pub answer : Answer
@@ -29,7 +29,7 @@ pub record Outcome : Type 0 where
   pub out : List Fill  -- what is written to the lent signal buffer or frame output, from its start
   pub job : List Fill  -- what is written to the lent job buffer, from its start (a take)
 
--- ---- the three forms
+-- ---- the four forms
 
 -- Nothing changes but the output. (t is the table after the call: the caller's, or that with an identifier used.)
 abbrev pub still : Table → Answer → List Fill → Outcome
@@ -44,12 +44,19 @@ only (suc s) ms = [] ∷ only s ms
 abbrev pub change : Table → ℕ → Slot → List Move → Answer → List Fill → Outcome
 change t s x ms a out = record { answer = a; table = putSlot t s x; parts = only s ms; out = out; job = [] }
 
+-- The same with a job handed out: a take.
+abbrev pub handout : Table → ℕ → Slot → List Move → Answer → (out job : List Fill) → Outcome
+handout t s x ms a out job = record { answer = a; table = putSlot t s x; parts = only s ms; out = out; job = job }
+
 -- Every slot that passes the test is freed.
+abbrev pub freedIf : (Slot → Bool) → Slot → Slot
+freedIf p x = choose (p x) (freed x) x
+
 abbrev pub sweep : Table → (Slot → Bool) → Answer → Outcome
 sweep t p a =
     record {
       answer = a;
-      table = withSlots t (mapFirst (t .n) (λ x. choose (p x) (freed x) x) (t .slots));
+      table = withSlots t (mapFirst (t .n) (λ x. freedIf p x) (t .slots));
       parts = map (λ x. choose (p x) (wipe ∷ []) []) (live t);
       out = [];
       job = [];
@@ -68,9 +75,13 @@ done t = still t Done []
 abbrev pub freeing : Table → ℕ → Slot → Answer → List Fill → Outcome
 freeing t s x a out = change t s (freed x) (wipe ∷ []) a out
 
+-- The assembly place, a part's first, zeroed.
+abbrev pub unassembled : (place : ℕ) → Move
+unassembled place = put 0 (zeros place)
+
 -- Slot s, as x, leaves Connected: "leaving Connected [zeroes] the assembly place".
 abbrev pub leaving : Table → ℕ → Slot → ChannelState → Answer → Outcome
-leaving t s x k a = change t s (left k x) (put 0 (zeros (placeOf t)) ∷ []) a []
+leaving t s x k a = change t s (left k x) (unassembled (placeOf t) ∷ []) a []
 
 -- ---- "First 1, 2, 3 (signal buffer), 4, 6, then the order of each section."
 

@@ -13,9 +13,9 @@ use Rattle.credit.specs.declared.CreditFlowControl.{CreditFlowControl}
 use Rattle.credit.specs.Account.{newAccount}
 use Rattle.signal_forms.specs.Forms.{rejectRes}
 use Rattle.signal_write.specs.Writer.{encodeOf}
-use Rattle.signal_forms.specs.declared.Signal.the-variants.{LeCreditConnRes}
-use Rattle.channel.specs.Limits.{frameHead, jobHead}
-use Rattle.channel.specs.declared.Answer.the-variants.{Done, Refused, At, Link}
+use Rattle.signal_forms.specs.declared.LeCreditConnRes.{LeCreditConnRes}
+use Rattle.signal_forms.specs.declared.Signal.the-variants as Signal
+use Rattle.channel.specs.declared.Answer.the-variants.{Done, At, Link}
 use Rattle.channel.specs.declared.ChannelState.the-variants.{Connected}
 use Rattle.channel.specs.declared.Given.the-variants.{Nothing, Is}
 use Rattle.channel.specs.declared.L2capChannelConfig.{L2capChannelConfig}
@@ -24,8 +24,10 @@ use Rattle.channel.specs.declared.Setting.the-variants as Setting
 use Rattle.channel.specs.declared.Slot.{Slot}
 use Rattle.channel.specs.declared.Table.{Table}
 use Rattle.definition.specs.Mem.{Fill, given}
-use Rattle.definition.specs.Table.{if_then_else_, slotAt, found, isPeerConnecting, isConnected, identifierOf, pendingOf, unheldPendingOf, withHold, index, cidOf}
-use Rattle.definition.specs.Outcome.{Outcome, still, change, refuse, done, freeing, gate}
+use Rattle.definition.specs.States.{isPeerConnecting, isConnected, identifierOf}
+use Rattle.definition.specs.Slots.{withHold}
+use Rattle.definition.specs.Table.{if_then_else_, placeOf, mpsMost, slotAt, found, pendingOf, unheldPendingOf, index, cidOf}
+use Rattle.definition.specs.Outcome.{Outcome, change, refuse, done, freeing, gate}
 
 -- ---- "Defaults: credits D, MTU M-6, MPS M-4."
 
@@ -34,18 +36,26 @@ settled usual Setting.Default = usual
 settled usual (Setting.Is n) = n
 
 abbrev pub mtuOf : Table → L2capChannelConfig → ℕ
-mtuOf t c = settled (t .m - jobHead) (c .mtu)
+mtuOf t c = settled (placeOf t) (c .mtu)
 
 abbrev pub mpsOf : Table → L2capChannelConfig → ℕ
-mpsOf t c = settled (t .m - frameHead) (c .mps)
+mpsOf t c = settled (mpsMost t) (c .mps)
 
 abbrev pub creditsOf : Table → L2capChannelConfig → ℕ
 creditsOf t c = settled (t .d) (c .credits)
 
+-- "MPS and MTU (12)": "local MPS > M-4, then local MTU > M-6"
+
+abbrev pub mpsTooLarge : Table → L2capChannelConfig → Bool
+mpsTooLarge t c = ltb (mpsMost t) (mpsOf t c)
+
+abbrev pub mtuTooLarge : Table → L2capChannelConfig → Bool
+mtuTooLarge t c = ltb (placeOf t) (mtuOf t c)
+
 -- ---- "Refused responses carry zeros before the result."
 
 abbrev pub refusedResponse : ℕ → LeCreditConnResultCode → List Fill
-refusedResponse id result = given (encodeOf id (LeCreditConnRes (rejectRes result))) ∷ []
+refusedResponse id result = given (encodeOf id (Signal.LeCreditConnRes (rejectRes result))) ∷ []
 
 -- ---- "Next pending takes the lowest PeerConnecting slot of the link; held already → 22; none and link up: nothing, answer 0."
 
@@ -87,16 +97,25 @@ acceptedAs mps mtu account x =
 abbrev pub accepted : Table → L2capChannelConfig → Slot → Slot
 accepted t c x = acceptedAs (mpsOf t c) (mtuOf t c) (newAccount (c .policy) (creditsOf t c)) x
 
+-- Its response (Core Vol 3 Part A 4.23): our CID and our numbers.
+abbrev pub accepting : (slot mtu mps credits : ℕ) → LeCreditConnRes
+accepting s mtu mps credits = record { dcid = cidOf s; mtu = mtu; mps = mps; credits = credits; result = Success }
+
+-- An accept that nothing refuses: slot s, as x, becomes a channel, and the peer is told.
+abbrev pub agreed : Table → (slot : ℕ) → Slot → L2capChannelConfig → Outcome
+agreed t s x c =
+    change t s (accepted t c x) [] (Link (x .link))
+    (given (encodeOf (identifierOf (x .state)) (Signal.LeCreditConnRes (accepting s (mtuOf t c) (mpsOf t c) (creditsOf t c)))) ∷ [])
+
 unfoldable pub acceptPending : Table → (signal slot : ℕ) → L2capChannelConfig → Outcome
 acceptPending t signal s c =
     gate t Nothing (Is signal) Nothing (Is s)
     (let x = slotAt t s in
-    if ltb (t .m - frameHead) (mpsOf t c) then refuse t InsufficientSpace
-    else if ltb (t .m - jobHead) (mtuOf t c) then refuse t InsufficientSpace
+    if mpsTooLarge t c then refuse t InsufficientSpace
+    else if mtuTooLarge t c then refuse t InsufficientSpace
     else if not (isPeerConnecting (x .state)) then refuse t NotFound
     else if eqb (x .hold) 0 then refuse t Held
-    else change t s (accepted t c x) [] (Link (x .link))
-    (given (encodeOf (identifierOf (x .state)) (LeCreditConnRes (record { dcid = cidOf s; mtu = mtuOf t c; mps = mpsOf t c; credits = creditsOf t c; result = Success }))) ∷ []))
+    else agreed t s x c)
 
 -- ---- "Reject: state, hold."
 

@@ -13,7 +13,7 @@ use Rattle.lists.specs.Both.{and-left, and-right}
 use Rattle.channel.specs.Limits.{cidBase}
 use Rattle.channel.specs.declared.Table.{Table}
 use Rattle.definition.specs.Table.{slotAt, isCid, slotOf}
-use Rattle.definition.specs.Calls.{Window, frame, sends, joining, jobs, bare}
+use Rattle.definition.specs.Calls.{Window, frame, sends, joining, headOf, jobs, bare}
 
 -- An assembly is open in the slot that the CID names.
 pub record Assembling (t : Table) (cid : ℕ) : Type 0 where
@@ -39,10 +39,6 @@ joins-assembling t cid e =
       within = ltb-true _ _ (and-right (leb cidBase cid) _ c);
       wants = eqb-false _ _ (not-true _ (and-right (isCid t cid) _ e));
     }
-
--- The length octets of a frame: none where an assembly is open.
-abbrev pub headOf : Table → (cid : ℕ) (payload : List ℕ) → List ℕ
-headOf t cid payload = choose (joining t cid) [] (take 2 payload)
 
 -- no octet of a frame is lost
 whole : (b : Bool) (x : List ℕ) → choose b [] (take 2 x) ++ choose b x (drop 2 x) ≡ x

@@ -1,15 +1,17 @@
 -- Runs: calls one after the other, each on the table and room that the last one left. Every buffer that the caller lends is a part of
 -- its memory, named by a window: so a buffer may be lent again, and two may overlap.
-use mathlib.Core.List.{List, [], _∷_}
+use mathlib.Core.Bool.{Bool}
+use mathlib.Core.List.{List, [], _∷_, map}
 use Prim.Native.Nat.{ℕ}
 use lib.ListN.{length, take, drop}
 use lib.Seq.{sets}
+use Rattle.signal_headers.specs.Headers.{feedsOf}
 use Rattle.channel.specs.declared.Table.{Table}
 use Rattle.definition.specs.Mem.{parts, written}
 use Rattle.definition.specs.Table.{width}
 use Rattle.definition.specs.Outcome.{Outcome}
 use Rattle.definition.specs.Asking.{make}
-use Rattle.definition.specs.Calls.{Window, Call, frame, sends, down, plain, jobs, bare, decide}
+use Rattle.definition.specs.Calls.{Window, Call, frame, sends, down, plain, signals, jobs, bare, decide}
 use Rattle.definition.specs.Ending.{itself}
 
 pub record State : Type 0 where
@@ -71,6 +73,10 @@ after s c =
 -- The state that a making leaves.
 abbrev pub made : (n d m : ℕ) (room memory : List ℕ) → State
 made n d m room memory = record { table = make n d m room .table; room = make n d m room .room; memory = memory }
+
+-- A whole PDU: one call for each of its signals, with what the call before gave back (crate signal_headers, `feedsOf`).
+abbrev pub signalCalls : (link : ℕ) (listening central : Bool) (pdu : List ℕ) (out : Window) → List Call
+signalCalls link listening central pdu out = map (λ rest. plain (signals link listening central rest) out nowhere) (feedsOf pdu)
 
 unfoldable pub run : State → List Call → State
 run s [] = s

@@ -46,7 +46,9 @@ use Rattle.channel.specs.declared.Verdict.{Verdict}
 use Rattle.channel.specs.declared.Verdict.the-variants.{Pass, Stop}
 use Rattle.channel.specs.declared.Slot.{Slot}
 use Rattle.channel.specs.declared.Table.{Table}
-use Rattle.definition.specs.Table.{freed, slotAt, live, found, isDisconnected, isConnecting, isPeerConnecting, isConnected, isDue, ofLink, dueSlot, attemptOf, attemptBy, connectedTo, withAccount, withQueue, slotOf}
+use Rattle.definition.specs.States.{isDisconnected, isConnecting, isPeerConnecting, isConnected, isDue}
+use Rattle.definition.specs.Slots.{withAccount, withQueue}
+use Rattle.definition.specs.Table.{freed, slotAt, live, found, ofLink, dueSlot, attemptOf, attemptBy, connectedTo, slotOf}
 use Rattle.definition.specs.Outcome.{Outcome, sweep, verdict, passed}
 use Rattle.definition.specs.Pending.{nextPending, rejectAllPending, acceptPending, rejectPending, notCode, rejectRead, dropPending}
 use Rattle.definition.specs.Opening.{create, opened, giveUp}

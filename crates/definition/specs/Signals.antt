@@ -1,50 +1,34 @@
 -- One signal PDU: document 01, 'Signals'. Every header is checked, then the first signal is handled; the part after it is `restOf`
--- (crate signal_forms). Core Vol 3 Part A, 4.
-use mathlib.Core.Bool.{Bool, true, false, _&&_, not}
+-- (crate signal_headers), which the next call is given, until nothing is left (Run.antt, `signalCalls`). Core Vol 3 Part A, 4.
+use mathlib.Core.Bool.{Bool, false, _&&_, not}
 use mathlib.Core.List.{List, [], _∷_}
 use Prim.Native.Nat.{ℕ, _+_}
 use lib.Dec.{eqb, leb, ltb}
-use lib.ListN.{length, getD, take, drop}
-use Rattle.codes.specs.declared.LeCreditConnResultCode.{LeCreditConnResultCode}
+use lib.ListN.{length, getD}
 use Rattle.codes.specs.declared.LeCreditConnResultCode.the-variants as Result
 use Rattle.codes.specs.Codes.{resultNumber}
-use Rattle.codes.specs.declared.Refusal.{Refusal}
 use Rattle.codes.specs.declared.Refusal.the-variants.{NotFound, InvalidValue, Decode, NotSupported, ConnectError}
 use Rattle.signal_headers.specs.Headers.{headersOf, bodyIn}
-use Rattle.signal_bodies.specs.Bodies.{commandRejectRes, disconnectionReq, disconnectionRes, connParamUpdateReq, connParamUpdateRes}
-use Rattle.signal_bodies.specs.LeCreditBodies.{leCreditConnReq, leCreditConnRes, leCreditFlowInd}
 use Rattle.signal_parameter_rule.specs.Parameters.{parametersValid}
 use Rattle.signal_write.specs.Writer.{encodeOf}
 use Rattle.signal_headers.specs.declared.Checked.{Checked}
 use Rattle.signal_headers.specs.declared.Checked.the-variants.{Good, Cut, Past}
-use Rattle.signal_bodies.specs.declared.CommandRejectResRead.{CommandRejectResRead}
-use Rattle.signal_bodies.specs.declared.CommandRejectResRead.the-variants as CommandRejectRes
-use Rattle.signal_bodies.specs.declared.DisconnectionReqRead.{DisconnectionReqRead}
-use Rattle.signal_bodies.specs.declared.DisconnectionReqRead.the-variants as DisconnectionReq
-use Rattle.signal_bodies.specs.declared.DisconnectionResRead.{DisconnectionResRead}
-use Rattle.signal_bodies.specs.declared.DisconnectionResRead.the-variants as DisconnectionRes
-use Rattle.signal_bodies.specs.declared.ConnParamUpdateReqRead.{ConnParamUpdateReqRead}
-use Rattle.signal_bodies.specs.declared.ConnParamUpdateReqRead.the-variants as ConnParamUpdateReq
-use Rattle.signal_bodies.specs.declared.ConnParamUpdateResRead.{ConnParamUpdateResRead}
-use Rattle.signal_bodies.specs.declared.ConnParamUpdateResRead.the-variants as ConnParamUpdateRes
-use Rattle.signal_bodies.specs.declared.le_credit.LeCreditConnReqRead.{LeCreditConnReqRead}
-use Rattle.signal_bodies.specs.declared.le_credit.LeCreditConnReqRead.the-variants as LeCreditConnReq
-use Rattle.signal_bodies.specs.declared.le_credit.LeCreditConnResRead.{LeCreditConnResRead}
-use Rattle.signal_bodies.specs.declared.le_credit.LeCreditConnResRead.the-variants as LeCreditConnRes
-use Rattle.signal_bodies.specs.declared.le_credit.LeCreditFlowIndRead.{LeCreditFlowIndRead}
-use Rattle.signal_bodies.specs.declared.le_credit.LeCreditFlowIndRead.the-variants as LeCreditFlowInd
 use Rattle.signal_forms.specs.declared.LeCreditConnReq.{LeCreditConnReq}
 use Rattle.signal_forms.specs.declared.LeCreditConnRes.{LeCreditConnRes}
 use Rattle.signal_forms.specs.declared.Signal.the-variants as Signal
 use Rattle.channel.specs.Limits.{creditsMost}
-use Rattle.channel.specs.declared.Answer.{Answer}
 use Rattle.channel.specs.declared.Answer.the-variants.{Done, Refused, Event}
 use Rattle.channel.specs.declared.ChannelState.the-variants.{PeerConnecting, Connected, ConnectFailed, PeerDisconnecting, Disconnecting}
 use Rattle.channel.specs.declared.Given.the-variants.{Nothing, Is}
 use Rattle.channel.specs.declared.Slot.{Slot}
 use Rattle.channel.specs.declared.Table.{Table}
+use Rattle.definition.specs.Readers.{CommandRejectResRead, DisconnectionReqRead, DisconnectionResRead, ConnParamUpdateReqRead, ConnParamUpdateResRead, LeCreditConnReqRead, LeCreditConnResRead, LeCreditFlowIndRead}
+use Rattle.definition.specs.Readers.{Body, bad, read, rejectBody, disconnectionReqBody, disconnectionResBody, parametersBody, parameterResponseBody, connReqBody, connResBody, creditsBody}
+use Rattle.definition.specs.Readers.{commandRejectRes, disconnectionReq, disconnectionRes, connParamUpdateReq, connParamUpdateRes, leCreditConnReq, leCreditConnRes, leCreditFlowInd}
 use Rattle.definition.specs.Mem.{Fill, given}
-use Rattle.definition.specs.Table.{if_then_else_, slotAt, found, fresh, isFree, isDisconnecting, ofLink, attemptOf, attemptBy, connectedTo, usesPeer, inState, withPeer, withPeerCredits, isCid, slotOf, isRegistered}
+use Rattle.definition.specs.States.{isDisconnecting}
+use Rattle.definition.specs.Slots.{inState, withPeer, withPeerCredits}
+use Rattle.definition.specs.Table.{if_then_else_, slotAt, found, fresh, isFree, ofLink, attemptOf, attemptBy, connectedTo, usesPeer, isCid, slotOf, isRegistered}
 use Rattle.definition.specs.Outcome.{Outcome, still, change, sweep, refuse, done, freeing, leaving, gate}
 use Rattle.definition.specs.Pending.{refusedResponse}
 
@@ -57,6 +41,11 @@ rejectReply id reason = given (encodeOf id (Signal.CommandRejectRes (record { re
 -- "bad body: reject reply"
 abbrev pub badBody : Table → (id : ℕ) → Outcome
 badBody t id = still t (Refused Decode) (rejectReply id 0)
+
+-- Each rule below is for a body that was read.
+abbrev pub onBody : {A : Type 0} → Table → (id : ℕ) → Body A → (A → Outcome) → Outcome
+onBody t id bad rule = badBody t id
+onBody t id (read x) rule = rule x
 
 -- ---- 0x14 (4.22): "SPSM not registered → result 2; not listening → 4; peer CID used on this link by a slot not Disconnected → 10 ..;
 -- no free slot → 4. Else the lowest free slot becomes PeerConnecting. All of these answer 0."
@@ -77,8 +66,8 @@ pending link id req =
     }
 
 unfoldable pub onConnReq : Table → (link : ℕ) (listening : Bool) (id : ℕ) → LeCreditConnReqRead → Outcome
-onConnReq t link listening id LeCreditConnReq.Decode = badBody t id
-onConnReq t link listening id (LeCreditConnReq.Is req) =
+onConnReq t link listening id b =
+    onBody t id (connReqBody b) λ req.
     let s = found isFree t in
     if not (isRegistered t (req .spsm)) then still t Done (refusedResponse id Result.SpsmNotSupported)
     else if not listening then still t Done (refusedResponse id Result.NoResources)
@@ -96,8 +85,8 @@ answered t s res =
     else change t s (inState (ConnectFailed (res .result)) x) [] (Refused (ConnectError (res .result))) []
 
 unfoldable pub onConnRes : Table → (link id : ℕ) → LeCreditConnResRead → Outcome
-onConnRes t link id LeCreditConnRes.Decode = badBody t id
-onConnRes t link id (LeCreditConnRes.Is res) =
+onConnRes t link id b =
+    onBody t id (connResBody b) λ res.
     let s = found (attemptBy link id) t in
     if leb (t .n) s then sweep t (attemptOf link) (Refused NotFound)
     else answered t s res
@@ -105,8 +94,8 @@ onConnRes t link id (LeCreditConnRes.Is res) =
 -- ---- 0x16 (4.24): "first Connected slot of this link with that peer CID. A sum above 65,535: Disconnecting, credits kept."
 
 unfoldable pub onCredits : Table → (link id : ℕ) → LeCreditFlowIndRead → Outcome
-onCredits t link id LeCreditFlowInd.Decode = badBody t id
-onCredits t link id (LeCreditFlowInd.Is ind) =
+onCredits t link id b =
+    onBody t id (creditsBody b) λ ind.
     let s = found (connectedTo link (ind .cid)) t in
     let x = slotAt t s in
     if leb (t .n) s then refuse t NotFound
@@ -116,8 +105,8 @@ onCredits t link id (LeCreditFlowInd.Is ind) =
 -- ---- 0x06 (4.6): "slot with that CID, this link, not Disconnected → PeerDisconnecting; else reject reason 2"
 
 unfoldable pub onDisconnectionReq : Table → (link id : ℕ) → DisconnectionReqRead → Outcome
-onDisconnectionReq t link id DisconnectionReq.Decode = badBody t id
-onDisconnectionReq t link id (DisconnectionReq.Is req) =
+onDisconnectionReq t link id b =
+    onBody t id (disconnectionReqBody b) λ req.
     let s = slotOf (req .dcid) in
     if not (isCid t (req .dcid)) then still t Done (rejectReply id 2)
     else if not (ofLink link (slotAt t s)) then still t Done (rejectReply id 2)
@@ -126,8 +115,8 @@ onDisconnectionReq t link id (DisconnectionReq.Is req) =
 -- ---- 0x07 (4.7): "SCID names a Disconnecting slot of this link: freed; else nothing."
 
 unfoldable pub onDisconnectionRes : Table → (link id : ℕ) → DisconnectionResRead → Outcome
-onDisconnectionRes t link id DisconnectionRes.Decode = badBody t id
-onDisconnectionRes t link id (DisconnectionRes.Is res) =
+onDisconnectionRes t link id b =
+    onBody t id (disconnectionResBody b) λ res.
     let s = slotOf (res .scid) in
     if not (isCid t (res .scid)) then done t
     else if not (isDisconnecting (slotAt t s .state) && eqb (slotAt t s .link) link) then done t
@@ -136,20 +125,22 @@ onDisconnectionRes t link id (DisconnectionRes.Is res) =
 -- ---- 0x12 (4.20): "not Central → reject, answer 0, before the body is read. .. Invalid → response 1; valid → an event, no reply."
 
 unfoldable pub onParameters : Table → (id : ℕ) → ConnParamUpdateReqRead → Outcome
-onParameters t id ConnParamUpdateReq.Decode = badBody t id
-onParameters t id (ConnParamUpdateReq.Is req) =
+onParameters t id b =
+    onBody t id (parametersBody b) λ req.
     if parametersValid req then still t (Event (req .min) (req .max) (req .latency) (req .timeout)) []
     else still t Done (given (encodeOf id (Signal.ConnParamUpdateRes (record { result = 1 }))) ∷ [])
+
+-- "not Central → reject, answer 0, before the body is read"
+abbrev pub onUpdate : Table → (central : Bool) (id : ℕ) (body : List ℕ) → Outcome
+onUpdate t central id body = if central then onParameters t id (connParamUpdateReq body) else still t Done (rejectReply id 0)
 
 -- ---- "0x01 and 0x13: read, no reply, answer 0." (4.1, 4.21)
 
 unfoldable pub onReject : Table → (id : ℕ) → CommandRejectResRead → Outcome
-onReject t id CommandRejectRes.Decode = badBody t id
-onReject t id (CommandRejectRes.Is res) = done t
+onReject t id b = onBody t id (rejectBody b) λ res. done t
 
 unfoldable pub onParameterResponse : Table → (id : ℕ) → ConnParamUpdateResRead → Outcome
-onParameterResponse t id ConnParamUpdateRes.Decode = badBody t id
-onParameterResponse t id (ConnParamUpdateRes.Is res) = done t
+onParameterResponse t id b = onBody t id (parameterResponseBody b) λ res. done t
 
 -- ---- "A match on the code number 0x01, 0x06, 0x07, 0x12 to 0x16, and all others, each to its own handler."
 
@@ -158,7 +149,7 @@ handled t link listening central code id body =
     if eqb code 0x01 then onReject t id (commandRejectRes body)
     else if eqb code 0x06 then onDisconnectionReq t link id (disconnectionReq body)
     else if eqb code 0x07 then onDisconnectionRes t link id (disconnectionRes body)
-    else if eqb code 0x12 then (if central then onParameters t id (connParamUpdateReq body) else still t Done (rejectReply id 0))
+    else if eqb code 0x12 then onUpdate t central id body
     else if eqb code 0x13 then onParameterResponse t id (connParamUpdateRes body)
     else if eqb code 0x14 then onConnReq t link listening id (leCreditConnReq body)
     else if eqb code 0x15 then onConnRes t link id (leCreditConnRes body)

@@ -1,26 +1,24 @@
--- The table read and changed: sizes, states, slots, identifiers. Document 01, 'The job and its edge' and 'Slots'.
-use mathlib.Core.Bool.{Bool, true, false, _&&_, _||_, not}
-use mathlib.Core.List.{List, [], _∷_}
-use Prim.Native.Nat.{ℕ, zero, suc, _+_, _-_, _*_, _/_, _%_, _^_}
+-- The table read and changed: sizes, slots, CIDs, identifiers, SPSMs, refusal 1. Document 01, 'The job and its edge' and 'Slots'. The tests of a
+-- state (States.antt) and a slot with one thing changed (Slots.antt) are passed on from here.
+use mathlib.Core.Bool.{Bool, _&&_, _||_, not}
+use mathlib.Core.List.{List}
+use Prim.Native.Nat.{ℕ, suc, _+_, _-_, _*_, _/_, _%_, _^_}
 use lib.Dec.{eqb, leb, ltb}
 use lib.ListN.{getD, take, set, replicate}
 use Rattle.lists.specs.Choose.{choose}
 use Rattle.lists.specs.First.{first}
 use Rattle.lists.specs.Every.{every}
-use Rattle.codes.specs.declared.LeCreditConnResultCode.{LeCreditConnResultCode}
-use Rattle.codes.specs.declared.LeCreditConnResultCode.the-variants.{Success}
-use Rattle.credit.specs.declared.CreditFlowControl.{CreditFlowControl}
 use Rattle.credit.specs.declared.CreditFlowPolicy.the-variants.{Every}
 use Rattle.credit.specs.Account.{newAccount, creditSum}
-use Rattle.sar_join.specs.declared.Assembly.{Assembly}
-use Rattle.channel.specs.Limits.{slotsMost, depthMost, packetLeast, packetMost, jobHead, cidBase, identifierMost, spsmMost, creditsMost}
+use Rattle.sar_join.specs.Joining.{idle}
+use Rattle.channel.specs.Limits.{slotsMost, depthMost, packetLeast, packetMost, frameHead, jobHead, cidBase, identifierMost, spsmMost, creditsMost}
 use Rattle.channel.specs.declared.ChannelIndex.{ChannelIndex}
-use Rattle.channel.specs.declared.ChannelState.{ChannelState}
-use Rattle.channel.specs.declared.ChannelState.the-variants.{Disconnected, Connecting, PeerConnecting, Connected, ConnectFailed, PeerDisconnecting, Disconnecting}
-use Rattle.channel.specs.declared.Peer.{Peer}
+use Rattle.channel.specs.declared.ChannelState.the-variants.{Disconnected}
 use Rattle.channel.specs.declared.Queue.{Queue}
 use Rattle.channel.specs.declared.Slot.{Slot}
 use Rattle.channel.specs.declared.Table.{Table}
+pub use Rattle.definition.specs.States.{isDisconnected, isConnecting, isPeerConnecting, isConnected, isConnectFailed, isPeerDisconnecting, isDisconnecting, isDue, identifierOf, failureOf}
+pub use Rattle.definition.specs.Slots.{inState, withHold, withAccount, withPeer, withPeerCredits, withAssembly, withQueue, left}
 
 -- A test, an answer, and what else: read it aloud.
 infixr 5 if_then_else_
@@ -30,111 +28,29 @@ if_then_else_ = choose
 -- ---- sizes
 
 -- "place M-6 octets"
-abbrev pub placeOf : Table → ℕ
-placeOf t = t .m - jobHead
+abbrev pub placeSize : (m : ℕ) → ℕ
+placeSize m = m - jobHead
 
--- "one place for assembly, then D for finished jobs": a slot's part of the room
+abbrev pub placeOf : Table → ℕ
+placeOf t = placeSize (t .m)
+
+-- "MPS M-4": the most octets of a frame's payload
+abbrev pub mpsMost : Table → ℕ
+mpsMost t = t .m - frameHead
+
+-- "one place for assembly, then D for finished jobs": a slot's part of the room, of a table of these sizes
+abbrev pub partWidth : (d m : ℕ) → ℕ
+partWidth d m = suc d * placeSize m
+
 abbrev pub width : Table → ℕ
-width t = suc (t .d) * placeOf t
+width t = partWidth (t .d) (t .m)
 
 -- "room exactly N·(D+1)·(M-6) octets"
+abbrev pub roomWidth : (n d m : ℕ) → ℕ
+roomWidth n d m = n * partWidth d m
+
 abbrev pub roomSize : Table → ℕ
-roomSize t = t .n * width t
-
--- ---- states
-
-abbrev pub isDisconnected : ChannelState → Bool
-isDisconnected Disconnected = true
-isDisconnected (Connecting i) = false
-isDisconnected (PeerConnecting i) = false
-isDisconnected Connected = false
-isDisconnected (ConnectFailed c) = false
-isDisconnected (PeerDisconnecting i) = false
-isDisconnected (Disconnecting a) = false
-
-abbrev pub isConnecting : ChannelState → Bool
-isConnecting Disconnected = false
-isConnecting (Connecting i) = true
-isConnecting (PeerConnecting i) = false
-isConnecting Connected = false
-isConnecting (ConnectFailed c) = false
-isConnecting (PeerDisconnecting i) = false
-isConnecting (Disconnecting a) = false
-
-abbrev pub isPeerConnecting : ChannelState → Bool
-isPeerConnecting Disconnected = false
-isPeerConnecting (Connecting i) = false
-isPeerConnecting (PeerConnecting i) = true
-isPeerConnecting Connected = false
-isPeerConnecting (ConnectFailed c) = false
-isPeerConnecting (PeerDisconnecting i) = false
-isPeerConnecting (Disconnecting a) = false
-
-abbrev pub isConnected : ChannelState → Bool
-isConnected Disconnected = false
-isConnected (Connecting i) = false
-isConnected (PeerConnecting i) = false
-isConnected Connected = true
-isConnected (ConnectFailed c) = false
-isConnected (PeerDisconnecting i) = false
-isConnected (Disconnecting a) = false
-
-abbrev pub isConnectFailed : ChannelState → Bool
-isConnectFailed Disconnected = false
-isConnectFailed (Connecting i) = false
-isConnectFailed (PeerConnecting i) = false
-isConnectFailed Connected = false
-isConnectFailed (ConnectFailed c) = true
-isConnectFailed (PeerDisconnecting i) = false
-isConnectFailed (Disconnecting a) = false
-
-abbrev pub isPeerDisconnecting : ChannelState → Bool
-isPeerDisconnecting Disconnected = false
-isPeerDisconnecting (Connecting i) = false
-isPeerDisconnecting (PeerConnecting i) = false
-isPeerDisconnecting Connected = false
-isPeerDisconnecting (ConnectFailed c) = false
-isPeerDisconnecting (PeerDisconnecting i) = true
-isPeerDisconnecting (Disconnecting a) = false
-
-abbrev pub isDisconnecting : ChannelState → Bool
-isDisconnecting Disconnected = false
-isDisconnecting (Connecting i) = false
-isDisconnecting (PeerConnecting i) = false
-isDisconnecting Connected = false
-isDisconnecting (ConnectFailed c) = false
-isDisconnecting (PeerDisconnecting i) = false
-isDisconnecting (Disconnecting a) = true
-
--- "PeerDisconnecting .. or Disconnecting not yet announced"
-abbrev pub isDue : ChannelState → Bool
-isDue Disconnected = false
-isDue (Connecting i) = false
-isDue (PeerConnecting i) = false
-isDue Connected = false
-isDue (ConnectFailed c) = false
-isDue (PeerDisconnecting i) = true
-isDue (Disconnecting announced) = not announced
-
--- The identifier that a state carries; 0 where it carries none.
-abbrev pub identifierOf : ChannelState → ℕ
-identifierOf Disconnected = 0
-identifierOf (Connecting i) = i
-identifierOf (PeerConnecting i) = i
-identifierOf Connected = 0
-identifierOf (ConnectFailed c) = 0
-identifierOf (PeerDisconnecting i) = i
-identifierOf (Disconnecting a) = 0
-
--- The result code that a failed attempt got; Success where there is none.
-abbrev pub failureOf : ChannelState → LeCreditConnResultCode
-failureOf Disconnected = Success
-failureOf (Connecting i) = Success
-failureOf (PeerConnecting i) = Success
-failureOf Connected = Success
-failureOf (ConnectFailed c) = c
-failureOf (PeerDisconnecting i) = Success
-failureOf (Disconnecting a) = Success
+roomSize t = roomWidth (t .n) (t .d) (t .m)
 
 -- ---- slots
 
@@ -150,7 +66,7 @@ fresh hold =
       account = newAccount (Every 1) 0;
       hold = hold;
       peer = record { cid = 0; mps = 0; mtu = 0; credits = 0 };
-      assembly = record { have = 0; want = 0 };
+      assembly = idle;
       queue = record { count = 0; lens = replicate depthMost 0 };
     }
 
@@ -223,33 +139,6 @@ withSlots t xs = record { slots = xs; n = t .n; d = t .d; m = t .m; identifier =
 abbrev pub putSlot : Table → ℕ → Slot → Table
 putSlot t s x = withSlots t (set (t .slots) s x)
 
--- ---- a slot changed
-
-abbrev pub inState : ChannelState → Slot → Slot
-inState k x = record { state = k; link = x .link; spsm = x .spsm; mps = x .mps; mtu = x .mtu; account = x .account; hold = x .hold; peer = x .peer; assembly = x .assembly; queue = x .queue }
-
-abbrev pub withHold : ℕ → Slot → Slot
-withHold h x = record { state = x .state; link = x .link; spsm = x .spsm; mps = x .mps; mtu = x .mtu; account = x .account; hold = h; peer = x .peer; assembly = x .assembly; queue = x .queue }
-
-abbrev pub withAccount : CreditFlowControl → Slot → Slot
-withAccount a x = record { state = x .state; link = x .link; spsm = x .spsm; mps = x .mps; mtu = x .mtu; account = a; hold = x .hold; peer = x .peer; assembly = x .assembly; queue = x .queue }
-
-abbrev pub withPeer : Peer → Slot → Slot
-withPeer p x = record { state = x .state; link = x .link; spsm = x .spsm; mps = x .mps; mtu = x .mtu; account = x .account; hold = x .hold; peer = p; assembly = x .assembly; queue = x .queue }
-
-abbrev pub withPeerCredits : ℕ → Slot → Slot
-withPeerCredits n x = withPeer (record { cid = x .peer .cid; mps = x .peer .mps; mtu = x .peer .mtu; credits = n }) x
-
-abbrev pub withAssembly : Assembly → Slot → Slot
-withAssembly a x = record { state = x .state; link = x .link; spsm = x .spsm; mps = x .mps; mtu = x .mtu; account = x .account; hold = x .hold; peer = x .peer; assembly = a; queue = x .queue }
-
-abbrev pub withQueue : Queue → Slot → Slot
-withQueue q x = record { state = x .state; link = x .link; spsm = x .spsm; mps = x .mps; mtu = x .mtu; account = x .account; hold = x .hold; peer = x .peer; assembly = x .assembly; queue = q }
-
--- "leaving Connected [zeroes] the assembly place": no assembly is open any more
-abbrev pub left : ChannelState → Slot → Slot
-left k x = withAssembly (record { have = 0; want = 0 }) (inState k x)
-
 -- ---- "A slot number and a CID are kept apart": the 0x40 rule
 
 abbrev pub index : ℕ → ChannelIndex
@@ -271,9 +160,12 @@ slotOf cid = cid - cidBase
 abbrev pub nextId : Table → ℕ
 nextId t = choose (eqb (t .identifier) 0) 1 (t .identifier)
 
+abbrev pub idAfter : ℕ → ℕ
+idAfter id = choose (eqb id identifierMost) 1 (id + 1)
+
 -- The table once that identifier was used.
 abbrev pub spent : Table → Table
-spent t = record { slots = t .slots; n = t .n; d = t .d; m = t .m; identifier = choose (eqb (nextId t) identifierMost) 1 (nextId t + 1); spsms = t .spsms }
+spent t = record { slots = t .slots; n = t .n; d = t .d; m = t .m; identifier = idAfter (nextId t); spsms = t .spsms }
 
 -- ---- registered SPSMs: bit s % 8 of octet s / 8
 
@@ -296,11 +188,15 @@ registered t spsm =
 abbrev pub sizesFit : ℕ → ℕ → ℕ → Bool
 sizesFit n d m = leb 1 n && (leb n slotsMost && (leb 1 d && (leb d depthMost && (leb packetLeast m && leb m packetMost))))
 
+-- Each job that waits fits its place.
+abbrev pub lensFit : (place : ℕ) → Queue → Bool
+lensFit place q = every (λ n. leb n place) (take (q .count) (q .lens))
+
 -- "a job, queue count or local MTU beyond its place, or a credit sum (held plus received) above 65,535"
 unfoldable pub slotFits : ℕ → ℕ → Slot → Bool
 slotFits d place x =
     leb (x .queue .count) d
-    && (every (λ n. leb n place) (take (x .queue .count) (x .queue .lens))
+    && (lensFit place (x .queue)
     && (leb (x .assembly .have) place
     && (leb (x .assembly .want) place
     && (leb (x .mtu) place && leb (creditSum (x .account)) creditsMost))))

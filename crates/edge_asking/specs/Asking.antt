@@ -4,8 +4,7 @@ use Prim.Native.Nat.{ℕ}
 use lib.ListN.{length}
 use Rattle.lists.specs.Choose.{choose}
 use Rattle.definition.specs.Asking.{make, registerSpsm, attention, spsm, mtu, mps, peerMtu, peerMps, sendConnParamUpdateReq, sendConnParamUpdateRes}
-use Rattle.definition.specs.Ending.{servedOf, endOf}
-use Rattle.call_make.specs.Made.{endMade}
+use Rattle.definition.specs.Ending.{servedOf, endOf, endMade}
 use Rattle.edge.specs.Edge.{Edge, onTable, madeOn, alone}
 
 -- Makes a table of n slots, depth d and packets of m octets, and zeroes its room. Table octets of another length are refused by 1.

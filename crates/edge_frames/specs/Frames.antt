@@ -2,10 +2,9 @@
 use mathlib.Core.List.{List, []}
 use Prim.Native.Nat.{ℕ}
 use lib.ListN.{length}
-use Rattle.definition.specs.Calls.{frame, jobs}
+use Rattle.definition.specs.Calls.{frame, jobs, frameIn}
 use Rattle.definition.specs.Ending.{endOf}
 use Rattle.definition.specs.Frames.{send, receive}
-use Rattle.call_dispatch.specs.Framed.{frameIn}
 use Rattle.edge.specs.Edge.{Edge, onTable}
 
 -- A frame that came in.

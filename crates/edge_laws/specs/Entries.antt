@@ -15,10 +15,8 @@ use Rattle.definition.specs.Frames.{send, receive}
 use Rattle.definition.specs.Opening.{create, opened, giveUp}
 use Rattle.definition.specs.Pending.{nextPending, rejectAllPending, acceptPending, rejectNumbered, dropPending}
 use Rattle.definition.specs.Signals.{signalled}
-use Rattle.definition.specs.Calls.{Call, frame, sends, down, Request, register, signals, pends, rejectsAll, accepts, rejects, drops, creates, opens, gives, holds, releases, leaves, leavesCid, announces, takes, attends, asks, sendsSignal, jobs, serve, decide}
+use Rattle.definition.specs.Calls.{Call, frame, sends, down, Request, register, signals, pends, rejectsAll, accepts, rejects, drops, creates, opens, gives, holds, releases, leaves, leavesCid, announces, takes, attends, asks, sendsSignal, headOf, jobs, frameIn, serve, decide}
 use Rattle.definition.specs.Ending.{servedOf, endOf}
-use Rattle.call_dispatch.specs.Admitted.{headOf}
-use Rattle.call_dispatch.specs.Framed.{frameIn}
 use Rattle.edge_layout.specs.Layout.{read}
 use Rattle.edge.specs.Edge.{onTable, alone, flag, configOf}
 use Rattle.edge_asking.specs.Asking.{registerSpsmEdge, spsmEdge, mtuEdge, mpsEdge, peerMtuEdge, peerMpsEdge, attentionEdge, sendConnParamUpdateReqEdge, sendConnParamUpdateResEdge}

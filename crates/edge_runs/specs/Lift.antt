@@ -24,7 +24,6 @@ use Rattle.definition.specs.Numbers.{answerNumber}
 use Rattle.definition.specs.Run.{State, lent, nowhere, outWindow, jobWindow, outcome, after, run}
 use Rattle.definition.specs.Roomless.{roomlessRequest, roomless, Roomless, roomless-call}
 use Rattle.definition.specs.Lift.{call-after, roomless-end}
-use Rattle.call_dispatch.specs.Admitted.{headOf}
 use Rattle.edge_layout.specs.declared.Decoded.{Decoded}
 use Rattle.edge_layout.specs.Layout.{spell, tableOctets}
 use Rattle.edge_layout.specs.Layout as Layout
@@ -62,7 +61,7 @@ module _ {t : Table} (w : Sized t) (a : List ℕ) where
 
 module _ (s : State) (w : Sized (s .table)) (a : List ℕ) where
   pub spelled-edge : (e : Entry) → leaves (spell (s .table)) a (s .room) (s .memory) e ≡ lifted true (spell (s .table)) a (endIn s (callOf e))
-  unfolding leaves decide bare serve jobs choose headOf
+  unfolding leaves decide bare serve jobs choose
   spelled-edge (registerSpsm number) = on-alone w a (register number) refl
   spelled-edge (spsm slot) = on-alone w a (asks (λ x. x .spsm) slot) refl
   spelled-edge (mtu slot) = on-alone w a (asks (λ x. x .mtu) slot) refl

@@ -12,10 +12,10 @@ use Rattle.definition.specs.Table.{sizesFit, roomSize}
 use Rattle.definition.specs.Asking.{Made, blank, make}
 use Rattle.definition.specs.Numbers.{answerNumber}
 use Rattle.definition.specs.Run.{made}
+use Rattle.definition.specs.Ending.{endMade}
 use Rattle.edge_layout.specs.Layout.{tableOctets}
 use Rattle.edge_layout.specs.Back.{Sized}
 use Rattle.edge_answer.specs.Answers.{tells}
-use Rattle.call_make.specs.Made.{endMade}
 use Rattle.edge.specs.Edge.{Edge, lifted, madeOn}
 use Rattle.edge_asking.specs.Asking.{makeEdge}
 use Rattle.edge_sized.specs.Sized.{made-sized}

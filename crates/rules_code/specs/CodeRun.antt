@@ -7,9 +7,8 @@ use lib.ListN.{take}
 use Rattle.channel.specs.declared.Served.{Served}
 use Rattle.definition.specs.Asking.{make}
 use Rattle.definition.specs.Calls.{Call}
-use Rattle.definition.specs.Ending.{End, end, servedOf}
+use Rattle.definition.specs.Ending.{End, end, servedOf, endMade}
 use Rattle.definition.specs.Run.{State, after, made, run, outcomes}
-use Rattle.call_make.specs.Made.{endMade}
 use Rattle.rules_code.specs.Called.{Lends, Called, called-after, called-served, meets}
 
 -- ---- the making: the table that `make` gave back, the room that it left, and a memory of the caller's

@@ -25,11 +25,11 @@ use Rattle.definition.specs.Closing.{incRef, decRef, disconnect, disconnectByCi
 use Rattle.definition.specs.Signals.{signalled}
 use Rattle.definition.specs.Frames.{send, receive}
 use Rattle.definition.specs.Asking.{registerSpsm, attention, query, spsm, mtu, mps, peerMtu, peerMps, sendSignal, sendConnParamUpdateReq, sendConnParamUpdateRes}
-use Rattle.definition.specs.Calls.{Window, frame, sends, down, plain, Request, register, signals, pends, rejectsAll, accepts, rejects, drops, creates, opens, gives, holds, releases, leaves, leavesCid, announces, takes, attends, asks, sendsSignal, writes, jobs, bare, serve, decide}
+use Rattle.definition.specs.Calls.{Window, frame, sends, down, plain, Request, register, signals, pends, rejectsAll, accepts, rejects, drops, creates, opens, gives, holds, releases, leaves, leavesCid, announces, takes, attends, asks, sendsSignal, writes, jobs, bare, frameIn, serve, decide}
 use Rattle.definition.specs.Ending.{itself, end, endOf, servedOf, gave, end-given, roomAfter}
 use Rattle.definition.specs.Run.{State, lent, nowhere}
 use Rattle.definition.specs.Roomless.{roomlessRequest, roomless-call}
-use Rattle.call_dispatch.specs.Framed.{frameIn, frame-in}
+use Rattle.definition.specs.Lift.{frame-in}
 use Rattle.rules_code.specs.Called.{Within, Apart, before, behind, Lends, with-room, without-room, Called}
 
 -- ---- what is left, by what was lent

@@ -4,11 +4,10 @@ use mathlib.Core.List.{List, []}
 use Prim.Native.Nat.{ℕ}
 use lib.ListN.{length}
 use Rattle.channel.specs.declared.Table.{Table}
-use Rattle.definition.specs.Calls.{frame, jobs}
+use Rattle.definition.specs.Calls.{frame, jobs, frameIn}
 use Rattle.definition.specs.Ending.{endOf}
 use Rattle.definition.specs.Frames.{send, receive}
 use Rattle.definition.specs.Signals.{signalled}
-use Rattle.call_dispatch.specs.Framed.{frameIn}
 use Rattle.script_commands.specs.Commands.{slotNumber}
 use Rattle.run_play.specs.Plays.{Play, lentSignal, withOctets, withNone, withFrames, withJob}
 

@@ -2,7 +2,7 @@
 -- outcome); a row is one of crate `row_call`. "The program lends signal buffers of 18 octets."
 use mathlib.Core.Path.{_≡_}
 use mathlib.Core.List.{List, []}
-use Prim.Native.Nat.{ℕ, _*_}
+use Prim.Native.Nat.{ℕ}
 use lib.ListN.{take, replicate}
 use Rattle.lists.specs.Choose.{choose}
 use Rattle.text_write.specs.Rows.{Writes}
@@ -10,9 +10,8 @@ use Rattle.text_hex.specs.Hex.{hexOctets}
 use Rattle.text_words.specs.Words.{textOf}
 use Rattle.text_words.specs.declared.Word.{Word}
 use Rattle.channel.specs.declared.Table.{Table}
-use Rattle.definition.specs.Table.{sizesFit}
+use Rattle.definition.specs.Table.{roomWidth, sizesFit}
 use Rattle.definition.specs.Ending.{End}
-use Rattle.table_gate.specs.Sizes.{partWidth}
 use Rattle.row_call.specs.Printed.{rowText, openedText, takenText}
 use Rattle.run_play.specs.declared.Played.{Played}
 
@@ -62,7 +61,7 @@ withJob e = ended e (takenText (e .served .answer) (e .job) (wrote e))
 
 -- the octets of a room of these sizes; none where no table has them
 unfoldable pub sizeOf : (n d m : ℕ) → ℕ
-sizeOf n d m = choose (sizesFit n d m) (n * partWidth d m) 0
+sizeOf n d m = choose (sizesFit n d m) (roomWidth n d m) 0
 
 -- the octets that a word spells, as many as a buffer holds
 abbrev pub spelledOf : (size : ℕ) (line : List ℕ) → Word → List ℕ

@@ -2,13 +2,9 @@
 -- the plays.
 use mathlib.Core.Path.{_≡_}
 use mathlib.Core.Bool.{Bool}
-use mathlib.Core.List.{List}
+use mathlib.Core.List.{List, [], _∷_}
 use Prim.Native.Nat.{ℕ}
-use lib.Dec.{ltb}
-use lib.ListN.{length}
-use Rattle.lists.specs.Choose.{choose}
-use Rattle.lists.specs.Fuel.{whole}
-use Rattle.signal_headers.specs.Headers.{restOf}
+use Rattle.signal_headers.specs.Headers.{restOf, feedsOf}
 use Rattle.channel.specs.declared.Table.{Table}
 use Rattle.run_play.specs.Plays.{Play}
 use Rattle.run_frames.specs.PlayedFrames.{signalOf}
@@ -34,12 +30,13 @@ module _ (link : ℕ) (listening central : Bool) where
   abbrev pub oneSignal : After → (pdu : List ℕ) → After
   oneSignal a pdu = left (signalOf (a .table) (a .room) link listening central pdu)
 
-  -- one turn: nothing left is the end
-  abbrev pub signalsBy : (List ℕ → After → After) → (pdu : List ℕ) → After → After
-  signalsBy go pdu a = choose (ltb 0 (length pdu)) (go (restOf pdu) (oneSignal a pdu)) a
+  abbrev pub eachSignal : (feeds : List (List ℕ)) → After → After
+  eachSignal [] a = a
+  eachSignal (pdu ∷ feeds) a = eachSignal feeds (oneSignal a pdu)
 
-  unfoldable pub signalsAfter : (pdu : List ℕ) → After → After
-  signalsAfter = whole (λ a. a) signalsBy
+  -- one call a signal, each given what the one before left (crate signal_headers)
+  abbrev pub signalsAfter : (pdu : List ℕ) → After → After
+  signalsAfter pdu a = eachSignal (feedsOf pdu) a
 
   -- empty input has a row too
   abbrev pub signalsOf : Table → (room pdu : List ℕ) → After

@@ -3,33 +3,20 @@ use mathlib.Core.Path.{_≡_, sym, ap, _∙_}
 use mathlib.Core.Bool.{Bool}
 use mathlib.Core.List.{List}
 use Prim.Native.Nat.{ℕ, _≤_, _<_}
-use lib.Dec.{ltb}
 use lib.ListN.{length}
-use borrow.Author.Tests.{lt-ltb, le-ltb}
-use Rattle.lists.specs.Choose.{choose}
-use Rattle.lists.specs.Fuel.{whole-eq}
 use Rattle.signal_headers.specs.Headers.{restOf}
-use Rattle.signal_laws.specs.Headers.{rest-less}
+use Rattle.signal_laws.specs.Feeding.{feeds-more, feeds-none}
 use Rattle.channel.specs.declared.Table.{Table}
 use Rattle.run_frames.specs.PlayedFrames.{signalOf}
-use Rattle.run_signals.specs.Signalled.{After, after, left, oneSignal, signalsBy, signalsAfter, signalsOf, Leaves}
+use Rattle.run_signals.specs.Signalled.{After, after, left, oneSignal, eachSignal, signalsAfter, signalsOf, Leaves}
 
 module _ (link : ℕ) (listening central : Bool) where
-  signals-eq : (pdu : List ℕ) → signalsAfter link listening central pdu ≡ signalsBy link listening central (signalsAfter link listening central) pdu
-  unfolding signalsAfter choose
-  signals-eq =
-      whole-eq (λ a. a) (signalsBy link listening central) restOf rest-less
-      (λ go go′ s e. ap {B = After → After} (λ (f : After → After) (a : After). choose (ltb 0 (length s)) (f (oneSignal link listening central a s)) a) e)
-      (λ go s h. ap {B = After → After} (λ (more : Bool) (a : After). choose more (go (restOf s) (oneSignal link listening central a s)) a) (le-ltb 0 (length s) h))
-
   pub a-turn : (pdu : List ℕ) (a : After) → 0 < length pdu
       → signalsAfter link listening central pdu a ≡ signalsAfter link listening central (restOf pdu) (oneSignal link listening central a pdu)
-  unfolding choose
-  a-turn pdu a h = ap (λ (f : After → After). f a) (signals-eq pdu) ∙ rw (lt-ltb 0 (length pdu) h)
+  a-turn pdu a h = ap (λ (feeds : List (List ℕ)). eachSignal link listening central feeds a) (feeds-more pdu h)
 
   pub no-turn : (pdu : List ℕ) (a : After) → length pdu ≤ 0 → signalsAfter link listening central pdu a ≡ a
-  unfolding choose
-  no-turn pdu a h = ap (λ (f : After → After). f a) (signals-eq pdu) ∙ rw (le-ltb 0 (length pdu) h)
+  no-turn pdu a h = ap (λ (feeds : List (List ℕ)). eachSignal link listening central feeds a) (feeds-none pdu h)
 
   -- the loop's turn: what is still to be served stays the same
   pub next-turn : (pdu room : List ℕ) (u : Table) {pdu′ room′ : List ℕ} {u′ : Table} {a : After} → 0 < length pdu → pdu′ ≡ restOf pdu

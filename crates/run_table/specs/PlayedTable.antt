@@ -9,8 +9,7 @@ use Rattle.channel.specs.declared.Answer.the-variants.{Done, Refused}
 use Rattle.channel.specs.declared.Table.{Table}
 use Rattle.definition.specs.Table.{if_then_else_, sizesFit, width}
 use Rattle.definition.specs.Asking.{make, noSlots}
-use Rattle.definition.specs.Ending.{End}
-use Rattle.call_make.specs.Made.{endMade}
+use Rattle.definition.specs.Ending.{End, endMade}
 use Rattle.row_call.specs.Printed.{rowText}
 use Rattle.run_play.specs.Plays.{Play, play, sizeOf}
 

@@ -13,11 +13,9 @@ use Rattle.codes.specs.declared.Refusal.the-variants.{BadTable, BadSlot}
 use Rattle.channel.specs.declared.Answer.the-variants.{Done, Refused}
 use Rattle.channel.specs.declared.Served.{Served}
 use Rattle.channel.specs.declared.Table.{Table}
-use Rattle.definition.specs.Table.{sizesFit}
+use Rattle.definition.specs.Table.{partWidth, sizesFit}
 use Rattle.definition.specs.Asking.{make, noSlots}
-use Rattle.definition.specs.Ending.{end}
-use Rattle.table_gate.specs.Sizes.{partWidth}
-use Rattle.call_make.specs.Made.{endMade}
+use Rattle.definition.specs.Ending.{end, endMade}
 use Rattle.row_call.specs.Printed.{rowText}
 use Rattle.run_play.specs.declared.Played.{Played}
 use Rattle.run_play.specs.Plays.{play, Plays, sizeOf}

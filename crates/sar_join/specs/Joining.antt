@@ -2,7 +2,7 @@
 -- from numbers, and which of its octets are the job's.
 use mathlib.Core.Bool.{Bool}
 use mathlib.Core.List.{List}
-use Prim.Native.Nat.{ℕ, _+_, _-_}
+use Prim.Native.Nat.{ℕ, suc, _+_, _-_, _*_}
 use lib.ListN.{drop}
 use lib.Dec.{eqb, leb, ltb}
 use Rattle.lists.specs.Choose.{choose}
@@ -38,6 +38,10 @@ firstStep mtu d queued n said =
 -- a payload of n octets, for a channel of that MTU and MPS with `queued` of d places taken. (The MPS decides nothing yet.)
 unfoldable pub joinStep : ℕ → ℕ → ℕ → Assembly → ℕ → ℕ → ℕ → Joined
 joinStep mtu mps d a queued n said = choose (isIdle a) (firstStep mtu d queued n said) (reached d queued (a .want) (a .have + n))
+
+-- where the next finished job goes in a slot's part of the room, of places of that size: behind the place for assembly and the jobs that wait
+abbrev pub queueAt : (place queued : ℕ) → ℕ
+queueAt place queued = suc queued * place
 
 -- the paper's number for the answer: 0, or the refusal's
 unfoldable pub joinedNumber : Joined → ℕ

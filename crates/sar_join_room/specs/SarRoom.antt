@@ -1,18 +1,14 @@
 -- What a joined payload leaves in the slot's part of the room (document 01, 'Cutting, joining, credits'; Core Vol 3 Part A 3.4), of places of
 -- that size: the place for assembly, then the places of the finished jobs.
 use mathlib.Core.List.{List}
-use Prim.Native.Nat.{ℕ, suc, _*_}
+use Prim.Native.Nat.{ℕ}
 use lib.ListN.{replicate}
 use lib.Seq.{sets}
 use Rattle.sar_join.specs.declared.Assembly.{Assembly}
 use Rattle.sar_join.specs.declared.Joined.{Joined}
 use Rattle.sar_join.specs.declared.Joined.the-variants.{Refused, Dropped, Finished, Assembling}
-use Rattle.sar_join.specs.Joining.{assembled, jobOctets}
+use Rattle.sar_join.specs.Joining.{assembled, queueAt, jobOctets}
 use Rattle.sar_join_room.specs.SarPlaces.{finish}
-
--- where the next finished job goes
-abbrev pub queueAt : ℕ → ℕ → ℕ
-queueAt place queued = suc queued * place
 
 -- a refusal leaves the part to the caller, who leaves Connected
 unfoldable pub joinPart : ℕ → Assembly → ℕ → Joined → List ℕ → List ℕ → List ℕ

@@ -17,9 +17,9 @@ use Rattle.sar_cut.specs.CutLaws.{split}
 use Rattle.sar_join.specs.declared.Assembly.{Assembly}
 use Rattle.sar_join.specs.declared.Joined.{Joined}
 use Rattle.sar_join.specs.declared.Joined.the-variants.{Refused, Dropped, Finished, Assembling}
-use Rattle.sar_join.specs.Joining.{isIdle, idle, joinStep, assembled, jobOctets}
+use Rattle.sar_join.specs.Joining.{isIdle, idle, joinStep, assembled, jobOctets, queueAt}
 use Rattle.sar_join_room.specs.SarPlaces.{finish}
-use Rattle.sar_join_room.specs.SarRoom.{joinPart, queueAt}
+use Rattle.sar_join_room.specs.SarRoom.{joinPart}
 use Rattle.sar_join_room.specs.RoomLaws.{total, wanted, wanted-next, step-cases}
 
 -- ---- what is written

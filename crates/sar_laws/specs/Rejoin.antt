@@ -21,9 +21,9 @@ use Rattle.sar_frames.specs.Theorems.{cut}
 use Rattle.sar_join.specs.declared.Assembly.{Assembly}
 use Rattle.sar_join.specs.declared.Joined.{Joined}
 use Rattle.sar_join.specs.declared.Joined.the-variants.{Finished, Assembling}
-use Rattle.sar_join.specs.Joining.{idle, joinStep}
+use Rattle.sar_join.specs.Joining.{idle, joinStep, queueAt}
 use Rattle.sar_join_room.specs.SarPlaces.{finish}
-use Rattle.sar_join_room.specs.SarRoom.{joinPart, queueAt}
+use Rattle.sar_join_room.specs.SarRoom.{joinPart}
 use Rattle.sar_join.specs.JoinLaws.{reached-part, reached-whole, first-reaches, next-reaches}
 use Rattle.sar_join_room.specs.PlaceLaws.{grow-first, grow-next, finish-first, finish-joined}
 use Rattle.sar_join_room.specs.RoomLaws.{within}

@@ -8,8 +8,8 @@ use Rattle.codes.specs.declared.Refusal.the-variants as Refusal
 use Rattle.sar_join.specs.declared.Assembly.{Assembly}
 use Rattle.sar_join.specs.declared.Joined.{Joined}
 use Rattle.sar_join.specs.declared.Joined.the-variants.{Refused, Dropped, Finished, Assembling}
-use Rattle.sar_join.specs.Joining.{idle, joinStep}
-use Rattle.sar_join_room.specs.SarRoom.{joinPart, queueAt}
+use Rattle.sar_join.specs.Joining.{idle, joinStep, queueAt}
+use Rattle.sar_join_room.specs.SarRoom.{joinPart}
 
 -- What the receiving side keeps: the open assembly, how many jobs wait, its part of the room, and the jobs that came whole, in their order.
 pub record Side : Type 0 where

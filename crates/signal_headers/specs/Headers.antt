@@ -1,7 +1,7 @@
 -- The signals in a PDU (Core Vol 3 Part A 4), each a header and a body, and what stands after the first (FirstSignal).
 -- Document 01: every header is checked first; then the first signal is handled, and what stands after it is given back.
 use mathlib.Core.Path.{_≡_}
-use mathlib.Core.List.{List, []}
+use mathlib.Core.List.{List, [], _∷_}
 use Prim.Native.Nat.{ℕ, _-_}
 use native.Mathlib.Omega.{arith}
 use lib.ListN.{length, getD, drop, length-drop}
@@ -43,3 +43,10 @@ restIf (Past i) s = []
 
 abbrev pub restOf : List ℕ → List ℕ
 restOf s = restIf (headersOf s) s
+
+-- a whole PDU is given one call a signal: itself, then what the call before left, until nothing is left
+abbrev pub feedsBy : (List ℕ → List (List ℕ)) → List ℕ → List (List ℕ)
+feedsBy go s = choose (ltb 0 (length s)) (s ∷ go (restOf s)) []
+
+unfoldable pub feedsOf : List ℕ → List (List ℕ)
+feedsOf = whole [] feedsBy

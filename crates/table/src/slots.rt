@@ -1,10 +1,9 @@
 // The table by value: slots read and stored, the one search, freeing. Total: a slot past the end reads as an unused one and takes no store.
 // Each contract is the equation with the function of that name in the crate `definition`.
 ghost use mathlib.Core.Path.{_≡_};
-ghost use Rattle.lists.specs.Choose.{choose};
 ghost use Rattle.channel.specs.declared.Answer.the-variants.{Done};
-ghost use Rattle.definition.specs.Table.{slotAt, putSlot, found, freed};
-ghost use Rattle.definition.specs.Outcome.{sweep};
+ghost use Rattle.definition.specs.Table.{slotAt, putSlot, found};
+ghost use Rattle.definition.specs.Outcome.{freedIf, sweep};
 ghost use Rattle.table_slot.specs.Want.{wanted};
 use channel::SLOTS;
 use channel::Slot;
@@ -53,7 +52,7 @@ pub fn find(t: Table, w: Want) -> usize
 
 // The slot, freed if it is wanted.
 fn freed_if(x: Slot, w: Want) -> Slot
-    ensures { λ r. ⌜ r ≡ choose (wanted w x) (freed x) x ⌝ }
+    ensures { λ r. ⌜ r ≡ freedIf (wanted w) x ⌝ }
 {
     if fits(x, w) { freed(x) } else { x }
 }

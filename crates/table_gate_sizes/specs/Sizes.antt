@@ -6,9 +6,9 @@ use Prim.Native.Nat.{ℕ, suc, _+_, _-_, _*_, _≤_, _<_}
 use native.Mathlib.Nat.{mul-le-mul, mul-le-mul-right, suc-mul}
 use native.Mathlib.Omega.{arith}
 use borrow.Author.Tests.{leb-true}
-use Rattle.channel.specs.Limits.{slotsMost, depthMost, packetLeast, packetMost, jobHead}
+use Rattle.channel.specs.Limits.{slotsMost, depthMost, packetLeast, packetMost}
 use Rattle.channel.specs.declared.Table.{Table}
-use Rattle.definition.specs.Table.{sizesFit, wellFormed, slotFits, placeOf, width, live}
+use Rattle.definition.specs.Table.{placeSize, placeOf, partWidth, live, sizesFit, slotFits, wellFormed}
 use Rattle.lists.specs.Every.{every}
 
 -- a table of n slots, d waiting jobs a slot and packets of m octets
@@ -45,13 +45,9 @@ pub formed-sizes : (t : Table) → wellFormed t ≡ true → Sized (t .n) (t .d)
 unfolding wellFormed
 formed-sizes t e = sizes-fit (t .n) (t .d) (t .m) (both _ (every (slotFits (t .d) (placeOf t)) (live t)) e .0)
 
--- a slot's part of the room, from the two sizes that decide it (`width` of a table)
-abbrev pub partWidth : ℕ → ℕ → ℕ
-partWidth d m = suc d * (m - jobHead)
-
 -- the most octets of a slot's part, and of n parts
 pub width-most : (d m : ℕ) → d ≤ depthMost → m ≤ packetMost → partWidth d m ≤ partWidth depthMost packetMost
-width-most d m h l = mul-le-mul {n₂ = suc depthMost} {m₂ = packetMost - jobHead} (omega arith) (omega arith)
+width-most d m h l = mul-le-mul {n₂ = suc depthMost} {m₂ = placeSize packetMost} (omega arith) (omega arith)
 
 pub room-most : (n w : ℕ) → n ≤ slotsMost → w ≤ partWidth depthMost packetMost → n * w ≤ slotsMost * partWidth depthMost packetMost
 room-most n w h l = mul-le-mul {n₂ = slotsMost} h l

@@ -1,9 +1,9 @@
 // The sizes of a table and of its room. specs/Sizes.antt says what sizes within the limits tell.
 ghost use mathlib.Core.Path.{_≡_};
-ghost use Prim.Native.Nat.{_-_, _*_, _≤_};
-ghost use Rattle.channel.specs.Limits.{depthMost, packetMost, jobHead};
-ghost use Rattle.definition.specs.Table.{sizesFit};
-ghost use Rattle.table_gate_sizes.specs.Sizes.{Sized, partWidth};
+ghost use Prim.Native.Nat.{_≤_};
+ghost use Rattle.channel.specs.Limits.{depthMost, packetMost};
+ghost use Rattle.definition.specs.Table.{placeSize, partWidth, roomWidth, sizesFit};
+ghost use Rattle.table_gate_sizes.specs.Sizes.{Sized};
 use channel::DEPTH;
 use channel::JOB_HEAD;
 use channel::PACKET_LEAST;
@@ -20,7 +20,7 @@ pub fn sizes_fit(n: usize, d: usize, m: usize) -> bool
 
 // The octets of a place.
 pub fn place_size(m: usize) -> usize
-    ensures { λ r. ⌜ r ≡ m - jobHead ⌝ }
+    ensures { λ r. ⌜ r ≡ placeSize m ⌝ }
 {
     if m < JOB_HEAD { 0 } else { m - JOB_HEAD }
 }
@@ -36,7 +36,7 @@ pub fn part_size(d: usize, m: usize) -> usize
 // The octets of the room.
 pub fn room_size(n: usize, d: usize, m: usize) -> usize
     requires { ⌜ Sized n d m ⌝ }
-    ensures { λ r. ⌜ r ≡ n * partWidth d m ⌝ }
+    ensures { λ r. ⌜ r ≡ roomWidth n d m ⌝ }
 {
     n * part_size(d, m)
 }

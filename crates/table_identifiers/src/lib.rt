@@ -1,10 +1,7 @@
 // The identifiers of signals and of channels. Each contract is the equation with the function of that name in the crate `definition`.
 ghost use mathlib.Core.Path.{_≡_};
-ghost use Prim.Native.Nat.{_+_, _<_};
-ghost use lib.Dec.{eqb};
-ghost use Rattle.lists.specs.Choose.{choose};
-ghost use Rattle.channel.specs.Limits.{identifierMost};
-ghost use Rattle.definition.specs.Table.{index, cidOf, isCid, slotOf, nextId, spent};
+ghost use Prim.Native.Nat.{_<_};
+ghost use Rattle.definition.specs.Table.{index, cidOf, isCid, slotOf, nextId, idAfter, spent};
 use channel::CID_BASE;
 use channel::ChannelIndex;
 use channel::Cid;
@@ -20,7 +17,7 @@ pub fn next_id(t: Table) -> u8
 }
 
 fn id_after(id: u8) -> u8
-    ensures { λ r. ⌜ r ≡ choose (eqb id identifierMost) 1 (id + 1) ⌝ }
+    ensures { λ r. ⌜ r ≡ idAfter id ⌝ }
 {
     if id == IDENTIFIER_MOST { 1 } else { id + 1 }
 }

@@ -7,7 +7,8 @@ use Rattle.channel.specs.declared.Given.{Given}
 use Rattle.channel.specs.declared.Given.the-variants.{Is}
 use Rattle.channel.specs.declared.Table.{Table}
 use Rattle.definition.specs.Table.{width, roomSize, spent}
-use Rattle.table_gate_sizes.specs.Sizes.{Sized, partWidth, part-within}
+use Rattle.definition.specs.Table.{partWidth}
+use Rattle.table_gate_sizes.specs.Sizes.{Sized, part-within}
 use Rattle.table_gate.specs.Passed.{Passed}
 
 -- slot s's part lies within a room of so many octets

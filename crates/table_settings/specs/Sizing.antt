@@ -1,16 +1,13 @@
 -- "local MPS > M-4, then local MTU > M-6": one test of two, since both are refused alike.
 use mathlib.Core.Path.{_≡_, refl, sym}
 use mathlib.Core.Bool.{Bool, true, false, _||_, false≢true}
-use Prim.Native.Nat.{_-_}
-use lib.Dec.{ltb}
 use Rattle.lists.specs.Choose.{choose}
-use Rattle.channel.specs.Limits.{frameHead, jobHead}
 use Rattle.channel.specs.declared.L2capChannelConfig.{L2capChannelConfig}
 use Rattle.channel.specs.declared.Table.{Table}
-use Rattle.definition.specs.Pending.{mtuOf, mpsOf}
+use Rattle.definition.specs.Pending.{mpsTooLarge, mtuTooLarge}
 
 abbrev pub tooLarge : Table → L2capChannelConfig → Bool
-tooLarge t c = ltb (t .m - frameHead) (mpsOf t c) || ltb (t .m - jobHead) (mtuOf t c)
+tooLarge t c = mpsTooLarge t c || mtuTooLarge t c
 
 -- either of them refuses
 pub either-refuses : {A : Type 0} (a b : Bool) → (a || b) ≡ true → (x y : A) → choose a x (choose b x y) ≡ x

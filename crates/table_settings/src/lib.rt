@@ -7,8 +7,8 @@ ghost use mathlib.Core.Path.{_≡_};
 ghost use Prim.Native.Nat.{_≤_, _<_};
 ghost use lib.Dec.{ltb};
 ghost use Rattle.channel.specs.Limits.{packetLeast, packetMost, depthMost};
-ghost use Rattle.definition.specs.Pending.{settled, mtuOf, mpsOf, creditsOf, acceptedAs};
-ghost use Rattle.table_settings.specs.Response.{accepting, attempting, requesting};
+ghost use Rattle.definition.specs.Pending.{settled, mtuOf, mpsOf, creditsOf, acceptedAs, accepting};
+ghost use Rattle.definition.specs.Opening.{attemptAs, asking};
 use channel::CID_BASE;
 use channel::ChannelState;
 use channel::FRAME_HEAD;
@@ -108,7 +108,7 @@ pub fn attempted(
     mtu: u16,
     account: CreditFlowControl,
 ) -> Slot
-    ensures { λ r. ⌜ r ≡ attempting id link spsm mps mtu account ⌝ }
+    ensures { λ r. ⌜ r ≡ attemptAs id link spsm mps mtu account ⌝ }
 {
     let x = table_slot::fresh(0);
     let peer = x.peer;
@@ -131,7 +131,7 @@ pub fn attempted(
 // The request for it.
 pub fn request(s: usize, spsm: u16, mtu: u16, mps: u16, credits: u16) -> LeCreditConnReq
     requires { ⌜ s < 256 ⌝ }
-    ensures { λ r. ⌜ r ≡ requesting s spsm mtu mps credits ⌝ }
+    ensures { λ r. ⌜ r ≡ asking s spsm mtu mps credits ⌝ }
 {
     LeCreditConnReq {
         spsm,

@@ -6,7 +6,6 @@ use Rattle.definition.specs.Frames.{dispatch}
 use Rattle.definition.specs.Ending.{end-still}
 use Rattle.table_gate.specs.Passed.{passed}
 use Rattle.table_room.specs.Placed.{room-of}
-use Rattle.call_dispatch.specs.Admitted.{admitted}
 use borrow.Author.Needs.{needs}
 use Rattle.call_dispatch.proofs.dispatch.Statement.{statement}
 use Rattle.call_dispatch.proofs.dispatch.Tie as tie
@@ -29,7 +28,7 @@ admitted-requires c κs =
     (room-of p, p .formed)
 
 returns : tie.Need-returns
-unfolding choose sizes dispatch admitted
+unfolding choose sizes dispatch
 returns c =
     rw (
       ← c .before .before .before .before .gate .ensures,
@@ -41,7 +40,7 @@ same-length : tie.Need-same-length
 same-length c = search needs
 
 returns-2 : tie.Need-returns-2
-unfolding choose sizes dispatch admitted
+unfolding choose sizes dispatch
 returns-2 c =
     rw (
       ← c .before .before .before .before .before .before .gate .ensures,

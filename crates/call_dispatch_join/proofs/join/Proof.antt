@@ -7,7 +7,6 @@ use Rattle.definition.specs.Table.{width}
 use Rattle.definition.specs.Ending.{parts-none}
 use Rattle.table_room.specs.Placed.{placed}
 use Rattle.definition.specs.Frames.{joined}
-use Rattle.call_dispatch_join.specs.Moved.{joinMoves}
 use Rattle.call_dispatch_join.specs.Joins.{moves-in, end-leaving}
 use borrow.Author.Needs.{needs}
 use Rattle.call_dispatch_join.proofs.join.Statement.{statement}
@@ -68,7 +67,7 @@ same-length : tie.Need-same-length
 same-length c = search needs
 
 returns : tie.Need-returns
-unfolding joined joinMoves
+unfolding joined
 returns c =
     let j = c .before .before .before .before .before .before .before .before .before in
     let g = j .before .before .before .before .before .before .before .args in
@@ -80,7 +79,7 @@ same-length-2 : tie.Need-same-length-2
 same-length-2 c = search needs
 
 returns-2 : tie.Need-returns-2
-unfolding joined joinMoves
+unfolding joined
 returns-2 c =
     let j = c .before .before .before .before .before .before in
     let g = j .before .before .before .before .before .before .before .args in
@@ -91,7 +90,7 @@ same-length-3 : tie.Need-same-length-3
 same-length-3 c = search needs
 
 returns-3 : tie.Need-returns-3
-unfolding joined joinMoves
+unfolding joined
 returns-3 c =
     let j = c .before .before .before .before .before .before .before .before .before in
     let g = j .before .before .before .before .before .before .before .args in
@@ -102,7 +101,7 @@ same-length-4 : tie.Need-same-length-4
 same-length-4 c = search needs
 
 returns-4 : tie.Need-returns-4
-unfolding joined joinMoves
+unfolding joined
 returns-4 c =
     let j = c .before .before .before .before .before .before .before in
     let g = j .before .before .before .before .before .before .before .args in

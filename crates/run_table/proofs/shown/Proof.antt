@@ -1,7 +1,8 @@
 -- `run_table::shown` meets its contract: sizes that fit place the slot's part.
 use mathlib.Core.Path.{sym, _∙_}
 use native.Mathlib.Omega.{arith}
-use Rattle.table_gate.specs.Sizes.{partWidth, sizes-fit, width-most, room-most, part-within}
+use Rattle.definition.specs.Table.{partWidth}
+use Rattle.table_gate.specs.Sizes.{sizes-fit, width-most, room-most, part-within}
 use Rattle.run_table.specs.PlayedTableLaws.{no-part, past-parts, part-shown}
 use borrow.Author.Needs.{needs}
 use Rattle.run_table.proofs.shown.Statement.{statement}

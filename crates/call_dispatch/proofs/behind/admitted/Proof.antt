@@ -3,10 +3,12 @@
 use mathlib.Core.Path.{_≡_, sym, ap, _∙_}
 use mathlib.Core.List.{[]}
 use native.Mathlib.Omega.{arith}
+use lib.ListN.{length}
 use borrow.Author.Tests.{not-false}
 use Rattle.credit.specs.Account.{received}
 use Rattle.channel.specs.declared.ChannelIndex.{ChannelIndex}
 use Rattle.definition.specs.Table.{slotAt, slotOf, withAccount}
+use Rattle.definition.specs.Calls.{frame, headOf, jobs}
 use Rattle.definition.specs.Ending.{endOf}
 use Rattle.table.specs.Named.{named}
 use Rattle.table_gate.specs.Fits.{have-fits}
@@ -33,7 +35,9 @@ refused-requires c κs = search needs
 returns : tie.Need-returns
 returns c =
     let g = c .before .before .before .before .before .args in
-    ends (g .t) _ (g .room .now) _ (c .refused .ensures) (no-channel (g .t) (g .link) (g .cid .0) _ _ _ (c .before .before .is-cid .ensures) (c .before .if1 .taken))
+    let head = headOf (g .t) (g .cid .0) (g .payload .now) in
+    let count = length (jobs (g .t) (frame (g .link) (g .cid .0) (g .payload .now))) in
+    ends (g .t) _ (g .room .now) _ (c .refused .ensures) (no-channel (g .t) (g .link) (g .cid .0) head count _ (c .before .before .is-cid .ensures) (c .before .if1 .taken))
 
 slot-of-requires : tie.Need-slot-of-requires
 slot-of-requires c κs =
@@ -56,7 +60,9 @@ done-requires c κs = search needs
 returns-2 : tie.Need-returns-2
 returns-2 c =
     let g = c .before .before .before .before .before .before .before .before .before .before .args in
-    ends (g .t) _ (g .room .now) _ (c .done .ensures) (not-open (g .t) (g .link) (g .cid .0) _ _ (reached (c .before .before .before)) _ (c .before .before .is-connected .ensures) (c .before .if2 .taken))
+    let head = headOf (g .t) (g .cid .0) (g .payload .now) in
+    let count = length (jobs (g .t) (frame (g .link) (g .cid .0) (g .payload .now))) in
+    ends (g .t) _ (g .room .now) _ (c .done .ensures) (not-open (g .t) (g .link) (g .cid .0) head count (reached (c .before .before .before)) _ (c .before .before .is-connected .ensures) (c .before .if2 .taken))
 
 refused-requires-2 : tie.Need-refused-requires-2
 refused-requires-2 c κs = search needs
@@ -64,7 +70,9 @@ refused-requires-2 c κs = search needs
 returns-3 : tie.Need-returns-3
 returns-3 c =
     let g = c .before .before .before .before .before .before .before .before .before .before .before .before .before .before .args in
-    ends (g .t) _ (g .room .now) _ (c .refused2 .ensures) (of-another (g .t) (g .link) (g .cid .0) _ _ (reached (c .before .before .before .before .before .before .before)) _ (c .before .before .before .before .before .before .is-connected .ensures) (c .before .before .before .before .before .if2 .left) (c .before .if3 .taken))
+    let head = headOf (g .t) (g .cid .0) (g .payload .now) in
+    let count = length (jobs (g .t) (frame (g .link) (g .cid .0) (g .payload .now))) in
+    ends (g .t) _ (g .room .now) _ (c .refused2 .ensures) (of-another (g .t) (g .link) (g .cid .0) head count (reached (c .before .before .before .before .before .before .before)) _ (c .before .before .before .before .before .before .is-connected .ensures) (c .before .before .before .before .before .if2 .left) (c .before .if3 .taken))
 
 refused-requires-3 : tie.Need-refused-requires-3
 refused-requires-3 c κs = search needs
@@ -72,7 +80,9 @@ refused-requires-3 c κs = search needs
 returns-4 : tie.Need-returns-4
 returns-4 c =
     let g = c .before .before .before .before .before .before .before .before .before .before .before .before .before .before .before .args in
-    ends (g .t) _ (g .room .now) _ (c .refused3 .ensures) (unpaid (g .t) (g .link) (g .cid .0) _ _ (reached (c .before .before .before .before .before .before .before .before)) _ (c .before .before .before .before .before .before .before .is-connected .ensures) (c .before .before .before .before .before .before .if2 .left) (c .before .before .if3 .left) (c .before .if4 .taken))
+    let head = headOf (g .t) (g .cid .0) (g .payload .now) in
+    let count = length (jobs (g .t) (frame (g .link) (g .cid .0) (g .payload .now))) in
+    ends (g .t) _ (g .room .now) _ (c .refused3 .ensures) (unpaid (g .t) (g .link) (g .cid .0) head count (reached (c .before .before .before .before .before .before .before .before)) _ (c .before .before .before .before .before .before .before .is-connected .ensures) (c .before .before .before .before .before .before .if2 .left) (c .before .before .if3 .left) (c .before .if4 .taken))
 
 received-through-requires : tie.Need-received-through-requires
 received-through-requires c κs = search needs
@@ -94,12 +104,14 @@ same-length c = search needs
 returns-5 : tie.Need-returns-5
 returns-5 c =
     let g = c .before .before .before .before .before .before .before .before .before .before .before .before .before .before .before .before .before .before .before .before .args in
+    let head = headOf (g .t) (g .cid .0) (g .payload .now) in
+    let count = length (jobs (g .t) (frame (g .link) (g .cid .0) (g .payload .now))) in
     let x = reached (c .before .before .before .before .before .before .before .before .before .before .before .before .before) in
     let y = c .before .before .before .before .before .before .before .before .before .before .before .before .before .slot-at .result in
     let mine : slotAt (g .t) (slotOf (g .cid .0)) .assembly ≡ y .assembly = rw (← x .number, ← x .slot) in
     (rw (c .before .before .before .before .with-account .ensures, c .before .before .before .before .before .received-through .ensures) at (c .before .before .join .ensures))
     ∙ sym (frame-joins (g .t) (g .link) (g .cid .0) (g .payload .now) (c .before .before .before .before .before .before .before .before .before .before .before .before .before .before .number .result) (withAccount (received (y .account) 1) y) (g .room .now) (x .named) mine)
-    ∙ ap (endOf (g .t) _ (g .room .now) [] []) (joins (g .t) (g .link) (g .cid .0) _ _ x _ (c .before .before .before .before .before .before .before .before .before .before .before .before .is-connected .ensures) (c .before .before .before .before .before .before .before .before .before .before .before .if2 .left) (c .before .before .before .before .before .before .before .if3 .left) (c .before .before .before .before .before .before .if4 .left))
+    ∙ ap (endOf (g .t) _ (g .room .now) [] []) (joins (g .t) (g .link) (g .cid .0) head count x _ (c .before .before .before .before .before .before .before .before .before .before .before .before .is-connected .ensures) (c .before .before .before .before .before .before .before .before .before .before .before .if2 .left) (c .before .before .before .before .before .before .before .if3 .left) (c .before .before .before .before .before .before .if4 .left))
 
 pub admitted-spec : {M : Type 1} → statement M
 admitted-spec =

@@ -5,7 +5,7 @@ use native.Mathlib.Numerals.{add-one}
 use native.Mathlib.Omega.{arith}
 use lib.ListN.{length}
 use Rattle.octets.specs.Sets.{mid-part, part-length}
-use Rattle.table_gate.specs.Sizes.{partWidth}
+use Rattle.definition.specs.Table.{partWidth}
 use Rattle.table_room.specs.Parts.{parts-lent}
 use Rattle.call_dispatch_join.specs.Moved.{join-moves}
 use borrow.Author.Needs.{needs}

@@ -1,5 +1,5 @@
 -- `call_receive_hand::shift::hand_out` meets its contract: the job is copied before the part is lent (parts-lent) and its jobs move up.
-use Rattle.table_gate.specs.Sizes.{partWidth}
+use Rattle.definition.specs.Table.{partWidth}
 use Rattle.table_room.specs.Parts.{parts-lent}
 use borrow.Author.Needs.{needs}
 use Rattle.call_receive_hand.proofs.shift.hand_out.Statement.{statement}

@@ -7,7 +7,7 @@ use lib.ListN.{length, replicate}
 use lib.Seq.{sets}
 use Rattle.octets.specs.Sets.{mid-part, part-length}
 use Rattle.definition.specs.Mem.{moves, move}
-use Rattle.table_gate_sizes.specs.Sizes.{partWidth}
+use Rattle.definition.specs.Table.{partWidth}
 use Rattle.table_room.specs.Parts.{wiped, parts-lent}
 use Rattle.table_room.proofs.parts.wipe_part.Statement.{statement}
 use Rattle.table_room.proofs.parts.wipe_part.Tie as tie

@@ -1,7 +1,7 @@
 -- `table_room::zero_assembly` meets its contract: the part is lent (parts-lent), and zeros go to its first place.
 use borrow.Author.Needs.{needs}
 use Rattle.definition.specs.Mem.{moves, move, fill}
-use Rattle.table_gate_sizes.specs.Sizes.{partWidth}
+use Rattle.definition.specs.Table.{partWidth}
 use Rattle.table_room.specs.Parts.{parts-lent}
 use Rattle.table_room.proofs.parts.zero_assembly.Statement.{statement}
 use Rattle.table_room.proofs.parts.zero_assembly.Tie as tie

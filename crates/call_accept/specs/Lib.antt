@@ -1,2 +1,0 @@
--- What an accept that nothing refuses comes to.
-pub mod Agreed

@@ -1,2 +1,0 @@
--- What a create that nothing refuses comes to.
-pub mod Started

@@ -1,2 +1,0 @@
--- What is told the peer of a disconnect.
-pub mod Parting

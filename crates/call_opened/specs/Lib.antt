@@ -1,2 +1,0 @@
--- The opened query of a slot in use.
-pub mod Polled

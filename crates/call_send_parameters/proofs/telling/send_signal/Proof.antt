@@ -1,13 +1,7 @@
 -- `call_send_parameters::telling::send_signal` meets its contract: behind the gate code and definition make the same tests in the same order.
-use mathlib.Core.Path.{sym, _∙_}
 use mathlib.Core.List.{[]}
-use native.Mathlib.Omega.{arith}
-use Rattle.definition.specs.Ending.{end-still}
-use Rattle.table_gate.specs.Passed.{passed}
-use Rattle.table_room.specs.Placed.{room-of}
-use Rattle.lists.specs.Choose.{choose}
-use Rattle.definition.specs.Mem.{sizes}
 use Rattle.definition.specs.Asking.{sendSignal}
+use Rattle.table_gate.specs.Behind.{behind, on, stopped, ended}
 use borrow.Author.Needs.{needs}
 use Rattle.call_send_parameters.proofs.telling.send_signal.Statement.{statement}
 use Rattle.call_send_parameters.proofs.telling.send_signal.Tie as tie
@@ -32,28 +26,24 @@ next-id-requires c κs = search needs
 
 tell-requires : tie.Need-tell-requires
 tell-requires c κs =
-    let p = passed _ _ _ _ _ (sym (c .before .before .before .before .before .gate .ensures) ∙ c .before .before .before .enum-told .given .1) in
+    let b = c .before .before .before in
+    let p = behind (b .before .before .gate .ensures) (b .enum-told .given .1) in
     p .signal-is
 
 returns : tie.Need-returns
-unfolding choose sizes sendSignal
+unfolding sendSignal
 returns c =
-    rw (
-      ← c .before .before .before .before .gate .ensures,
-      c .before .before .r .given .1,
-      c .refused .ensures,
-    ) (sym (end-still _ _ _ _ _ _ _))
+    rw (stopped (c .before .before .before .before .gate .ensures) (c .before .before .r .given .1)) (ended (c .refused .ensures) _ _)
 
 same-length : tie.Need-same-length
 same-length c = search needs
 
 returns-2 : tie.Need-returns-2
-unfolding choose sizes sendSignal
+unfolding sendSignal
 returns-2 c =
-    rw (
-      ← c .before .before .before .before .before .before .before .before .gate .ensures,
-      c .before .before .before .before .before .before .enum-told .given .1,
-    ) (rw (c .before .before .before .before .next-id .ensures, c .before .before .before .before .before .spent .ensures) at (c .before .before .tell .ensures (c .before .before .before .before .before .before .before .before .before .before .args .t) [] []))
+    let b = c .before .before .before .before .before .before in
+    rw (on (b .before .before .gate .ensures) (b .enum-told .given .1))
+    (rw (c .before .before .before .before .next-id .ensures, c .before .before .before .before .before .spent .ensures) at (c .before .before .tell .ensures (b .before .before .before .before .args .t) [] []))
 
 pub send-signal-spec : {M : Type 1} → statement M
 send-signal-spec =

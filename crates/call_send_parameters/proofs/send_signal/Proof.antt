@@ -1,10 +1,10 @@
--- `call_send_parameters::telling::send_signal` meets its contract: behind the gate code and definition make the same tests in the same order.
+-- `call_send_parameters::send_signal` meets its contract: behind the gate code and definition make the same tests in the same order.
 use mathlib.Core.List.{[]}
 use Rattle.definition.specs.Asking.{sendSignal}
 use Rattle.table_gate.specs.Behind.{behind, on, stopped, ended}
 use borrow.Author.Needs.{needs}
-use Rattle.call_send_parameters.proofs.telling.send_signal.Statement.{statement}
-use Rattle.call_send_parameters.proofs.telling.send_signal.Tie as tie
+use Rattle.call_send_parameters.proofs.send_signal.Statement.{statement}
+use Rattle.call_send_parameters.proofs.send_signal.Tie as tie
 
 gate-requires : tie.Need-gate-requires
 gate-requires c κs = search needs

@@ -12,6 +12,8 @@ pub mod Ending
 pub mod Numbers
 pub mod Run
 pub mod Public
+pub mod Lengths
+pub mod Tells
 pub mod Forms
 pub mod Safe
 pub mod Apart

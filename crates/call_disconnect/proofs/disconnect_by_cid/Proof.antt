@@ -7,7 +7,7 @@ use native.Mathlib.Omega.{arith}
 use Rattle.table_gate.specs.Behind.{behind, on, stopped, ended}
 use borrow.Author.Needs.{needs}
 use Rattle.channel.specs.declared.ChannelIndex.{ChannelIndex}
-use Rattle.table.specs.Named.{named}
+use Rattle.definition.specs.Tells.{cid-within}
 use Rattle.call_disconnect.proofs.disconnect_by_cid.Statement.{statement}
 use Rattle.call_disconnect.proofs.disconnect_by_cid.Tie as tie
 
@@ -31,7 +31,7 @@ slot-of-requires c κs =
     let b = c .before .before in
     let p = behind (b .before .before .gate .ensures) (b .enum-told .given .1) in
     let g = b .before .before .before .before .args in
-    let h = named (g .t) (g .cid .0) (sym (c .before .is-cid .ensures) ∙ c .if1 .taken) in
+    let h = cid-within (g .t) (g .cid .0) (sym (c .before .is-cid .ensures) ∙ c .if1 .taken) in
     omega (arith, h, p .sizes .n-most)
 
 number-requires : tie.Need-number-requires
@@ -43,7 +43,7 @@ disconnecting-requires c κs =
     let b = at1 .before .before in
     let p = behind (b .before .before .gate .ensures) (b .enum-told .given .1) in
     let g = b .before .before .before .before .args in
-    let h = named (g .t) (g .cid .0) (sym (at1 .before .is-cid .ensures) ∙ at1 .if1 .taken) in
+    let h = cid-within (g .t) (g .cid .0) (sym (at1 .before .is-cid .ensures) ∙ at1 .if1 .taken) in
     (room-of p, rw (c .before .number .ensures ∙ ap (λ (i : ChannelIndex). i .0) (c .before .before .slot-of .ensures)) h)
 
 same-length : tie.Need-same-length

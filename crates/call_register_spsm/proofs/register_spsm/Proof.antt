@@ -7,7 +7,7 @@ use Rattle.table_gate.specs.Behind.{on, stopped}
 use borrow.Author.Needs.{needs}
 use borrow.Author.Tests.{leb-true, not-false}
 use Rattle.channel.specs.Limits.{spsmMost}
-use Rattle.table_gate.specs.Sizes.{both}
+use Rattle.lists.specs.Both.{both}
 use Rattle.call_register_spsm.proofs.register_spsm.Statement.{statement}
 use Rattle.call_register_spsm.proofs.register_spsm.Tie as tie
 

@@ -10,7 +10,7 @@ use lib.ListN.{length, getD, take, replicate, length-map}
 use borrow.Author.Tests.{leb-true, le-leb, eqb-true, eqb-false, not-false}
 use Rattle.lists.specs.Choose.{if-cases}
 use Rattle.lists.specs.Every.{every}
-use Rattle.channel.specs.Limits.{slotsMost, depthMost, packetLeast, packetMost, creditsMost, identifierMost}
+use Rattle.channel.specs.Limits.{slotsMost, depthMost, packetLeast, packetMost, creditsMost, identifierMost, jobHead}
 use Rattle.channel.specs.declared.Answer.the-variants.{Done}
 use Rattle.channel.specs.declared.Slot.{Slot}
 use Rattle.channel.specs.declared.Table.{Table}
@@ -164,7 +164,7 @@ good-made n d m room =
       sizes = not-false (sizesFit n d m) fits;
       long = refl;
       identifier = omega arith;
-      slots = all-take d (m - 6) n (replicate slotsMost (fresh 0)) (all-fresh d (m - 6) slotsMost);
+      slots = all-take d (m - jobHead) n (replicate slotsMost (fresh 0)) (all-fresh d (m - jobHead) slotsMost);
       size = length-map room (λ _. 0) ∙ eqb-true (length room) (roomSize (blank n d m)) (not-false _ same);
     }))
   where

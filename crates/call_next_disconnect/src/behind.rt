@@ -11,7 +11,6 @@ ghost use Rattle.definition.specs.Closing.{responding, requesting, responded, r
 ghost use Rattle.definition.specs.Ending.{end, endOf};
 ghost use Rattle.table_room.specs.Placed.{RoomOf};
 use channel::Answer;
-use channel::CID_BASE;
 use channel::ChannelState;
 use channel::Served;
 use channel::Slot;
@@ -73,8 +72,9 @@ fn response(s: usize, peer: u16) -> DisconnectionRes
     requires { ⌜ s < 256 ⌝ }
     ensures { λ r. ⌜ r ≡ responding s peer ⌝ }
 {
+    let cid = table::cid_of(table::index_at(s));
     DisconnectionRes {
-        dcid: CID_BASE + s as u16,
+        dcid: cid.0,
         scid: peer,
     }
 }
@@ -84,8 +84,9 @@ fn asked(s: usize, peer: u16) -> DisconnectionReq
     requires { ⌜ s < 256 ⌝ }
     ensures { λ r. ⌜ r ≡ requesting s peer ⌝ }
 {
+    let cid = table::cid_of(table::index_at(s));
     DisconnectionReq {
         dcid: peer,
-        scid: CID_BASE + s as u16,
+        scid: cid.0,
     }
 }

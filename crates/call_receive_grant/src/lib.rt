@@ -12,7 +12,6 @@ ghost use Rattle.definition.specs.Ending.{end, endOf};
 ghost use Rattle.credit.specs.declared.Grant.the-variants.{Credits};
 ghost use Rattle.definition.specs.Frames.{crediting, taken};
 ghost use Rattle.table_room.specs.Placed.{RoomOf};
-use channel::CID_BASE;
 use channel::Served;
 use channel::Slot;
 use channel::Table;
@@ -46,8 +45,9 @@ fn credits_of(s: usize, n: u16) -> LeCreditFlowInd
     requires { ⌜ s < 256 ⌝ }
     ensures { λ r. ⌜ r ≡ crediting s n ⌝ }
 {
+    let cid = table::cid_of(table::index_at(s));
     LeCreditFlowInd {
-        cid: CID_BASE + s as u16,
+        cid: cid.0,
         credits: n,
     }
 }

@@ -1,5 +1,8 @@
 -- The limits of document 01, 'The job and its edge' and 'What a refusal says and leaves': each is named here, once.
 use Prim.Native.Nat.{ℕ}
+-- the longest signal that is written; credits and their sums end at 65,535
+pub use Rattle.signal_forms.specs.Limits.{signalMost}
+pub use Rattle.credit.specs.Account.{creditsMost}
 
 -- N is 1..=16, D 1..=4, M 29..=1,024
 abbrev pub slotsMost : ℕ
@@ -29,10 +32,6 @@ cidBase = 0x40
 abbrev pub handleMost : ℕ
 handleMost = 0x0EFF
 
--- the longest signal that is written
-abbrev pub signalMost : ℕ
-signalMost = 18
-
 -- identifiers are 1..=255
 abbrev pub identifierMost : ℕ
 identifierMost = 255
@@ -40,10 +39,6 @@ identifierMost = 255
 -- the SPSMs that can be registered are 1..=255
 abbrev pub spsmMost : ℕ
 spsmMost = 255
-
--- credits and their sums end at 65,535
-abbrev pub creditsMost : ℕ
-creditsMost = 65535
 
 abbrev pub holdsMost : ℕ
 holdsMost = 255

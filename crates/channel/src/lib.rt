@@ -5,6 +5,7 @@ use codes::Refusal;
 use credit::CreditFlowControl;
 use credit::CreditFlowPolicy;
 use sar_join::Assembly;
+pub use signal_forms::SIGNAL_MOST;
 
 // The most slots that a table has.
 pub const SLOTS: usize = 16;
@@ -27,18 +28,15 @@ pub const CID_BASE: u16 = 0x40;
 // Link handles are 0 to HANDLE_MOST.
 pub const HANDLE_MOST: usize = 0x0EFF;
 
-// The longest signal that is written.
-pub const SIGNAL_MOST: usize = 18;
-
 // Identifiers are 1 to IDENTIFIER_MOST, the SPSMs that can be registered 1 to SPSM_MOST.
 pub const IDENTIFIER_MOST: u8 = 255;
 
 pub const SPSM_MOST: u16 = 255;
 
-// Holds and sums of credits end here.
+// Holds end here, and sums of credits (`credit` has the number; a sum is taken in 32 bits).
 pub const HOLDS_MOST: u8 = 255;
 
-pub const CREDITS_MOST: u32 = 65535;
+pub const CREDITS_MOST: u32 = credit::CREDITS_MOST as u32;
 
 // A slot's number. It becomes a CID by the 0x40 rule alone.
 pub struct ChannelIndex(pub u8);

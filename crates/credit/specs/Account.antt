@@ -10,16 +10,20 @@ use Rattle.credit.specs.declared.CreditFlowControl.{CreditFlowControl}
 use Rattle.credit.specs.declared.Grant.{Grant}
 use Rattle.credit.specs.declared.Grant.the-variants.{Nothing, Credits}
 
+-- credits, and the sum of those held and received, end here
+abbrev pub creditsMost : ℕ
+creditsMost = 65535
+
 abbrev pub newAccount : CreditFlowPolicy → ℕ → CreditFlowControl
 newAccount p n = record { policy = p; credits = n; received = 0 }
 
 -- n frames came
 abbrev pub received : CreditFlowControl → ℕ → CreditFlowControl
-received a n = record { policy = a .policy; credits = a .credits - n; received = min (a .received + n) 65535 }
+received a n = record { policy = a .policy; credits = a .credits - n; received = min (a .received + n) creditsMost }
 
 -- n credits were granted
 abbrev pub granted : CreditFlowControl → ℕ → CreditFlowControl
-granted a n = record { policy = a .policy; credits = min (a .credits + n) 65535; received = a .received - n }
+granted a n = record { policy = a .policy; credits = min (a .credits + n) creditsMost; received = a .received - n }
 
 -- "Every(k) grants all received when received ≥ k, MinThreshold(t) when credits < t"
 unfoldable pub due : CreditFlowPolicy → ℕ → ℕ → Bool

@@ -2,7 +2,10 @@
 // What each method gives is defined in specs/Account.antt; it rests on no other crate.
 ghost use mathlib.Core.Path.{_≡_};
 ghost use Prim.Native.Nat.{_+_, _-_, min};
-ghost use Rattle.credit.specs.Account.{newAccount, received, granted, grantOf};
+ghost use Rattle.credit.specs.Account.{creditsMost, newAccount, received, granted, grantOf};
+
+// Credits, and the sum of those held and received, end here.
+pub const CREDITS_MOST: u16 = 65535;
 
 // When a taken job makes the peer new credits due.
 pub enum CreditFlowPolicy {
@@ -35,12 +38,12 @@ fn less(a: u16, b: u16) -> u16
     a - b
 }
 
-// a + b, and 65,535 above it.
+// a + b, and CREDITS_MOST above it.
 fn more(a: u16, b: u16) -> u16
-    ensures { λ r. ⌜ r ≡ min (a + b) 65535 ⌝ }
+    ensures { λ r. ⌜ r ≡ min (a + b) creditsMost ⌝ }
 {
-    if 65535 - b < a {
-        return 65535;
+    if CREDITS_MOST - b < a {
+        return CREDITS_MOST;
     }
     a + b
 }

@@ -10,14 +10,14 @@ use borrow.Author.Tests.{ne-eqb}
 use Rattle.credit.specs.declared.CreditFlowControl.{CreditFlowControl}
 use Rattle.credit.specs.declared.Grant.{Grant}
 use Rattle.credit.specs.declared.Grant.the-variants.{Nothing, Credits}
-use Rattle.credit.specs.Account.{received, granted, due, grantOf, grantCredits, creditSum}
+use Rattle.credit.specs.Account.{received, granted, due, grantOf, grantCredits, creditSum, creditsMost}
 
 -- frames that had their credits leave the sum
-pub received-sum : (a : CreditFlowControl) (n : ℕ) → creditSum a ≤ 65535 → n ≤ a .credits → creditSum (received a n) ≡ creditSum a
+pub received-sum : (a : CreditFlowControl) (n : ℕ) → creditSum a ≤ creditsMost → n ≤ a .credits → creditSum (received a n) ≡ creditSum a
 received-sum a n h k = omega arith
 
 -- and so does a grant of no more than was received
-pub granted-sum : (a : CreditFlowControl) (n : ℕ) → creditSum a ≤ 65535 → n ≤ a .received → creditSum (granted a n) ≡ creditSum a
+pub granted-sum : (a : CreditFlowControl) (n : ℕ) → creditSum a ≤ creditsMost → n ≤ a .received → creditSum (granted a n) ≡ creditSum a
 granted-sum a n h k = omega arith
 
 -- whatever is granted is all that was received, and not 0
@@ -42,13 +42,13 @@ pub record Settled (a b : CreditFlowControl) : Type 0 where
   pub sum : creditSum b ≡ creditSum a
   pub none : b .received ≡ 0
 
-pub grant-settles : (a : CreditFlowControl) (n : ℕ) → creditSum a ≤ 65535 → grantOf a ≡ Credits n → Settled a (granted a n)
+pub grant-settles : (a : CreditFlowControl) (n : ℕ) → creditSum a ≤ creditsMost → grantOf a ≡ Credits n → Settled a (granted a n)
 grant-settles a n h e =
     let g = grant-is a n e in
     record { sum = granted-sum a n h (omega arith); none = omega arith }
 
 -- the same for whatever the policy says, credits or nothing
-pub settle-sum : (a : CreditFlowControl) → creditSum a ≤ 65535 → creditSum (granted a (grantCredits (grantOf a))) ≡ creditSum a
+pub settle-sum : (a : CreditFlowControl) → creditSum a ≤ creditsMost → creditSum (granted a (grantCredits (grantOf a))) ≡ creditSum a
 unfolding grantCredits
 settle-sum a h = go (grantOf a) refl
   where
@@ -58,8 +58,8 @@ settle-sum a h = go (grantOf a) refl
 
 -- no number leaves 16 bits, whatever the account
 pub record Fits (a : CreditFlowControl) : Type 0 where
-  pub credits : a .credits ≤ 65535
-  pub received : a .received ≤ 65535
+  pub credits : a .credits ≤ creditsMost
+  pub received : a .received ≤ creditsMost
 
 pub received-fits : (a : CreditFlowControl) (n : ℕ) → Fits a → Fits (received a n)
 received-fits a n f = record { credits = omega arith; received = omega arith }

@@ -45,7 +45,8 @@ use Rattle.definition.specs.Signals.{onReject, onDisconnectionReq, onDis
 use Rattle.definition.specs.Frames.{joined, dispatch}
 use Rattle.definition.specs.Asking.{sendSignal}
 use Rattle.definition.specs.Calls.{Call, frame, sends, down, plain, Request, register, signals, pends, rejectsAll, accepts, rejects, drops, creates, opens, gives, holds, releases, leaves, leavesCid, announces, takes, attends, asks, sendsSignal, writes, bare, Holder, nobody, by, holder, serve, decide}
-use Rattle.definition.specs.Forms.{Fit, Basis, Does, in-use, itself, with-id, still-does, change-does, sweep-does, if-does, else-does, gate-does, gate-at, cid-slot, found-passes, free-slot}
+use Rattle.definition.specs.Forms.{Fit, Basis, Does, in-use, itself, with-id, still-does, change-does, sweep-does, if-does, else-does, gate-does, gate-at, found-passes, free-slot}
+use Rattle.definition.specs.Tells.{cid-slot}
 
 -- k: the link that the call names; old and new: a slot; ms: the moves in its part of the room.
 pub data ApartSlot (k : ℕ) (old : Slot) : Slot → List Move → Type 0 where

@@ -7,15 +7,13 @@ use Prim.Native.Nat.{ℕ, zero, suc, _≤_, _<_}
 use native.Mathlib.Nat.{not-suc-le-zero, le-of-suc-le-suc}
 use native.Mathlib.Omega.{arith}
 use lib.Dec.{leb}
-use lib.ListN.{length, take, getD, set, length-take, length-set}
+use lib.ListN.{length, getD, set, length-take, length-set}
 use lib.Seq.{take-set-lt, getD-take}
-use borrow.Author.Tests.{leb-false, not-false, ltb-true, lt-leb}
+use borrow.Author.Tests.{leb-false, not-false}
 use Rattle.lists.specs.Choose.{choose, if-cases}
-use Rattle.lists.specs.Both.{and-left, and-right}
+use Rattle.lists.specs.Both.{and-left}
 use Rattle.lists.specs.First.{first-passes}
-use Rattle.lists.specs.Each.{mapFirst}
-use Rattle.codes.specs.declared.Refusal.{Refusal}
-use Rattle.channel.specs.Limits.{cidBase}
+use Rattle.lists.specs.Each.{take-mapFirst, length-mapFirst}
 use Rattle.channel.specs.declared.Answer.{Answer}
 use Rattle.channel.specs.declared.ChannelState.{ChannelState}
 use Rattle.channel.specs.declared.ChannelState.the-variants.{Disconnected, Connecting, PeerConnecting, Connected, ConnectFailed, PeerDisconnecting, Disconnecting}
@@ -30,6 +28,7 @@ use Rattle.definition.specs.States.{isDisconnected}
 use Rattle.definition.specs.Table.{gap, freed, slotAt, live, width, found, isFree, isCid, slotOf, spent, registered, wellFormed}
 use Rattle.definition.specs.Outcome.{Outcome, still, only, change, sweep, verdict, passed, gate}
 use Rattle.definition.specs.Calls.{nobody, by, holderIn, holder}
+use Rattle.definition.specs.Tells.{not-stopped}
 
 -- ---- all slots in use
 
@@ -75,16 +74,6 @@ free-nobody (Disconnecting a) l e = absurd (false≢true e)
 
 -- ---- lists
 
-pub take-mapFirst : (n : ℕ) (f : Slot → Slot) (xs : List Slot) → take n (mapFirst n f xs) ≡ map f (take n xs)
-take-mapFirst zero f xs = refl
-take-mapFirst (suc n) f [] = refl
-take-mapFirst (suc n) f (x ∷ xs) = ap (λ (r : List Slot). f x ∷ r) (take-mapFirst n f xs)
-
-length-mapFirst : (n : ℕ) (f : Slot → Slot) (xs : List Slot) → length (mapFirst n f xs) ≡ length xs
-length-mapFirst zero f xs = refl
-length-mapFirst (suc n) f [] = refl
-length-mapFirst (suc n) f (x ∷ xs) = ap suc (length-mapFirst n f xs)
-
 module _ (P : Slot → Slot → List Move → Type 0) where
   each-set : ((x : Slot) → P x x []) → (xs : List Slot) (s : ℕ) (y : Slot) (ms : List Move) → s < length xs → P (getD xs s gap) y ms → Each P xs (set xs s y) (only s ms)
   unfolding only
@@ -121,18 +110,13 @@ module _ {t : Table} where
 
 -- ---- the refusals that come first let pass only a table that is well-formed, and a slot in use
 
-stopped : (b : Bool) (r : Refusal) (v : Verdict) → choose b (Stop r) v ≡ Pass → (b ≡ false) × (v ≡ Pass)
-unfolding choose
-stopped true r v e = let z : _≡_ {A = ℕ} 0 1 = cc in absurd (omega arith)
-stopped false r v e = (refl, e)
-
 pub pass-slot : (t : Table) (room signal link : Given) (s : ℕ) → verdict t room signal link (Is s) ≡ Pass → leb (t .n) s ≡ false
 unfolding verdict
-pass-slot t room signal link s e = stopped _ _ _ (stopped _ _ _ (stopped _ _ _ (stopped _ _ _ (stopped _ _ _ e .1) .1) .1) .1) .0
+pass-slot t room signal link s e = not-stopped _ _ _ (not-stopped _ _ _ (not-stopped _ _ _ (not-stopped _ _ _ (not-stopped _ _ _ e .1) .1) .1) .1) .0
 
 pub pass-well : (t : Table) (room signal link slot : Given) → verdict t room signal link slot ≡ Pass → wellFormed t ≡ true
 unfolding verdict
-pass-well t room signal link slot e = not-false _ (stopped _ _ _ e .0)
+pass-well t room signal link slot e = not-false _ (not-stopped _ _ _ e .0)
 
 -- ---- the forms of an outcome
 
@@ -188,10 +172,7 @@ module _ {P : Slot → Slot → List Move → Type 0} {t : Table} (on : Basis P 
   pub gate-at : (room signal link : Given) (s : ℕ) {o : Outcome} → (leb (t .n) s ≡ false → Does P t o) → Does P t (gate t room signal link (Is s) o)
   gate-at room signal link s f = passed-does (verdict t room signal link (Is s)) (λ v. f (pass-slot t room signal link s v))
 
--- ---- what CIDs and searches tell of a slot
-
-pub cid-slot : (t : Table) (cid : ℕ) → isCid t cid ≡ true → leb (t .n) (slotOf cid) ≡ false
-cid-slot t cid e = lt-leb (t .n) (slotOf cid) (ltb-true (slotOf cid) (t .n) (and-right (leb cidBase cid) _ e))
+-- ---- what searches tell of a slot
 
 module _ (t : Table) (fit : Fit t) where
   -- the slot that a search found passes the test

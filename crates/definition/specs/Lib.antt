@@ -39,6 +39,10 @@ pub mod Numbers
 
 -- what is job and what is public is what document 01 says
 pub mod Public
+-- moves keep the length of what they change
+pub mod Lengths
+-- what a test of the definition tells once it has passed
+pub mod Tells
 -- what is said of a call slot by slot, and how it is shown for each form of an outcome
 pub mod Forms
 -- job octets go into slots of the link that carries them, alone, and a slot that changes hands was free or is wiped

@@ -9,6 +9,7 @@ use lib.Dec.{eqb, leb}
 use borrow.Author.Tests.{eqb-true, eqb-false, ne-eqb, not-false}
 use Rattle.lists.specs.Choose.{choose}
 use Rattle.lists.specs.Both.{and-left}
+use Rattle.lists.specs.Each.{take-mapFirst}
 use Rattle.codes.specs.declared.ResultRead.{ResultRead}
 use Rattle.codes.specs.declared.ResultRead.the-variants.{Known, Unknown}
 use Rattle.credit.specs.declared.Grant.{Grant}
@@ -59,7 +60,8 @@ use Rattle.definition.specs.Asking.{registerSpsm, attention, query, send
 use Rattle.definition.specs.Calls.{Call, frame, sends, down, plain, Request, register, signals, pends, rejectsAll, accepts, rejects, drops, creates, opens, gives, holds, releases, leaves, leavesCid, announces, takes, attends, asks, sendsSignal, writes, bare, Holder, nobody, by, holderIn, holder, isBy, carrier, serve, decide}
 use Rattle.definition.specs.Numbers.{answerNumber, refused-not-0}
 use Rattle.definition.specs.Mem.{Fill, zeros, given, job, held, Move, put, wipe}
-use Rattle.definition.specs.Forms.{Fit, Basis, Does, in-use, take-mapFirst, Like, itself, with-id, with-spsm, still-does, change-does, sweep-does, if-does, else-does, gate-does, gate-at, cid-slot, found-passes, free-slot}
+use Rattle.definition.specs.Forms.{Fit, Basis, Does, in-use, Like, itself, with-id, with-spsm, still-does, change-does, sweep-does, if-does, else-does, gate-does, gate-at, found-passes, free-slot}
+use Rattle.definition.specs.Tells.{cid-slot}
 
 -- ---- one slot
 

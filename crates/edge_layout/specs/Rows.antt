@@ -1,6 +1,6 @@
 -- Laws of one row: a slot is read back from its row, and a row that passes the tests is the spelling of the slot read from it.
 use mathlib.Core.Path.{_≡_, refl, sym, ap}
-use mathlib.Core.Bool.{Bool, true, false, false≢true, _&&_, _||_}
+use mathlib.Core.Bool.{Bool, true, false, false≢true, _||_}
 use mathlib.Core.List.{List, [], _∷_}
 use Prim.Native.Nat.{ℕ, zero, suc, _<_, _/_, _%_}
 use native.Mathlib.Omega.{arith}
@@ -8,6 +8,7 @@ use lib.Dec.{leb, eqb}
 use lib.ListN.{length, getD}
 use borrow.Author.Tests.{eqb-true, ne-eqb, le-leb, lt-leb}
 use Rattle.lists.specs.Choose.{choose, if-cases}
+use Rattle.lists.specs.Both.{both}
 use Rattle.octets.specs.Octets.{le16}
 use Rattle.octets.specs.Numbers.{le16-back, lo-back, hi-back}
 use Rattle.codes.specs.Codes.{resultNumber, resultOf, result-back}
@@ -124,10 +125,6 @@ policy-kind-forth (suc (suc k)) v h = absurd (false≢true (rw (lt-leb (suc (suc
 pub policy-value-forth : (k v : ℕ) → policyValue (policyOf k v) ≡ v
 unfolding policyOf choose
 policy-value-forth k v = if-cases (λ p. policyValue p ≡ v) (eqb k 1) (λ e. refl) (λ e. refl)
-
-both : (a b : Bool) → a && b ≡ true → (a ≡ true) × (b ≡ true)
-both true b h = (refl, h)
-both false b h = absurd (false≢true h)
 
 -- ---- the row
 

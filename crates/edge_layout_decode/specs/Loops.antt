@@ -1,30 +1,20 @@
 -- The loops that compute `tabulate` and `allBelow`.
 use mathlib.Core.Path.{_≡_, refl, sym, ap, _∙_}
 use mathlib.Core.Bool.{Bool, true, _&&_}
-use mathlib.Core.List.{List, [], _∷_, _++_}
+use mathlib.Core.List.{List}
 use Prim.Native.Nat.{ℕ, zero, suc, _+_, _-_, _<_, _≤_}
 use native.Mathlib.Nat.{zero-add, suc-add}
 use native.Mathlib.Numerals.{add-one}
 use native.Mathlib.Omega.{arith}
 use lib.ListN.{length, getD, set, drop, length-set, drop-of-length-le}
-use lib.Seq.{sets, sets-eq, drop-cons}
+use lib.Seq.{sets, drop-cons}
 use Rattle.lists.specs.Both.{and-left, and-right}
 use Rattle.edge_layout.specs.Layout.{tabulate}
 use Rattle.edge_layout.specs.Spelled.{allBelow}
 use Rattle.edge_layout.specs.Columns.{tabulate-length, tabulate-at}
+use Rattle.lists.specs.Sets.{sets-whole}
 
 -- ---- f 0, f 1, ..
-
-module _ {A : Type 0} where
-  -- a list written over one that is as long
-  pub sets-whole : (l vs : List A) → length l ≡ length vs → sets l 0 vs ≡ vs
-  sets-whole l vs e =
-      sets-eq vs l 0 (rw (zero-add (length vs)) (omega arith))
-      ∙ rw (zero-add (length vs), drop-of-length-le l {i = length vs} (omega arith)) (append-none vs)
-    where
-      append-none : (xs : List A) → xs ++ [] ≡ xs
-      append-none [] = refl
-      append-none (x ∷ xs) = ap (λ (r : List A). x ∷ r) (append-none xs)
 
 -- The loop that stores f 0, f 1, .. in a list of n, of which i are stored: with the rest stored too, it is the whole.
 pub record Filled {A : Type 0} (f : ℕ → A) (n i : ℕ) (l : List A) : Type 0 where

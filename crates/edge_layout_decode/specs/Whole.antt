@@ -9,7 +9,7 @@ use lib.ListN.{length, getD, take, drop, replicate, length-take, length-drop, ta
 use lib.Seq.{take-add, getD-take, getD-drop, length-take-le}
 use borrow.Author.Tests.{eqb-true}
 use Rattle.lists.specs.Choose.{choose}
-use Rattle.lists.specs.Both.{and-left, and-right}
+use Rattle.lists.specs.Both.{and-left, and-right, false-unless}
 use Rattle.octets.specs.Octets.{part, u16At}
 use Rattle.octets.specs.Numbers.{lo-back, hi-back}
 use Rattle.channel.specs.Limits.{slotsMost}
@@ -31,10 +31,6 @@ spelled o = headSpelled o && rowsSpelled o
 -- what stands for octets that are no spelling
 abbrev pub notRead : Decoded
 notRead = record { ok = false; table = noSlots }
-
-false-unless : (b : Bool) → (b ≡ true → ⊥) → b ≡ false
-false-unless true h = absurd (h refl)
-false-unless false h = refl
 
 -- ---- a spelling passes the tests
 

@@ -3,16 +3,15 @@
 -- and that what is told is what the outcomes say (`told-spelled`).
 use mathlib.Core.Path.{_≡_, refl, sym, ap, _∙_}
 use mathlib.Core.Bool.{Bool, true, false}
-use mathlib.Core.List.{List, [], _∷_, map, append-nil}
+use mathlib.Core.List.{List, [], _∷_, map}
 use mathlib.Core.Logic.{inl, inr}
 use Prim.Native.Nat.{ℕ, _+_, _≤_, _<_, min}
-use native.Mathlib.Nat.{zero-add}
 use native.Mathlib.Omega.{arith}
 use borrow.Author.Tests.{le-ltb}
-use lib.ListN.{length, take, drop, getD, length-take, length-drop, drop-of-length-le}
-use lib.Seq.{sets, sets-eq, length-sets, getD-take, getD-drop, ext-getD}
+use lib.ListN.{length, take, drop, getD, length-take, length-drop}
+use lib.Seq.{sets, length-sets, getD-take, getD-drop, ext-getD}
 use Rattle.lists.specs.Choose.{choose, choose-false}
-use Rattle.octets.specs.Sets.{sets-out, sets-before, sets-after}
+use Rattle.octets.specs.Sets.{sets-out, sets-before, sets-after, sets-whole}
 use Rattle.channel.specs.declared.Answer.{Answer}
 use Rattle.channel.specs.declared.Answer.the-variants as Answer
 use Rattle.channel.specs.declared.Table.{Table}
@@ -111,14 +110,9 @@ lent-apart v w h memory xs l =
 
 -- ---- a table's octets, written over
 
-over-all : (xs ys : List ℕ) → length xs ≡ length ys → sets xs 0 ys ≡ ys
-over-all xs ys e =
-    let h : length xs ≤ length ys = omega arith in
-    sets-eq ys xs 0 (omega arith) ∙ rw (zero-add (length ys), drop-of-length-le xs h, append-nil ys) refl
-
 pub written-full : (o : List ℕ) (u : Table) → length o ≡ tableOctets → Sized u → Layout.written o u ≡ spell u
 unfolding Layout.written
-written-full o u e w = choose-false _ _ _ (le-ltb (length o) tableOctets (omega arith)) ∙ over-all o (spell u) (e ∙ sym (spell-length u ∙ omega (arith, w .spsms)))
+written-full o u e w = choose-false _ _ _ (le-ltb (length o) tableOctets (omega arith)) ∙ sets-whole o (spell u) (e ∙ sym (spell-length u ∙ omega (arith, w .spsms)))
 
 written-spelled : (t u : Table) → Sized t → Sized u → Layout.written (spell t) u ≡ spell u
 written-spelled t u w x = written-full (spell t) u (spell-length t ∙ omega (arith, w .spsms)) x

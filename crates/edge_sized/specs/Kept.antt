@@ -10,7 +10,7 @@ use lib.Dec.{leb}
 use lib.ListN.{length, getD, drop, set, length-set, length-append, length-drop}
 use borrow.Author.Tests.{leb-false}
 use Rattle.lists.specs.Choose.{choose, if-cases}
-use Rattle.lists.specs.Each.{mapFirst}
+use Rattle.lists.specs.Each.{mapFirst, length-mapFirst}
 use Rattle.channel.specs.Limits.{slotsMost, depthMost}
 use Rattle.channel.specs.declared.Answer.{Answer}
 use Rattle.channel.specs.declared.Given.{Given}
@@ -54,11 +54,6 @@ each-long zero f h xs g i = g i
 each-long (suc n) f h [] g i = g i
 each-long (suc n) f h (x ∷ xs) g zero = h x (g zero)
 each-long (suc n) f h (x ∷ xs) g (suc i) = each-long n f h xs (λ k. g (suc k)) i
-
-length-each : (n : ℕ) (f : Slot → Slot) (xs : List Slot) → length (mapFirst n f xs) ≡ length xs
-length-each zero f xs = refl
-length-each (suc n) f [] = refl
-length-each (suc n) f (x ∷ xs) = ap suc (length-each n f xs)
 
 -- past n nothing is touched
 drop-set : (n : ℕ) (xs : List Slot) (s : ℕ) (y : Slot) → s < n → drop n (set xs s y) ≡ drop n xs
@@ -146,7 +141,7 @@ module _ {t : Table} (w : Sized t) where
       let f : Slot → Slot = λ x. choose (p x) (freed x) x in
       record {
         sized = record {
-          slots = length-each (t .n) f (t .slots) ∙ w .slots;
+          slots = length-mapFirst (t .n) f (t .slots) ∙ w .slots;
           lens = λ i _. each-long (t .n) f (λ x h. if-cases Long (p x) (λ _. refl) (λ _. h)) (t .slots) (long-at w) i;
           spsms = w .spsms;
           n = w .n;

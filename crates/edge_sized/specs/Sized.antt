@@ -54,7 +54,7 @@ use Rattle.definition.specs.Asking.{Made, blank, make, registerSpsm, attention,
 use Rattle.definition.specs.Calls.{Call, frame, sends, down, plain, Request, register, signals, pends, rejectsAll, accepts, rejects, drops, creates, opens, gives, holds, releases, leaves, leavesCid, announces, takes, attends, asks, sendsSignal, writes, jobs, bare, serve, decide}
 use Rattle.definition.specs.Numbers.{answerNumber}
 use Rattle.definition.specs.Mem.{Fill}
-use Rattle.definition.specs.Forms.{cid-slot}
+use Rattle.definition.specs.Tells.{cid-slot}
 use Rattle.definition.specs.Run.{State, lent, outWindow, jobWindow, after, run}
 use Rattle.edge_layout.specs.Back.{Sized}
 use Rattle.edge_sized.specs.Kept.{Long, queued-long, shifted-long, long-at, Kept, Like, itself, with-id, with-spsm, still-keeps, change-keeps, sweep-keeps, if-keeps, else-keeps, gate-keeps, gate-at}

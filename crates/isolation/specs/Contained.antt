@@ -1,18 +1,19 @@
 -- Marks stand in the link's own slots alone, and only while that life lasts: what every safe call (Safe.antt of crate definition) keeps.
 use mathlib.Core.Path.{_≡_, refl, sym, _∙_, ap, subst}
 use mathlib.Core.Bool.{Bool, true, false, _&&_, and-false, false≢true}
-use mathlib.Core.List.{List, [], _∷_, _++_, map}
-use Prim.Native.Nat.{ℕ, zero, suc, _+_, _*_}
+use mathlib.Core.List.{List, [], _∷_, map}
+use Prim.Native.Nat.{ℕ, zero, suc, _*_}
 use native.Mathlib.Nat.{suc-mul, add-comm, zero-mul}
-use native.Mathlib.Omega.{arith}
-use lib.ListN.{length, take, drop, getD, take-append-drop, length-append, length-map}
-use lib.Seq.{length-sets, drop-drop}
+use lib.ListN.{length, take, drop, getD, take-append-drop}
+use lib.Seq.{drop-drop}
 use Rattle.lists.specs.Both.{and-left, and-right}
+use Rattle.lists.specs.Sets.{take-split, drop-split}
 use Rattle.channel.specs.declared.Slot.{Slot}
 use Rattle.definition.specs.Mem.{zeros, given, job, held, Move, put, wipe, fill, move, moves, parts}
 use Rattle.definition.specs.Table.{gap}
 use Rattle.definition.specs.Calls.{Holder, holder, isBy}
 use Rattle.definition.specs.Forms.{Each, rest, next}
+use Rattle.definition.specs.Lengths.{length-moves, length-parts}
 use Rattle.definition.specs.Safe.{joblessMove, jobless, SafeSlot, kept, mine, allotted, wiped, Without}
 use Rattle.isolation.specs.Statement.{unmarked}
 use Rattle.isolation.specs.Same.{Rel, nil, rel-take, rel-drop, rel-append, rel-map, rel-moves}
@@ -49,47 +50,6 @@ jobless-moves js part (m ∷ ms) e =
 
 clean-jobless : (js : List Bool) {part : List Bool} → Clean part → (ms : List Move) → jobless ms ≡ true → Clean (moves unmarked js part ms)
 clean-jobless js {part} p ms e = subst Clean (sym (jobless-moves js part ms e)) (clean-moves nil p ms)
-
--- ---- parts keep their lengths
-
-module _ {A : Type 0} (octet : ℕ → A) (js : List A) where
-  length-move : (part : List A) (m : Move) → length (move octet js part m) ≡ length part
-  unfolding move
-  length-move part (put at f) = length-sets part at (fill octet js part f)
-  length-move part wipe = length-map part (λ _. octet 0)
-
-  length-moves : (part : List A) (ms : List Move) → length (moves octet js part ms) ≡ length part
-  unfolding moves
-  length-moves part [] = refl
-  length-moves part (m ∷ ms) = length-moves (move octet js part m) ms ∙ length-move part m
-
-  pub length-parts : (w : ℕ) (mss : List (List Move)) (room : List A) → length (parts octet js w mss room) ≡ length room
-  unfolding parts
-  length-parts w [] room = refl
-  length-parts w (ms ∷ mss) room =
-      length-append (moves octet js (take w room) ms) (parts octet js w mss (drop w room))
-      ∙ ap (λ (n : ℕ). n + length (parts octet js w mss (drop w room))) (length-moves (take w room) ms)
-      ∙ ap (λ (n : ℕ). length (take w room) + n) (length-parts w mss (drop w room))
-      ∙ sym (length-append (take w room) (drop w room))
-      ∙ ap length (take-append-drop w room)
-
-take-split : (w : ℕ) (l y r : List Bool) → length y ≡ length (take w l) → length r ≡ length (drop w l) → take w (y ++ r) ≡ y
-take-split zero l [] r e f = refl
-take-split zero l (a ∷ y) r e f = absurd (omega arith)
-take-split (suc w) [] [] [] e f = refl
-take-split (suc w) [] [] (b ∷ r) e f = absurd (omega arith)
-take-split (suc w) [] (a ∷ y) r e f = absurd (omega arith)
-take-split (suc w) (x ∷ l) [] r e f = absurd (omega arith)
-take-split (suc w) (x ∷ l) (a ∷ y) r e f = ap (λ (z : List Bool). a ∷ z) (take-split w l y r (omega arith) f)
-
-drop-split : (w : ℕ) (l y r : List Bool) → length y ≡ length (take w l) → length r ≡ length (drop w l) → drop w (y ++ r) ≡ r
-drop-split zero l [] r e f = refl
-drop-split zero l (a ∷ y) r e f = absurd (omega arith)
-drop-split (suc w) [] [] [] e f = refl
-drop-split (suc w) [] [] (b ∷ r) e f = absurd (omega arith)
-drop-split (suc w) [] (a ∷ y) r e f = absurd (omega arith)
-drop-split (suc w) (x ∷ l) [] r e f = absurd (omega arith)
-drop-split (suc w) (x ∷ l) (a ∷ y) r e f = drop-split w l y r (omega arith) f
 
 -- ---- marks stand in the link's own slots, and while the life lasts (`lasts`)
 

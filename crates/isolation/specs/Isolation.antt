@@ -24,13 +24,14 @@ use Rattle.definition.specs.Run.{State, lent, outWindow, jobWindow, outcome, ro
 use Rattle.definition.specs.Public.{framed-bare, framed-count, sent-bare, sent-count}
 use Rattle.definition.specs.Forms.{Fit}
 use Rattle.definition.specs.Safe.{Safe, Without, safe, down-clears}
+use Rattle.definition.specs.Lengths.{length-parts}
 use Rattle.definition.specs.Mem.{Fill, fills}
 use Rattle.definition.specs.Handed.{OwnFills, hands}
 use Rattle.isolation.specs.Statement.{carries, isDown, overAfter, Exchanged, sent, framed, Alike, same, exchanged, AlikeRuns, Marks, unmarked, memoryMarks, marked, marksFrom, marksOf, Isolated, Handed, handedBy, handed, Demand3}
 use Rattle.isolation.specs.Statement as Statement
 use Rattle.isolation.specs.Words.{owns-is, jobs-is, carries-is, framesOut-is, jobOut-is, not-assembling}
 use Rattle.isolation.specs.Same.{Rel, nil, cons, rel-take, rel-drop, rel-map, rel-lent, rel-length, rel-parts, rel-fills, rel-memory}
-use Rattle.isolation.specs.Contained.{Off, Clean, clean-dark, length-parts, Contained, contained-step, contained-without, contained-dead, contained-clean, contained-slot}
+use Rattle.isolation.specs.Contained.{Off, Clean, clean-dark, Contained, contained-step, contained-without, contained-dead, contained-clean, contained-slot}
 use Rattle.isolation.specs.Masked.{clean-stretch, clean-nobodys, memory-masked}
 
 -- Two octets and a mark: equal unless marked.

@@ -1,7 +1,7 @@
 -- The words by which the statement says what is excepted (Statement.antt) are those in which the definition's laws are said (Calls.antt
 -- of crate definition), asked of one link. By cases.
 use mathlib.Core.Path.{_≡_, refl}
-use mathlib.Core.Bool.{Bool, true, false, _&&_, not}
+use mathlib.Core.Bool.{false, _&&_, not}
 use Prim.Native.Nat.{ℕ}
 use lib.Dec.{eqb}
 use Rattle.channel.specs.declared.ChannelState.{ChannelState}
@@ -12,6 +12,7 @@ use Rattle.definition.specs.Calls.{Call, frame, sends, down, plain, Request, re
 use Rattle.definition.specs.Calls as Calls
 use Rattle.definition.specs.Public.{Assembling, joins-assembling}
 use Rattle.isolation.specs.Statement.{owns, assembling, jobs, carries, framesOut, takenFrom, jobOut}
+use Rattle.lists.specs.Both.{false-unless}
 
 held-by : (k l : ℕ) (q : ChannelState) → (not (isDisconnected q) && eqb k l) ≡ isBy k (holderIn q l)
 held-by k l Disconnected = refl
@@ -75,9 +76,5 @@ module _ (k : ℕ) (t : Table) where
   jobOut-is (plain r out job) = takenFrom-is r
 
 -- an assembly that is not open by one word is not open by the other (Public.antt)
-shut : (b : Bool) → (b ≡ true → ⊥) → b ≡ false
-shut true n = absurd (n refl)
-shut false n = refl
-
 pub not-assembling : (t : Table) (cid : ℕ) → ¬ Assembling t cid → assembling t cid ≡ false
-not-assembling t cid n = shut (joining t cid) (λ e. n (joins-assembling t cid e))
+not-assembling t cid n = false-unless (joining t cid) (λ e. n (joins-assembling t cid e))

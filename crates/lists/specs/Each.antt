@@ -1,5 +1,5 @@
 -- The first n elements changed by f, the rest kept; and the loop that does so in place.
-use Prim.Native.Nat.{ℕ, suc, _+_, _≤_, _<_, min}
+use Prim.Native.Nat.{ℕ, zero, suc, _+_, _≤_, _<_, min}
 use mathlib.Core.Path.{_≡_, refl, sym, ap, _∙_}
 use mathlib.Core.List.{List, [], _∷_, _++_, map, append-assoc}
 use native.Mathlib.Omega.{arith}
@@ -16,6 +16,16 @@ mapFirst n f l = map f (take n l) ++ drop n l
 map-app : {A : Type 0} (f : A → A) (xs ys : List A) → map f (xs ++ ys) ≡ map f xs ++ map f ys
 map-app f [] ys = refl
 map-app f (x ∷ xs) ys = ap (λ l. f x ∷ l) (map-app f xs ys)
+
+pub take-mapFirst : {A : Type 0} (n : ℕ) (f : A → A) (l : List A) → take n (mapFirst n f l) ≡ map f (take n l)
+take-mapFirst zero f l = refl
+take-mapFirst (suc n) f [] = refl
+take-mapFirst (suc n) f (x ∷ l) = ap (λ r. f x ∷ r) (take-mapFirst n f l)
+
+pub length-mapFirst : {A : Type 0} (n : ℕ) (f : A → A) (l : List A) → length (mapFirst n f l) ≡ length l
+length-mapFirst zero f l = refl
+length-mapFirst (suc n) f [] = refl
+length-mapFirst (suc n) f (x ∷ l) = ap suc (length-mapFirst n f l)
 
 -- the first i are changed
 pub record Mapped {A : Type 0} (f : A → A) (l : List A) (i : ℕ) (us : List A) : Type 0 where

@@ -38,6 +38,10 @@ module _ {A : Type 0} where
   first-passes p d [] h = absurd (not-suc-le-zero h)
   first-passes p d (x ∷ xs) h = first-on p d x xs (p x) refl h (first-passes p d xs)
 
+-- an index below n, in the first n
+pub within-take : {A : Type 0} (n : ℕ) (l : List A) (i : ℕ) → i < n → i < length l → i < length (take n l)
+within-take n l i h h′ = rw length-take (omega arith)
+
 -- A search loop over the first n elements: nothing was found below i. A loop's invariant, its start, its step and its two ends.
 pub record Passed {A : Type 0} (p : A → Bool) (n : ℕ) (l : List A) (i : ℕ) : Type 0 where
   pub is : first p (take n l) ≡ i + first p (drop i (take n l))
@@ -46,20 +50,17 @@ pub passed-none : {A : Type 0} {p : A → Bool} {n : ℕ} {l : List A} → Passe
 passed-none {A} {p} {n} {l} = record { is = sym (zero-add (first p (take n l))) }
 
 module _ {A : Type 0} {p : A → Bool} {n : ℕ} {l : List A} {i : ℕ} (e : Passed p n l i) where
-  within : i < n → i < length l → i < length (take n l)
-  within h h′ = rw length-take (omega arith)
-
   pub passed-more : (d : A) → p (getD l i d) ≡ false → i < n → i < length l → Passed p n l (i + 1)
   unfolding first choose
   passed-more d f h h′ =
-      let k = within h h′ in
+      let k = within-take n l i h h′ in
       let g : p (getD (take n l) i d) ≡ false = rw (getD-take n l i d h) f in
       record { is = e .is ∙ rw (drop-cons (take n l) i d k, g, add-one i) (omega arith) }
 
   pub passed-hit : (d : A) → p (getD l i d) ≡ true → i < n → i < length l → i ≡ first p (take n l)
   unfolding first choose
   passed-hit d f h h′ =
-      let k = within h h′ in
+      let k = within-take n l i h h′ in
       let g : p (getD (take n l) i d) ≡ true = rw (getD-take n l i d h) f in
       sym (e .is ∙ rw (drop-cons (take n l) i d k, g) (add-zero i))
 

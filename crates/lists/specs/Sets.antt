@@ -2,11 +2,11 @@
 -- `sets xs at ys` of lib.Seq is `ys` written over `xs` from index `at` on, one store after the other, where a store past the end changes
 -- nothing. The laws rest on those of one store.
 use mathlib.Core.Path.{_≡_, refl, sym, ap, _∙_}
-use mathlib.Core.List.{List, [], _∷_, _++_, append-assoc}
+use mathlib.Core.List.{List, [], _∷_, _++_, append-assoc, append-nil}
 use Prim.Native.Nat.{ℕ, zero, suc, _+_, _-_, _≤_, _<_, min}
 use native.Mathlib.Nat.{add-suc, suc-add, add-zero, zero-add, not-suc-le-zero}
 use native.Mathlib.Omega.{arith}
-use lib.ListN.{length, take, drop, getD, set, length-set, length-append, length-drop, length-take, take-append-drop}
+use lib.ListN.{length, take, drop, getD, set, length-set, length-append, length-drop, length-take, take-append-drop, drop-of-length-le}
 use lib.Seq.{sets, sets-eq, length-sets, getD-set-same, getD-set-other, set-out, set-set, set-comm, set-append-left, length-take-le, take-all, take-nil, getD-drop, getD-take, drop-cons, drop-drop, take-add, take-take, ext-getD}
 use borrow.Rule.Slice.PartMut.{midOf, putMid, post-is}
 
@@ -147,10 +147,35 @@ module _ {A : Type 0} where
   pub tail-part : (n : ℕ) (xs : List A) → part xs n (length xs - n) ≡ drop n xs
   tail-part n xs = take-all (length xs - n) (drop n xs) (rw length-drop (omega arith))
 
+  -- a list of two, the first as long as the first w of another
+  pub take-split : (w : ℕ) (l y r : List A) → length y ≡ length (take w l) → length r ≡ length (drop w l) → take w (y ++ r) ≡ y
+  take-split zero l [] r e f = refl
+  take-split zero l (a ∷ y) r e f = absurd (omega arith)
+  take-split (suc w) [] [] [] e f = refl
+  take-split (suc w) [] [] (b ∷ r) e f = absurd (omega arith)
+  take-split (suc w) [] (a ∷ y) r e f = absurd (omega arith)
+  take-split (suc w) (x ∷ l) [] r e f = absurd (omega arith)
+  take-split (suc w) (x ∷ l) (a ∷ y) r e f = ap (λ (z : List A). a ∷ z) (take-split w l y r (omega arith) f)
+
+  pub drop-split : (w : ℕ) (l y r : List A) → length y ≡ length (take w l) → length r ≡ length (drop w l) → drop w (y ++ r) ≡ r
+  drop-split zero l [] r e f = refl
+  drop-split zero l (a ∷ y) r e f = absurd (omega arith)
+  drop-split (suc w) [] [] [] e f = refl
+  drop-split (suc w) [] [] (b ∷ r) e f = absurd (omega arith)
+  drop-split (suc w) [] (a ∷ y) r e f = absurd (omega arith)
+  drop-split (suc w) (x ∷ l) [] r e f = absurd (omega arith)
+  drop-split (suc w) (x ∷ l) (a ∷ y) r e f = drop-split w l y r (omega arith) f
+
+  -- a list written over one that is as long
+  pub sets-whole : (l vs : List A) → length l ≡ length vs → sets l 0 vs ≡ vs
+  sets-whole l vs e =
+      let h : length l ≤ length vs = omega arith in
+      sets-eq vs l 0 (omega arith) ∙ rw (zero-add (length vs), drop-of-length-le l h, append-nil vs) refl
+
   -- ---- a run that is written in pieces which may overlap
 
   -- what is written over a shorter run is all that stays
-  sets-hide : (xs : List A) (at : ℕ) (ys zs : List A) → length ys ≤ length zs → sets (sets xs at ys) at zs ≡ sets xs at zs
+  pub sets-hide : (xs : List A) (at : ℕ) (ys zs : List A) → length ys ≤ length zs → sets (sets xs at ys) at zs ≡ sets xs at zs
   sets-hide xs at [] zs h = refl
   sets-hide xs at (y ∷ ys) [] h = absurd (omega arith)
   sets-hide xs at (y ∷ ys) (z ∷ zs) h =

@@ -9,6 +9,7 @@ ghost use Rattle.definition.specs.Ending.{end, endOf};
 ghost use Rattle.definition.specs.Signals.{onCredits};
 ghost use Rattle.table_room.specs.Placed.{RoomOf};
 use channel::Answer;
+use channel::CREDITS_MOST;
 use channel::ChannelState;
 use channel::Served;
 use channel::Table;
@@ -45,7 +46,7 @@ pub fn on_credits(
             }
             let x = table::slot_at(t, s);
             let sum = total(x.peer.credits, ind.credits);
-            if 65535 < sum {
+            if CREDITS_MOST < sum {
                 return table_endings::leave(
                     t,
                     room,

@@ -4,9 +4,9 @@ use mathlib.Core.Bool.{Bool, true, false, _&&_, not, false≢true, and-false}
 use mathlib.Core.List.{List, []}
 use Prim.Native.Nat.{ℕ, _+_, _-_, _≤_, _<_, min}
 use native.Mathlib.Omega.{arith}
-use lib.Dec.{eqb, leb, ltb}
+use lib.Dec.{eqb}
 use lib.ListN.{length, take, drop, length-take, length-drop}
-use borrow.Author.Tests.{ltb-true, ltb-false, leb-false, eqb-true, eqb-false, not-true, not-false, eq-eqb, ne-eqb}
+use borrow.Author.Tests.{ltb-false, leb-false, eqb-true, eqb-false, not-true, not-false, eq-eqb, ne-eqb}
 use Rattle.lists.specs.Choose.{choose, choose-true, choose-false, if-cases}
 use Rattle.octets.specs.Octets.{u16At}
 use Rattle.codes.specs.declared.ResultRead.{ResultRead}
@@ -34,7 +34,7 @@ use Rattle.signal_bodies.specs.declared.le_credit.LeCreditFlowIndRead.{LeCredit
 use Rattle.signal_bodies.specs.declared.le_credit.LeCreditFlowIndRead.the-variants as LeCreditFlowInd
 use Rattle.signal_forms.specs.declared.Signal.{Signal}
 use Rattle.signal_forms.specs.declared.Signal.the-variants as Signal
-use Rattle.channel.specs.Limits.{creditsMost, cidBase}
+use Rattle.channel.specs.Limits.{creditsMost}
 use Rattle.channel.specs.declared.Answer.{Answer}
 use Rattle.channel.specs.declared.L2capChannelConfig.{L2capChannelConfig}
 use Rattle.channel.specs.declared.Setting.{Setting}
@@ -51,9 +51,10 @@ use Rattle.definition.specs.Signals.{signalled, checked, handled, onReject, onD
 use Rattle.definition.specs.Frames.{dispatch, send, receive, taken, grantIn}
 use Rattle.definition.specs.Asking.{registerSpsm, attention, query, sendSignal}
 use Rattle.definition.specs.Calls.{Call, frame, sends, down, plain, Request, register, signals, pends, rejectsAll, accepts, rejects, drops, creates, opens, gives, holds, releases, leaves, leavesCid, announces, takes, attends, asks, sendsSignal, writes, jobs, bare, joining, decide, serve}
+use Rattle.definition.specs.Tells.{cid-within}
 use Rattle.rules.specs.Run.{offers, SettingFits, Fits}
-use Rattle.lists.specs.Both.{and-left, and-right}
-use Rattle.rules.specs.Tests.{and-both, begun, begun-live, connected-begun, due-begun, attempt-live, attempt-unbegun, takes-begun}
+use Rattle.lists.specs.Both.{and-left, and-right, and-both}
+use Rattle.rules.specs.Tests.{begun, begun-live, connected-begun, due-begun, attempt-live, attempt-unbegun, takes-begun}
 use Rattle.rules.specs.Step.{same, grant, keep, leave, hand, hold, go, accept, free, allocate, kept, refused, told, rest, passes, Stepped}
 use Rattle.rules.specs.Forms.{goes-on, found-passes, stepped-still, stepped-spent, stepped-change, stepped-change-spent, stepped-sweep, stepped-gate}
 use Rattle.rules.specs.Sound.{Sound}
@@ -90,9 +91,6 @@ link-slot link x e = not-true (isDisconnected (x .state)) (and-left (not (isDisc
 
 connected-live : (x : Slot) → isConnected (x .state) ≡ true → isDisconnected (x .state) ≡ false
 connected-live x e = begun-live (x .state) (connected-begun (x .state) e)
-
-cid-slot : (t : Table) (cid : ℕ) → isCid t cid ≡ true → slotOf cid < t .n
-cid-slot t cid e = ltb-true (slotOf cid) (t .n) (and-right (leb cidBase cid) (ltb (slotOf cid) (t .n)) e)
 
 module _ (t : Table) (k room : ℕ) (l : t .n ≤ length (t .slots)) (well : wellFormed t ≡ true) (size : room ≡ roomSize t) where
   stays : {a : Answer} {out : List Fill} → passes a ≡ true → Stepped t k (still t a out)
@@ -218,7 +216,7 @@ module _ (t : Table) (k room : ℕ) (l : t .n ≤ length (t .slots)) (well : wel
 
   disconnect-by-cid : (cid : ℕ) → Stepped t k (disconnectByCid t room cid)
   unfolding disconnectByCid
-  disconnect-by-cid cid = stepped-gate t k _ _ _ _ well sized (λ _. if-cases P _ (λ e. leaves-steps (slotOf cid) (cid-slot t cid e)) (λ _. stays refl))
+  disconnect-by-cid cid = stepped-gate t k _ _ _ _ well sized (λ _. if-cases P _ (λ e. leaves-steps (slotOf cid) (cid-within t cid e)) (λ _. stays refl))
 
   link-down : (link : ℕ) → Stepped t k (disconnected t room link)
   unfolding disconnected
@@ -294,7 +292,7 @@ module _ (t : Table) (k room : ℕ) (l : t .n ≤ length (t .slots)) (well : wel
   on-disconnection-req link id (DisconnectionReq.Is req) =
       if-cases P _ (λ _. stays refl)
       (λ e. if-cases P _ (λ _. stays refl)
-      (λ f. stepped-change t k (slotOf (req .dcid)) _ _ (cid-slot t (req .dcid) (not-false _ e)) l
+      (λ f. stepped-change t k (slotOf (req .dcid)) _ _ (cid-within t (req .dcid) (not-false _ e)) l
       (go (goes-on (link-slot link (slotAt t (slotOf (req .dcid))) (not-false _ f)) refl refl) same leave) _ _ refl))
 
   on-disconnection-res : (link id : ℕ) (r : DisconnectionResRead) → Stepped t k (onDisconnectionRes t link id r)
@@ -303,7 +301,7 @@ module _ (t : Table) (k room : ℕ) (l : t .n ≤ length (t .slots)) (well : wel
   on-disconnection-res link id (DisconnectionRes.Is res) =
       if-cases P _ (λ _. stays refl)
       (λ e. if-cases P _ (λ _. stays refl)
-      (λ _. stepped-change t k (slotOf (res .scid)) _ _ (cid-slot t (res .scid) (not-false _ e)) l (free _) _ _ refl))
+      (λ _. stepped-change t k (slotOf (res .scid)) _ _ (cid-within t (res .scid) (not-false _ e)) l (free _) _ _ refl))
 
   on-parameters : (id : ℕ) (r : ConnParamUpdateReqRead) → Stepped t k (onParameters t id r)
   unfolding onParameters
@@ -377,7 +375,7 @@ module _ (t : Table) (k room : ℕ) (l : t .n ≤ length (t .slots)) (well : wel
       let s = slotOf cid in
       let x = slotAt t s in
       let on = not-false (isCid t cid) e in
-      let h = cid-slot t cid on in
+      let h = cid-within t cid on in
       let ok = sound s h in
       stepped-joined t k s h l (not-false (isConnected (x .state)) c) (eqb-false (x .account .credits) 0 z) _
       (step-joins (placeOf t) (t .d) (x .assembly) (x .queue .count) k (ok .holding .closed) (x .mtu) (x .mps) (u16At head 0) head (ok .mtu) (ok .holding .want) (headed on)))))))

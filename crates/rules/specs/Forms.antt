@@ -5,23 +5,22 @@ use mathlib.Core.List.{List, [], _∷_, map}
 use Prim.Native.Nat.{ℕ, zero, suc, _≤_, _<_}
 use native.Mathlib.Nat.{not-suc-le-zero, le-of-suc-le-suc}
 use native.Mathlib.Omega.{arith}
-use lib.Dec.{eqb, leb}
-use lib.ListN.{length, getD, take, set, length-set, length-take, length-map, length-append, length-drop}
+use lib.Dec.{eqb}
+use lib.ListN.{length, getD, take, set, length-set, length-take}
 use lib.Seq.{getD-take, take-set-lt}
-use borrow.Author.Tests.{leb-false}
 use Rattle.lists.specs.Choose.{choose, if-cases}
 use Rattle.lists.specs.First.{first-passes}
-use Rattle.lists.specs.Each.{mapFirst}
+use Rattle.lists.specs.Each.{take-mapFirst, length-mapFirst}
 use Rattle.codes.specs.declared.Refusal.{Refusal}
 use Rattle.channel.specs.declared.Answer.{Answer}
 use Rattle.channel.specs.declared.Given.{Given}
-use Rattle.channel.specs.declared.Given.the-variants.{Nothing, Is}
 use Rattle.channel.specs.declared.Slot.{Slot}
 use Rattle.channel.specs.declared.Table.{Table}
 use Rattle.channel.specs.declared.Verdict.{Verdict}
 use Rattle.definition.specs.Mem.{Fill, Move, wipe}
 use Rattle.definition.specs.Table.{gap, slotAt, live, found, isDisconnected, freed, spent, roomSize, wellFormed}
 use Rattle.definition.specs.Outcome.{Outcome, still, change, sweep, only, refuse, fails, verdict, passed, gate}
+use Rattle.definition.specs.Tells.{InUse, given-in-use}
 use Rattle.rules.specs.Tests.{begun, begun-live}
 use Rattle.rules.specs.Step.{Goes, Step, hold, free, Steps, rest, next, Numbered, kept, passes, Stepped}
 
@@ -47,14 +46,6 @@ module _ {t : Table} {k : ℕ} where
   pub steps-map : (f : Slot → Slot) (g : Slot → List Move) → ((x : Slot) → Step t k x (f x) (g x)) → (xs : List Slot) → Steps t k xs (map f xs) (map g xs)
   steps-map f g p [] = rest
   steps-map f g p (x ∷ xs) = next (p x) (steps-map f g p xs)
-
-take-mapFirst : (n : ℕ) (f : Slot → Slot) (xs : List Slot) → take n (mapFirst n f xs) ≡ map f (take n xs)
-take-mapFirst zero f xs = refl
-take-mapFirst (suc n) f [] = refl
-take-mapFirst (suc n) f (x ∷ xs) = ap (λ (l : List Slot). f x ∷ l) (take-mapFirst n f xs)
-
-length-mapFirst : (n : ℕ) (f : Slot → Slot) (xs : List Slot) → length (mapFirst n f xs) ≡ length xs
-length-mapFirst n f xs = simp (length-append, length-map, length-take, length-drop) (omega arith)
 
 -- ---- the forms
 
@@ -103,14 +94,6 @@ stepped-sweep t k p a ok =
 
 -- ---- the gate
 
-abbrev pub InUse : Table → Given → Type 0
-InUse t Nothing = Unit {0}
-InUse t (Is s) = s < t .n
-
-in-use : (t : Table) (slot : Given) → fails (λ s. leb (t .n) s) slot ≡ false → InUse t slot
-in-use t Nothing e = tt
-in-use t (Is s) e = leb-false (t .n) s e
-
 -- In a run neither refusal 1 nor refusal 2 comes: the table is well-formed, and a room that is lent has the right length.
 pub stepped-gate : (t : Table) (k : ℕ) (room signal link slot : Given) {o : Outcome} → wellFormed t ≡ true → fails (λ size. not (eqb size (roomSize t))) room ≡ false
     → (InUse t slot → Stepped t k o) → Stepped t k (gate t room signal link slot o)
@@ -120,7 +103,7 @@ stepped-gate t k room signal link slot {o} well sized f =
     (λ _. if-cases P _ (λ e. absurd (false≢true (sym sized ∙ e)))
     (λ _. if-cases P _ (λ _. stepped-still t k _ _ refl)
     (λ _. if-cases P _ (λ _. stepped-still t k _ _ refl)
-    (λ _. if-cases P _ (λ _. stepped-still t k _ _ refl) (λ e. f (in-use t slot e))))))
+    (λ _. if-cases P _ (λ _. stepped-still t k _ _ refl) (λ e. f (given-in-use t slot e))))))
   where
     P : Verdict → Type 0
     P v = Stepped t k (passed t v o)
@@ -129,7 +112,7 @@ stepped-gate t k room signal link slot {o} well sized f =
 pub gate-cases : (P : Outcome → Type 0) (t : Table) (room signal link slot : Given) {o : Outcome} → ((r : Refusal) → P (refuse t r)) → (InUse t slot → P o) → P (gate t room signal link slot o)
 unfolding verdict
 gate-cases P t room signal link slot {o} stop f =
-    if-cases Q _ (λ _. stop _) (λ _. if-cases Q _ (λ _. stop _) (λ _. if-cases Q _ (λ _. stop _) (λ _. if-cases Q _ (λ _. stop _) (λ _. if-cases Q _ (λ _. stop _) (λ e. f (in-use t slot e))))))
+    if-cases Q _ (λ _. stop _) (λ _. if-cases Q _ (λ _. stop _) (λ _. if-cases Q _ (λ _. stop _) (λ _. if-cases Q _ (λ _. stop _) (λ _. if-cases Q _ (λ _. stop _) (λ e. f (given-in-use t slot e))))))
   where
     Q : Verdict → Type 0
     Q v = P (passed t v o)

@@ -1,29 +1,28 @@
 -- What is true of every state that a run reaches, the octets of the room apart: a made table has it, and every call keeps it.
-use mathlib.Core.Path.{_≡_, refl, sym, ap, _∙_, subst}
+use mathlib.Core.Path.{_≡_, refl, _∙_, subst}
 use mathlib.Core.Bool.{true, not}
-use mathlib.Core.List.{List, [], _∷_, map}
-use Prim.Native.Nat.{ℕ, zero, suc, _+_, _-_, _≤_, _<_}
+use mathlib.Core.List.{List, [], _∷_}
+use Prim.Native.Nat.{ℕ, zero, suc, _-_, _≤_, _<_}
 use native.Mathlib.Nat.{not-suc-le-zero, le-of-suc-le-suc}
 use native.Mathlib.Omega.{arith}
 use lib.Dec.{eqb, leb}
-use lib.ListN.{length, getD, take, drop, replicate, length-map, length-append, take-append-drop}
-use lib.Seq.{sets, length-sets}
+use lib.ListN.{length, getD, take, replicate, length-map}
 use borrow.Author.Tests.{leb-true, le-leb, eqb-true, eqb-false, not-false}
 use Rattle.lists.specs.Choose.{if-cases}
 use Rattle.lists.specs.Every.{every}
-use Rattle.channel.specs.Limits.{slotsMost, depthMost, packetLeast, packetMost, creditsMost, identifierMost}
+use Rattle.channel.specs.Limits.{slotsMost, depthMost, packetLeast, packetMost, creditsMost, identifierMost, jobHead}
 use Rattle.channel.specs.declared.Answer.the-variants.{Done}
 use Rattle.channel.specs.declared.Slot.{Slot}
 use Rattle.channel.specs.declared.Table.{Table}
-use Rattle.definition.specs.Mem.{Fill, Move, put, wipe, fill, move, moves, parts}
+use Rattle.definition.specs.Mem.{Fill, parts}
 use Rattle.definition.specs.Table.{placeOf, width, roomSize, gap, fresh, slotAt, live, sizesFit, slotFits, wellFormed, nextId, spent}
 use Rattle.definition.specs.Outcome.{Outcome}
 use Rattle.definition.specs.Asking.{Made, make, blank}
 use Rattle.definition.specs.Calls.{Call, jobs, bare, decide}
 use Rattle.definition.specs.Run.{State, outcome, after}
+use Rattle.definition.specs.Lengths.{length-parts}
 use Rattle.rules.specs.Run.{Fits, Reached, start, next}
-use Rattle.lists.specs.Both.{and-left, and-right}
-use Rattle.rules.specs.Tests.{and-both}
+use Rattle.lists.specs.Both.{and-left, and-right, and-both}
 use Rattle.rules.specs.Step.{Numbered, kept, refused, told, Stepped}
 use Rattle.rules.specs.Forms.{live-at, live-length}
 use Rattle.rules.specs.Sound.{Sound, AllSound}
@@ -111,25 +110,6 @@ numbered t h kept = h
 numbered t h refused = spent-id t (next-id t (h .0) (h .1))
 numbered t h (told s) = spent-id t (next-id t (h .0) (h .1))
 
--- ---- the room keeps its length
-
-module _ (js : List ℕ) where
-  pub length-moves : (part : List ℕ) (ms : List Move) → length (moves (λ x. x) js part ms) ≡ length part
-  unfolding moves move
-  length-moves part [] = refl
-  length-moves part (put at f ∷ ms) = length-moves (sets part at (fill (λ x. x) js part f)) ms ∙ length-sets part at (fill (λ x. x) js part f)
-  length-moves part (wipe ∷ ms) = length-moves (map (λ _. 0) part) ms ∙ length-map part (λ _. 0)
-
-  pub length-parts : (w : ℕ) (mss : List (List Move)) (room : List ℕ) → length (parts (λ x. x) js w mss room) ≡ length room
-  unfolding parts
-  length-parts w [] room = refl
-  length-parts w (ms ∷ mss) room =
-      length-append (moves (λ x. x) js (take w room) ms) (parts (λ x. x) js w mss (drop w room))
-      ∙ ap (λ (n : ℕ). n + length (parts (λ x. x) js w mss (drop w room))) (length-moves (take w room) ms)
-      ∙ ap (λ (n : ℕ). length (take w room) + n) (length-parts w mss (drop w room))
-      ∙ sym (length-append (take w room) (drop w room))
-      ∙ ap length (take-append-drop w room)
-
 -- ---- a call keeps it
 
 pub good-steps : {t : Table} {room : List ℕ} (g : Good t room) (c : Call) → Fits c → (out job : ℕ) → Stepped t (length (jobs t c)) (decide t (bare t c) (length (jobs t c)) (length room) out job)
@@ -142,7 +122,7 @@ good-stepped {t} {room} g {k} {o} p js =
       long = p .long ∙ g .long;
       identifier = numbered t (g .identifier) (p .identifier);
       slots = rw (p .d, p .m) (steps-sound (p .slots) (g .slots));
-      size = length-parts js (width t) (o .parts) room ∙ g .size ∙ rw (p .n, p .d, p .m) refl;
+      size = length-parts (λ x. x) js (width t) (o .parts) room ∙ g .size ∙ rw (p .n, p .d, p .m) refl;
     }
 
 -- the steps of a call in a run
@@ -184,7 +164,7 @@ good-made n d m room =
       sizes = not-false (sizesFit n d m) fits;
       long = refl;
       identifier = omega arith;
-      slots = all-take d (m - 6) n (replicate slotsMost (fresh 0)) (all-fresh d (m - 6) slotsMost);
+      slots = all-take d (m - jobHead) n (replicate slotsMost (fresh 0)) (all-fresh d (m - jobHead) slotsMost);
       size = length-map room (λ _. 0) ∙ eqb-true (length room) (roomSize (blank n d m)) (not-false _ same);
     }))
   where

@@ -21,8 +21,8 @@ use Rattle.channel.specs.declared.Slot.{Slot}
 use Rattle.channel.specs.declared.Table.{Table}
 use Rattle.definition.specs.Mem.{Move}
 use Rattle.definition.specs.Table.{placeOf, fresh, withHold}
-use Rattle.lists.specs.Both.{and-left, and-right}
-use Rattle.rules.specs.Tests.{and-both, begun, begun-live}
+use Rattle.lists.specs.Both.{and-left, and-right, and-both}
+use Rattle.rules.specs.Tests.{begun, begun-live}
 use Rattle.rules.specs.Step.{Accounting, same, use-one, grant, Jobs, keep, leave, grow, finish, hand, Goes, Step, hold, go, accept, free, allocate, Steps, rest, next}
 use Rattle.rules.specs.Sound.{Holding, Sound, AllSound}
 

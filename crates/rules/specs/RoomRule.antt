@@ -23,6 +23,7 @@ use Rattle.definition.specs.Table.{placeOf, width, roomSize, gap, fresh, slotAt
 use Rattle.definition.specs.Asking.{Made, make, blank}
 use Rattle.definition.specs.Calls.{Call, jobs}
 use Rattle.definition.specs.Run.{State, after}
+use Rattle.definition.specs.Lengths.{length-moves}
 use Rattle.rules.specs.Run.{Fits, Reached, start}
 use Rattle.rules.specs.Run as Run
 use Rattle.rules.specs.Tests.{begun, pending-live}
@@ -30,7 +31,7 @@ use Rattle.rules.specs.Step.{Step, hold, go, accept, free, allocate, Ste
 use Rattle.rules.specs.Forms.{live-at, live-length}
 use Rattle.rules.specs.Sound.{Sound, AllSound}
 use Rattle.rules.specs.Keep.{jobs-quiet}
-use Rattle.rules.specs.Good.{Good, sizes-read, within, slot-sound, call-steps, same-sizes, length-moves, reached-good}
+use Rattle.rules.specs.Good.{Good, sizes-read, within, slot-sound, call-steps, same-sizes, reached-good}
 use Rattle.rules.specs.Rules.{call-change}
 use Rattle.rules.specs.Places.{jobIn, Clean, no-job, clean-jobs}
 
@@ -69,7 +70,7 @@ module _ (t : Table) (k : ℕ) (js : List ℕ) (d : t .d ≤ depthMost) where
       let others = parts (λ x. x) js w mss (drop w room) in
       let long : length (take w room) ≡ w = length-take-le w room (omega (arith, suc-mul (length xs) w)) in
       let short : length (drop w room) ≡ length xs * w = length-drop w room ∙ omega (arith, suc-mul (length xs) w) in
-      let same : length first ≡ w = length-moves js (take w room) ms ∙ long in (
+      let same : length first ≡ w = length-moves (λ x. x) js (take w room) ms ∙ long in (
         subst (λ (part : List ℕ). Clean (placeOf t) (y .assembly) (y .queue) part) (sym (take-at first others w same))
             (step-clean t k js (take w room) p (s .0) long d (c .0)),
         subst (λ (rest : List ℕ). AllClean w (placeOf t) ys rest) (sym (drop-at first others w same)) (steps-clean (drop w room) r (s .1) short (c .1)),

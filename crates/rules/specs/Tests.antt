@@ -1,13 +1,9 @@
 -- What the tests of the definition tell: of two tests joined, and of the states of a slot.
 use mathlib.Core.Path.{_≡_, refl, sym}
-use mathlib.Core.Bool.{Bool, true, false, _&&_, _||_, false≢true}
+use mathlib.Core.Bool.{Bool, true, false, _||_, false≢true}
 use Rattle.channel.specs.declared.ChannelState.{ChannelState}
 use Rattle.channel.specs.declared.ChannelState.the-variants.{Disconnected, Connecting, PeerConnecting, Connected, ConnectFailed, PeerDisconnecting, Disconnecting}
 use Rattle.definition.specs.Table.{isDisconnected, isConnecting, isPeerConnecting, isConnected, isConnectFailed, isDue}
-
-pub and-both : (a b : Bool) → a ≡ true → b ≡ true → (a && b) ≡ true
-and-both true b e f = f
-and-both false b e f = e
 
 pub or-left : (a b : Bool) → (a || b) ≡ false → a ≡ false
 or-left true b e = e

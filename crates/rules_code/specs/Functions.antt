@@ -12,7 +12,6 @@ use Rattle.lists.specs.Sets.{sets-out}
 use Rattle.codes.specs.Codes.{resultOf}
 use Rattle.codes.specs.declared.LeCreditConnResultCode.{LeCreditConnResultCode}
 use Rattle.codes.specs.declared.ResultRead.the-variants.{Known}
-use Rattle.signal_forms.specs.declared.Signal.{Signal}
 use Rattle.signal_forms.specs.declared.Signal.the-variants.{ConnParamUpdateReq, ConnParamUpdateRes}
 use Rattle.channel.specs.declared.Answer.the-variants.{Done}
 use Rattle.channel.specs.declared.L2capChannelConfig.{L2capChannelConfig}
@@ -24,7 +23,7 @@ use Rattle.definition.specs.Opening.{create, opened, giveUp}
 use Rattle.definition.specs.Closing.{incRef, decRef, disconnect, disconnectByCid, disconnected, nextDisconnect}
 use Rattle.definition.specs.Signals.{signalled}
 use Rattle.definition.specs.Frames.{send, receive}
-use Rattle.definition.specs.Asking.{registerSpsm, attention, query, spsm, mtu, mps, peerMtu, peerMps, sendSignal, sendConnParamUpdateReq, sendConnParamUpdateRes}
+use Rattle.definition.specs.Asking.{registerSpsm, attention, query, spsm, mtu, mps, peerMtu, peerMps, sendConnParamUpdateReq, sendConnParamUpdateRes}
 use Rattle.definition.specs.Calls.{Window, frame, sends, down, plain, Request, register, signals, pends, rejectsAll, accepts, rejects, drops, creates, opens, gives, holds, releases, leaves, leavesCid, announces, takes, attends, asks, sendsSignal, writes, jobs, bare, frameIn, serve, decide}
 use Rattle.definition.specs.Ending.{itself, end, endOf, servedOf, gave, end-given, roomAfter}
 use Rattle.definition.specs.Run.{State, lent, nowhere}
@@ -169,11 +168,6 @@ module _ (s : State) (r : Served) where
 
   module _ (w : Window) (l : Within w (s .memory)) (signal′ : List ℕ) where
     -- the signal buffer alone
-
-    pub send-signal-called : (link : ℕ) (form : Signal) → end r [] signal′ [] ≡ endOf (s .table) [] [] (lent w (s .memory)) [] (sendSignal (s .table) (length (lent w (s .memory))) link form)
-        → Called s (plain (sendsSignal link form) w nowhere) r (left r (s .room) (sets (s .memory) (w .from) signal′))
-    unfolding serve
-    send-signal-called link form h = signalling s (sendsSignal link form) r w l refl signal′ h
 
     pub send-conn-param-update-req-called : (link min max latency timeout : ℕ) → end r [] signal′ [] ≡ endOf (s .table) [] [] (lent w (s .memory)) [] (sendConnParamUpdateReq (s .table) (length (lent w (s .memory))) link min max latency timeout)
         → Called s (plain (sendsSignal link (ConnParamUpdateReq (record { min = min; max = max; latency = latency; timeout = timeout }))) w nowhere) r (left r (s .room) (sets (s .memory) (w .from) signal′))

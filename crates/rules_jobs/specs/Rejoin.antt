@@ -12,6 +12,7 @@ use lib.ListN.{length, getD, take, drop, set, length-append, length-drop}
 use lib.Seq.{sets, take-all, take-at, drop-drop, drop-append-add, getD-set-same, length-take-le}
 use borrow.Author.Tests.{le-leb, lt-ltb, le-ltb, eq-eqb, ne-eqb}
 use Rattle.lists.specs.Choose.{choose, choose-true, choose-false}
+use Rattle.lists.specs.Both.{and-both}
 use Rattle.octets.specs.Octets.{part, le16, u16At}
 use Rattle.octets.specs.Sets.{part-length}
 use Rattle.credit.specs.Account.{received}
@@ -30,11 +31,11 @@ use Rattle.definition.specs.Calls.{Call, jobs, bare, decide, joining}
 use Rattle.definition.specs.Calls as Calls
 use Rattle.definition.specs.Run.{State, outcome, after}
 use Rattle.definition.specs.Frames.{queued, finishing, joined, dispatch}
+use Rattle.definition.specs.Lengths.{length-moves}
 use Rattle.rules.specs.Run.{Fits, Reached, next}
-use Rattle.rules.specs.Tests.{and-both}
 use Rattle.rules.specs.Sound.{Sound}
 use Rattle.rules.specs.Join.{Reaches, reaches-first, reaches-next, joined-part, joined-whole}
-use Rattle.rules.specs.Good.{Good, sizes-read, within, slot-sound, good-formed, same-sizes, length-moves, reached-good}
+use Rattle.rules.specs.Good.{Good, sizes-read, within, slot-sound, good-formed, same-sizes, reached-good}
 use Rattle.rules_jobs.specs.Waiting.{jobOf, Waits, finish-alone, finish-joined, grown-there, grown-jobs}
 
 -- ---- a slot's part of the room, and the jobs that wait in it
@@ -52,7 +53,7 @@ parts-only : (js : List ℕ) (w i : ℕ) (ms : List Move) (room : List ℕ) → 
 unfolding parts only moves
 parts-only js w zero ms room h =
     let z : 0 * w ≡ 0 = zero-mul w in
-    rw z (take-at (moves (λ x. x) js (take w room) ms) (drop w room) w (length-moves js (take w room) ms ∙ length-take-le w room (omega arith)))
+    rw z (take-at (moves (λ x. x) js (take w room) ms) (drop w room) w (length-moves (λ x. x) js (take w room) ms ∙ length-take-le w room (omega arith)))
 parts-only js w (suc i) ms room h =
     let z : suc i * w ≡ w + i * w = omega (arith, suc-mul i w) in
     let rest = parts (λ x. x) js w (only i ms) (drop w room) in

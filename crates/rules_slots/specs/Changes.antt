@@ -6,8 +6,8 @@ use Prim.Native.Nat.{ℕ, _+_, _-_, _<_}
 use native.Mathlib.Omega.{arith}
 use lib.Dec.{leb}
 use lib.ListN.{getD}
-use borrow.Author.Tests.{eqb-true, not-false, leb-true, ltb-true}
-use Rattle.lists.specs.Both.{and-left, and-right}
+use borrow.Author.Tests.{eqb-true, not-false, leb-true}
+use Rattle.lists.specs.Both.{and-left}
 use Rattle.codes.specs.declared.ResultRead.{ResultRead}
 use Rattle.codes.specs.declared.ResultRead.the-variants.{Known, Unknown}
 use Rattle.credit.specs.declared.Grant.{Grant}
@@ -56,13 +56,11 @@ use Rattle.definition.specs.Frames.{joined, dispatch, planned, send, shifted, m
 use Rattle.definition.specs.Asking.{registerSpsm, attention, query, sendSignal}
 use Rattle.definition.specs.Calls.{Window, Call, frame, sends, down, plain, Request, register, signals, pends, rejectsAll, accepts, rejects, drops, creates, opens, gives, holds, releases, leaves, leavesCid, announces, takes, attends, asks, sendsSignal, writes, bare, serve, decide}
 use Rattle.definition.specs.Forms.{Fit}
+use Rattle.definition.specs.Tells.{cid-within}
 use Rattle.rules_slots.specs.Words.{Free, Pending, Unheld, Attempt, OpenTo, Due, Lowest}
 use Rattle.rules_slots.specs.States.{free-says, free-said, used-says, of-says, pending-says, pending-said, unheld-says, unheld-said, attempt-says, matched-says, matched-said, open-says, openTo-says, openTo-said, leaving-says, due-says, due-said, found-lowest, found-none}
 use Rattle.rules_slots.specs.Change.{BySignal, disconnects, frees, connects, matches, unmatched, credits, Asking, MayChange, Registers, registers, ChangeLaw}
 use Rattle.rules_slots.specs.Kept.{Like, as-is, with-id, Keeps, still-keeps, change-keeps, sweep-keeps, if-keeps, else-keeps, gate-keeps, gate-at, part-kept}
-
-cid-within : (t : Table) (cid : ℕ) → isCid t cid ≡ true → slotOf cid < t .n
-cid-within t cid e = ltb-true (slotOf cid) (t .n) (and-right (leb cidBase cid) _ e)
 
 cid-names : (t : Table) (cid : ℕ) → isCid t cid ≡ true → cid ≡ cidBase + slotOf cid
 cid-names t cid e = omega (arith, leb-true cidBase cid (and-left (leb cidBase cid) _ e))

@@ -6,11 +6,13 @@ use mathlib.Core.List.{List, [], _∷_, _++_, map}
 use Prim.Native.Nat.{ℕ, zero, suc, _+_, _*_, _<_}
 use native.Mathlib.Nat.{suc-mul, add-comm, zero-mul}
 use native.Mathlib.Omega.{arith}
-use lib.ListN.{length, take, drop, getD, length-append, length-map, take-append-drop}
-use lib.Seq.{length-sets, drop-drop, getD-set-other}
+use lib.ListN.{take, drop, getD}
+use lib.Seq.{drop-drop, getD-set-other}
 use borrow.Author.Tests.{leb-false}
 use Rattle.lists.specs.Choose.{choose, if-cases}
 use Rattle.lists.specs.Each.{mapFirst}
+use Rattle.lists.specs.Both.{false-unless}
+use Rattle.lists.specs.Sets.{take-split, drop-split}
 use Rattle.channel.specs.declared.Answer.{Answer}
 use Rattle.channel.specs.declared.Given.{Given}
 use Rattle.channel.specs.declared.Given.the-variants.{Is}
@@ -18,11 +20,12 @@ use Rattle.channel.specs.declared.Slot.{Slot}
 use Rattle.channel.specs.declared.Table.{Table}
 use Rattle.channel.specs.declared.Verdict.{Verdict}
 use Rattle.channel.specs.declared.Verdict.the-variants.{Pass, Stop}
-use Rattle.definition.specs.Mem.{Fill, Move, put, wipe, fill, move, moves, parts}
+use Rattle.definition.specs.Mem.{Fill, Move, wipe, moves, parts}
 use Rattle.definition.specs.Table.{gap, freed, slotAt, spent}
 use Rattle.definition.specs.Outcome.{Outcome, still, only, change, sweep, verdict, passed, gate}
 use Rattle.definition.specs.Ending.{itself}
 use Rattle.definition.specs.Forms.{pass-slot}
+use Rattle.definition.specs.Lengths.{length-moves, length-parts}
 
 -- ---- tables that differ in the identifier alone
 
@@ -73,9 +76,8 @@ swept-moves (suc n) i p [] h = refl
 swept-moves (suc n) zero p (x ∷ xs) h = ap (λ (b : Bool). choose {A = List Move} b (wipe ∷ []) []) (h (omega arith))
 swept-moves (suc n) (suc i) p (x ∷ xs) h = swept-moves n i p xs (λ l. h (omega arith))
 
-fails : {Q : Type 0} (b : Bool) → (b ≡ true → Q) → ¬ Q → b ≡ false
-fails true f off = absurd (off (f refl))
-fails false f off = refl
+pub fails : {Q : Type 0} (b : Bool) → (b ≡ true → Q) → ¬ Q → b ≡ false
+fails b f off = false-unless b (λ e. off (f e))
 
 other : (May : ℕ → Type 0) {s i : ℕ} → May s → ¬ May i → ¬ (i ≡ s)
 other May h off e = off (subst May (sym e) h)
@@ -134,45 +136,6 @@ module _ {May : ℕ → Type 0} {Reg : Type 0} {t : Table} where
 -- ---- what no moves in a slot's part say of the room
 
 module _ (js : List ℕ) where
-  length-move : (part : List ℕ) (m : Move) → length (move itself js part m) ≡ length part
-  unfolding move
-  length-move part (put at f) = length-sets part at (fill itself js part f)
-  length-move part wipe = length-map part (λ _. 0)
-
-  length-moves : (part : List ℕ) (ms : List Move) → length (moves itself js part ms) ≡ length part
-  unfolding moves
-  length-moves part [] = refl
-  length-moves part (m ∷ ms) = length-moves (move itself js part m) ms ∙ length-move part m
-
-  length-parts : (w : ℕ) (mss : List (List Move)) (room : List ℕ) → length (parts itself js w mss room) ≡ length room
-  unfolding parts
-  length-parts w [] room = refl
-  length-parts w (ms ∷ mss) room =
-      length-append (moves itself js (take w room) ms) (parts itself js w mss (drop w room))
-      ∙ ap (λ (n : ℕ). n + length (parts itself js w mss (drop w room))) (length-moves (take w room) ms)
-      ∙ ap (λ (n : ℕ). length (take w room) + n) (length-parts w mss (drop w room))
-      ∙ sym (length-append (take w room) (drop w room))
-      ∙ ap length (take-append-drop w room)
-
-  -- a part of w octets, and what follows it
-  take-split : (w : ℕ) (l y r : List ℕ) → length y ≡ length (take w l) → length r ≡ length (drop w l) → take w (y ++ r) ≡ y
-  take-split zero l [] r e f = refl
-  take-split zero l (a ∷ y) r e f = absurd (omega arith)
-  take-split (suc w) [] [] [] e f = refl
-  take-split (suc w) [] [] (b ∷ r) e f = absurd (omega arith)
-  take-split (suc w) [] (a ∷ y) r e f = absurd (omega arith)
-  take-split (suc w) (x ∷ l) [] r e f = absurd (omega arith)
-  take-split (suc w) (x ∷ l) (a ∷ y) r e f = ap (λ (z : List ℕ). a ∷ z) (take-split w l y r (omega arith) f)
-
-  drop-split : (w : ℕ) (l y r : List ℕ) → length y ≡ length (take w l) → length r ≡ length (drop w l) → drop w (y ++ r) ≡ r
-  drop-split zero l [] r e f = refl
-  drop-split zero l (a ∷ y) r e f = absurd (omega arith)
-  drop-split (suc w) [] [] [] e f = refl
-  drop-split (suc w) [] [] (b ∷ r) e f = absurd (omega arith)
-  drop-split (suc w) [] (a ∷ y) r e f = absurd (omega arith)
-  drop-split (suc w) (x ∷ l) [] r e f = absurd (omega arith)
-  drop-split (suc w) (x ∷ l) (a ∷ y) r e f = drop-split w l y r (omega arith) f
-
   next-part : (w i : ℕ) (l : List ℕ) → take w (drop (i * w) (drop w l)) ≡ take w (drop (suc i * w) l)
   next-part w i l = ap (take w) (drop-drop (i * w) w l ∙ ap (λ (n : ℕ). drop n l) (add-comm w (i * w) ∙ sym (suc-mul i w)))
 
@@ -181,11 +144,11 @@ module _ (js : List ℕ) where
   part-kept w i [] room e = refl
   part-kept w zero (ms ∷ mss) room e =
       let r : List ℕ = parts itself js w mss (drop w room) in
-      rw (zero-mul w, e) (take-split w room (take w room) r refl (length-parts w mss (drop w room)))
+      rw (zero-mul w, e) (take-split w room (take w room) r refl (length-parts itself js w mss (drop w room)))
   part-kept w (suc i) (ms ∷ mss) room e =
       let y : List ℕ = moves itself js (take w room) ms in
       let r : List ℕ = parts itself js w mss (drop w room) in
       sym (next-part w i (y ++ r))
-      ∙ ap (λ (l : List ℕ). take w (drop (i * w) l)) (drop-split w room y r (length-moves (take w room) ms) (length-parts w mss (drop w room)))
+      ∙ ap (λ (l : List ℕ). take w (drop (i * w) l)) (drop-split w room y r (length-moves itself js (take w room) ms) (length-parts itself js w mss (drop w room)))
       ∙ part-kept w i mss (drop w room) e
       ∙ next-part w i room

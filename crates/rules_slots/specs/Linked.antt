@@ -51,19 +51,17 @@ use Rattle.definition.specs.Asking.{sendSignal}
 use Rattle.definition.specs.Calls.{Window, Call, frame, sends, down, plain, Request, register, signals, pends, rejectsAll, accepts, rejects, drops, creates, opens, gives, holds, releases, leaves, leavesCid, announces, takes, attends, asks, sendsSignal, writes, Holder, nobody, by, jobs, bare, serve, decide}
 use Rattle.definition.specs.Apart.{askedBy, calledBy}
 use Rattle.definition.specs.Forms.{found-passes, pass-slot}
+use Rattle.definition.specs.Tells.{cid-within, free-is, connected-is}
 use Rattle.rules_slots.specs.Words.{Free, Of}
 use Rattle.rules_slots.specs.Lists.{first-same}
-use Rattle.rules_slots.specs.States.{free-is, connected-is, free-says, used-says, of-says, pending-says, unheld-says, attempt-says, matched-says, openTo-says, leaving-says, pending-of, attempt-of, open-of, leaving-of, uses-of}
+use Rattle.rules_slots.specs.States.{free-says, used-says, of-says, pending-says, unheld-says, attempt-says, matched-says, openTo-says, leaving-says, pending-of, attempt-of, open-of, leaving-of, uses-of}
 use Rattle.rules_slots.specs.Answer.{called, SameTo, equal, others, BothIn, Exceptions, LinkLaw}
-use Rattle.rules_slots.specs.Named.{cid-within, beside, is-beside, Both, Pair, if-both, still-both, still-id, change-both, change-id, gate-both, opens-both, frame-both}
+use Rattle.rules_slots.specs.Named.{beside, is-beside, Both, Pair, if-both, still-both, still-id, change-both, change-id, gate-both, opens-both, frame-both}
+use Rattle.rules_slots.specs.Kept.{fails}
 
 -- a test that a slot of link l or a free one alone can pass
 abbrev Own : ℕ → (Slot → Bool) → Type 0
 Own l p = (x : Slot) → ¬ Of l x → ¬ Free x → p x ≡ false
-
-fails : {Q : Type 0} (b : Bool) → (b ≡ true → Q) → ¬ Q → b ≡ false
-fails true f off = absurd (off (f refl))
-fails false f off = refl
 
 module _ (l : ℕ) where
   of-own : Own l (ofLink l)

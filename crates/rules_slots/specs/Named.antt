@@ -5,11 +5,10 @@ use mathlib.Core.Bool.{Bool, true, false}
 use mathlib.Core.List.{List}
 use Prim.Native.Nat.{ℕ, _≤_, _<_}
 use native.Mathlib.Omega.{arith}
-use lib.Dec.{eqb, leb}
+use lib.Dec.{eqb}
 use lib.ListN.{length, getD, set}
 use lib.Seq.{getD-set-same, getD-set-other}
-use borrow.Author.Tests.{eqb-true, eqb-false, leb-false, ltb-true, not-false}
-use Rattle.lists.specs.Both.{and-right}
+use borrow.Author.Tests.{eqb-true, eqb-false, leb-false, not-false}
 use Rattle.lists.specs.Choose.{choose}
 use Rattle.codes.specs.declared.ResultRead.{ResultRead}
 use Rattle.codes.specs.declared.ResultRead.the-variants.{Known, Unknown}
@@ -19,7 +18,6 @@ use Rattle.sar_join.specs.declared.Joined.{Joined}
 use Rattle.sar_join.specs.declared.Joined.the-variants as Joined
 use Rattle.sar_cut.specs.declared.Plan.{Plan}
 use Rattle.sar_cut.specs.declared.Plan.the-variants as Plan
-use Rattle.channel.specs.Limits.{cidBase}
 use Rattle.channel.specs.declared.Answer.{Answer}
 use Rattle.channel.specs.declared.Given.{Given}
 use Rattle.channel.specs.declared.Given.the-variants.{Nothing, Is}
@@ -38,10 +36,8 @@ use Rattle.definition.specs.Frames.{joined, dispatch, planned, send, taken, rec
 use Rattle.definition.specs.Asking.{query}
 use Rattle.definition.specs.Calls.{Call, frame, joining, jobs, bare, serve, decide}
 use Rattle.definition.specs.Forms.{pass-slot}
+use Rattle.definition.specs.Tells.{cid-within}
 use Rattle.rules_slots.specs.Answer.{called, Same, Alike, Names, accepting, rejecting, dropping, querying, giving, holding, releasing, leaving, leavingCid, taking, asking, sending, framing, SlotLaw}
-
-pub cid-within : (t : Table) (cid : ℕ) → isCid t cid ≡ true → slotOf cid < t .n
-cid-within t cid e = ltb-true (slotOf cid) (t .n) (and-right (leb cidBase cid) _ e)
 
 -- ---- one table with other slots and SPSMs
 

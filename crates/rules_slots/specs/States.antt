@@ -1,5 +1,5 @@
 -- What the definition's tests of a slot say in the words of Words.antt, and the other way round: a case a state. And so what a search finds.
-use mathlib.Core.Path.{_≡_, refl, sym, ap, ap₂, _∙_}
+use mathlib.Core.Path.{_≡_, refl, sym, ap, _∙_}
 use mathlib.Core.Bool.{Bool, true, false, _&&_, not, false≢true}
 use Prim.Native.Nat.{ℕ, _<_}
 use native.Mathlib.Omega.{arith}
@@ -7,56 +7,16 @@ use lib.Dec.{eqb, leb}
 use lib.ListN.{length, length-take}
 use lib.Seq.{getD-take}
 use borrow.Author.Tests.{eqb-true, eq-eqb, leb-true, leb-false, not-true}
-use Rattle.lists.specs.Both.{and-left, and-right}
+use Rattle.lists.specs.Both.{and-left, and-right, and-both}
 use Rattle.channel.specs.declared.ChannelState.{ChannelState}
 use Rattle.channel.specs.declared.ChannelState.the-variants.{Disconnected, Connecting, PeerConnecting, Connected, ConnectFailed, PeerDisconnecting, Disconnecting}
 use Rattle.channel.specs.declared.Slot.{Slot}
 use Rattle.channel.specs.declared.Table.{Table}
 use Rattle.definition.specs.Table.{gap, slotAt, live, found, identifierOf, isDisconnected, isConnecting, isPeerConnecting, isConnected, isDisconnecting, isDue, isFree, ofLink, pendingOf, unheldPendingOf, attemptOf, attemptBy, connectedTo, usesPeer, dueSlot}
 use Rattle.definition.specs.Forms.{Fit, found-passes}
+use Rattle.definition.specs.Tells.{free-is, connecting-is, pending-is, connected-is}
 use Rattle.rules_slots.specs.Words.{Free, Of, Pending, Unheld, Attempt, Open, OpenTo, Leaving, Due, answer, request, Lowest}
 use Rattle.rules_slots.specs.Lists.{first-below, first-within}
-
-both : {a b : Bool} → a ≡ true → b ≡ true → (a && b) ≡ true
-both e f = ap₂ (λ (a b : Bool). a && b) e f
-
--- ---- states
-
-pub free-is : (k : ChannelState) → isDisconnected k ≡ true → k ≡ Disconnected
-free-is Disconnected e = refl
-free-is (Connecting i) e = absurd (false≢true e)
-free-is (PeerConnecting i) e = absurd (false≢true e)
-free-is Connected e = absurd (false≢true e)
-free-is (ConnectFailed c) e = absurd (false≢true e)
-free-is (PeerDisconnecting i) e = absurd (false≢true e)
-free-is (Disconnecting a) e = absurd (false≢true e)
-
-connecting-is : (k : ChannelState) → isConnecting k ≡ true → k ≡ Connecting (identifierOf k)
-connecting-is Disconnected e = absurd (false≢true e)
-connecting-is (Connecting i) e = refl
-connecting-is (PeerConnecting i) e = absurd (false≢true e)
-connecting-is Connected e = absurd (false≢true e)
-connecting-is (ConnectFailed c) e = absurd (false≢true e)
-connecting-is (PeerDisconnecting i) e = absurd (false≢true e)
-connecting-is (Disconnecting a) e = absurd (false≢true e)
-
-pending-is : (k : ChannelState) → isPeerConnecting k ≡ true → k ≡ PeerConnecting (identifierOf k)
-pending-is Disconnected e = absurd (false≢true e)
-pending-is (Connecting i) e = absurd (false≢true e)
-pending-is (PeerConnecting i) e = refl
-pending-is Connected e = absurd (false≢true e)
-pending-is (ConnectFailed c) e = absurd (false≢true e)
-pending-is (PeerDisconnecting i) e = absurd (false≢true e)
-pending-is (Disconnecting a) e = absurd (false≢true e)
-
-pub connected-is : (k : ChannelState) → isConnected k ≡ true → k ≡ Connected
-connected-is Disconnected e = absurd (false≢true e)
-connected-is (Connecting i) e = absurd (false≢true e)
-connected-is (PeerConnecting i) e = absurd (false≢true e)
-connected-is Connected e = refl
-connected-is (ConnectFailed c) e = absurd (false≢true e)
-connected-is (PeerDisconnecting i) e = absurd (false≢true e)
-connected-is (Disconnecting a) e = absurd (false≢true e)
 
 -- ---- one slot
 
@@ -64,7 +24,7 @@ pub free-says : (x : Slot) → isFree x ≡ true → Free x
 free-says x e = record { state = free-is (x .state) (and-left (isDisconnected (x .state)) _ e); hold = eqb-true (x .hold) 0 (and-right (isDisconnected (x .state)) _ e) }
 
 pub free-said : (x : Slot) → Free x → isFree x ≡ true
-free-said x h = both (ap isDisconnected (h .state)) (eq-eqb (x .hold) 0 (h .hold))
+free-said x h = and-both _ _ (ap isDisconnected (h .state)) (eq-eqb (x .hold) 0 (h .hold))
 
 pub used-says : (x : Slot) → isDisconnected (x .state) ≡ false → ¬ (x .state ≡ Disconnected)
 used-says x e f = false≢true (sym e ∙ ap isDisconnected f)
@@ -85,13 +45,13 @@ pending-says l x e =
     }
 
 pub pending-said : (l : ℕ) (x : Slot) → Pending l x → pendingOf l x ≡ true
-pending-said l x h = both (ap isPeerConnecting (h .state)) (eq-eqb (x .link) l (h .link))
+pending-said l x h = and-both _ _ (ap isPeerConnecting (h .state)) (eq-eqb (x .link) l (h .link))
 
 pub unheld-says : (l : ℕ) (x : Slot) → unheldPendingOf l x ≡ true → Unheld l x
 unheld-says l x e = record { pending = pending-says l x (and-left (pendingOf l x) _ e); hold = eqb-true (x .hold) 0 (and-right (pendingOf l x) _ e) }
 
 pub unheld-said : (l : ℕ) (x : Slot) → Unheld l x → unheldPendingOf l x ≡ true
-unheld-said l x h = both (pending-said l x (h .pending)) (eq-eqb (x .hold) 0 (h .hold))
+unheld-said l x h = and-both _ _ (pending-said l x (h .pending)) (eq-eqb (x .hold) 0 (h .hold))
 
 pub attempt-says : (l : ℕ) (x : Slot) → attemptOf l x ≡ true → Attempt l (identifierOf (x .state)) x
 attempt-says l x e =
@@ -106,7 +66,7 @@ matched-says l id x e =
     record { state = h .state ∙ ap Connecting (eqb-true (identifierOf (x .state)) id (and-right (attemptOf l x) _ e)); link = h .link }
 
 pub matched-said : (l id : ℕ) (x : Slot) → Attempt l id x → attemptBy l id x ≡ true
-matched-said l id x h = both (both (ap isConnecting (h .state)) (eq-eqb (x .link) l (h .link))) (eq-eqb (identifierOf (x .state)) id (ap identifierOf (h .state)))
+matched-said l id x h = and-both _ _ (and-both _ _ (ap isConnecting (h .state)) (eq-eqb (x .link) l (h .link))) (eq-eqb (identifierOf (x .state)) id (ap identifierOf (h .state)))
 
 pub open-says : (l : ℕ) (x : Slot) → isConnected (x .state) ≡ true → eqb (x .link) l ≡ true → Open l x
 open-says l x e f = record { state = connected-is (x .state) e; link = eqb-true (x .link) l f }
@@ -120,7 +80,7 @@ openTo-says l cid x e =
     }
 
 pub openTo-said : (l cid : ℕ) (x : Slot) → OpenTo l cid x → connectedTo l cid x ≡ true
-openTo-said l cid x h = both (ap isConnected (h .slot .state)) (both (eq-eqb (x .link) l (h .slot .link)) (eq-eqb (x .peer .cid) cid (h .peer)))
+openTo-said l cid x h = and-both _ _ (ap isConnected (h .slot .state)) (and-both _ _ (eq-eqb (x .link) l (h .slot .link)) (eq-eqb (x .peer .cid) cid (h .peer)))
 
 pub leaving-says : (l : ℕ) (x : Slot) → (isDisconnecting (x .state) && eqb (x .link) l) ≡ true → Leaving l x
 leaving-says l x e = go (x .state) refl (and-left (isDisconnecting (x .state)) _ e) (eqb-true (x .link) l (and-right (isDisconnecting (x .state)) _ e))

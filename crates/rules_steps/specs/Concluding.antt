@@ -16,7 +16,8 @@ use Rattle.channel.specs.declared.L2capChannelConfig.{L2capChannelConfig}
 use Rattle.channel.specs.declared.Table.{Table}
 use Rattle.definition.specs.Table.{isDisconnected, isConnected, isDisconnecting, isDue, cidOf}
 use Rattle.definition.specs.Calls.{Window, Call, frame, plain, Request, accepts, rejects, creates, gives, releases, announces}
-use Rattle.rules_steps.specs.Tools.{is-connected}
+use Rattle.definition.specs.Tells.{connected-is}
+use Rattle.rules_steps.specs.Tools.{}
 use Rattle.rules_steps.specs.Steps.{Seen, is, free, Row, isNumber, gives-slot, Step, row, stay, link-down, stay-down, overrun, stay-frame, send, stay-send}
 use Rattle.rules_steps.specs.Steps as Steps
 use Rattle.rules_steps.specs.Stepping.{every-step}
@@ -121,7 +122,7 @@ row-lasts (Steps.peer-grants c b f n) u z = record { link = refl; credits = λ _
 row-lasts (Steps.peer-overflows c b f n) u z = same
 
 live : (k : ChannelState) → isConnected k ≡ true → isDisconnected k ≡ false
-live k e = ap isDisconnected (is-connected k e)
+live k e = ap isDisconnected (connected-is k e)
 
 step-link : {t : Table} {i : ℕ} {c : Call} {a : Answer} {x y : Seen} → Step t i c a x y → isDisconnected (x .state) ≡ false → isDisconnected (y .state) ≡ false → y .link ≡ x .link
 step-link (row p) u z = row-lasts p u z .link

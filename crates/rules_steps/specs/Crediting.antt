@@ -21,7 +21,8 @@ use Rattle.definition.specs.Table.{slotAt, isConnected}
 use Rattle.definition.specs.Outcome.{Outcome}
 use Rattle.definition.specs.Frames.{laterFrames, frames, send, planned, receive, taken, grantIn}
 use Rattle.definition.specs.Calls.{bare, decide, serve}
-use Rattle.rules_steps.specs.Tools.{gate-cases, is-connected}
+use Rattle.definition.specs.Tells.{connected-is}
+use Rattle.rules_steps.specs.Tools.{gate-cases}
 use Rattle.rules_steps.specs.Credits.{LaterFrames, none, more, AllFrames, first, sent, SendsAs, EverySend, grants, grants-none, none-waits, TakesAs, EveryTake}
 use Rattle.rules_steps.specs.Credits as Credits
 
@@ -62,7 +63,7 @@ module _ (t : Table) (s l out : ℕ) where
 
   send-sends : N (send t s l out)
   unfolding send
-  send-sends = gate-cases N t _ _ _ _ (λ r h. Credits.Sends.refused) (λ _. if-cases N _ (λ _. Credits.Sends.refused) (λ e. planned-sends (is-connected (x .state) (not-false _ e)) _ refl))
+  send-sends = gate-cases N t _ _ _ _ (λ r h. Credits.Sends.refused) (λ _. if-cases N _ (λ _. Credits.Sends.refused) (λ e. planned-sends (connected-is (x .state) (not-false _ e)) _ refl))
 
 pub every-send : EverySend
 unfolding decide bare
@@ -83,7 +84,7 @@ grant-some a n =
 -- what is granted: the policy's grant in Connected, nothing elsewhere
 granted-is : (x : Slot) (P : Grant → Type 0) → (x .state ≡ Connected → P (grantOf (x .account))) → ((x .state ≡ Connected → ⊥) → P Grant.Nothing) → P (grantIn x)
 unfolding grantIn
-granted-is x P f g = if-cases P _ (λ e. f (is-connected (x .state) e)) (λ e. g (λ on. false≢true (sym e ∙ ap isConnected on)))
+granted-is x P f g = if-cases P _ (λ e. f (connected-is (x .state) e)) (λ e. g (λ on. false≢true (sym e ∙ ap isConnected on)))
 
 module _ (t : Table) (s size : ℕ) where
   abbrev y : Slot

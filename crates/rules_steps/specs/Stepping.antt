@@ -69,9 +69,10 @@ use Rattle.definition.specs.Signals.{signalled, checked, handled, onReject, onD
 use Rattle.definition.specs.Frames.{dispatch, joined, send, planned, receive, taken}
 use Rattle.definition.specs.Asking.{registerSpsm, attention, query, sendSignal}
 use Rattle.definition.specs.Calls.{Window, Call, frame, sends, down, plain, Request, register, signals, pends, rejectsAll, accepts, rejects, drops, creates, opens, gives, holds, releases, leaves, leavesCid, announces, takes, attends, asks, sendsSignal, writes, bare, decide, serve}
+use Rattle.definition.specs.Tells.{cid-within, pending-is, connected-is, free-is, connecting-is}
 use Rattle.definition.specs.Numbers.{refused-not-0}
 use Rattle.definition.specs.Forms.{Fit, found-passes}
-use Rattle.rules_steps.specs.Tools.{gate-cases, is-pending, is-connected, is-peer-leaving, is-unannounced, is-free, is-attempt, is-failed, leaving-cases, left-cases, given-up-cases, and-off, and-off-right, or-off, or-none, held}
+use Rattle.rules_steps.specs.Tools.{gate-cases, is-peer-leaving, is-unannounced, is-failed, leaving-cases, left-cases, given-up-cases, and-off, and-off-right, or-off, or-none, held}
 use Rattle.rules_steps.specs.Steps.{Seen, seen, is, free, Row, byCode, namesAsDcid, namesAsScid, admits, grantsTo, isGood, steps, isNumber, Step, row, stay, stay-down, stay-frame, stay-send, link-down, overrun, Steps, EveryStep}
 use Rattle.rules_steps.specs.Steps as Steps
 
@@ -119,9 +120,6 @@ no-code (x ∷ xs) e = absurd (omega arith)
 
 -- ---- CIDs and slots
 
-cid-slot : (t : Table) (cid : ℕ) → isCid t cid ≡ true → slotOf cid < t .n
-cid-slot t cid e = ltb-true (slotOf cid) (t .n) (and-right (leb cidBase cid) _ e)
-
 cid-back : (t : Table) (cid : ℕ) → isCid t cid ≡ true → cidOf (slotOf cid) ≡ cid
 cid-back t cid e = let l = leb-true cidBase cid (and-left (leb cidBase cid) _ e) in omega arith
 
@@ -167,7 +165,7 @@ module _ (t : Table) (fit : Fit t) (v w : Window) where
       let p : pendingOf link x ≡ true = found-passes t fit (pendingOf link) e in
       steps-one (pends link up) _ s _ (leb-false _ _ e)
       (seen-as (λ k h l. Row t s (pends link up) (At (index s)) (is k h l (x .peer .credits)) (is k 1 l (x .peer .credits))) x
-      (is-pending (x .state) (and-left (isPeerConnecting (x .state)) _ p)) (eqb-true _ _ (not-false _ f)) (eqb-true _ _ (and-right (isPeerConnecting (x .state)) _ p)) (Steps.pend refl))
+      (pending-is (x .state) (and-left (isPeerConnecting (x .state)) _ p)) (eqb-true _ _ (not-false _ f)) (eqb-true _ _ (and-right (isPeerConnecting (x .state)) _ p)) (Steps.pend refl))
       (λ i g. g))))
 
   reject-all : (room signal link : ℕ) → S (rejectsAll link) (rejectAllPending t room signal link)
@@ -183,7 +181,7 @@ module _ (t : Table) (fit : Fit t) (v w : Window) where
       let p : pendingOf link x ≡ true = and-left (pendingOf link x) _ q in
       steps-one (rejectsAll link) _ s _ (leb-false _ _ e)
       (seen-as (λ k h l. Row t s (rejectsAll link) (At (index s)) (is k h l (x .peer .credits)) (free h)) x
-      (is-pending (x .state) (and-left (isPeerConnecting (x .state)) _ p)) (eqb-true _ _ (and-right (pendingOf link x) _ q)) (eqb-true _ _ (and-right (isPeerConnecting (x .state)) _ p)) (Steps.clear refl))
+      (pending-is (x .state) (and-left (isPeerConnecting (x .state)) _ p)) (eqb-true _ _ (and-right (pendingOf link x) _ q)) (eqb-true _ _ (and-right (isPeerConnecting (x .state)) _ p)) (Steps.clear refl))
       (λ i g. g)))
 
   accept-pending : (signal s : ℕ) (c : L2capChannelConfig) → S (accepts s c) (acceptPending t signal s c)
@@ -198,7 +196,7 @@ module _ (t : Table) (fit : Fit t) (v w : Window) where
       (λ e. if-cases P _ (λ _ i l. stay refl)
       (λ f. steps-one (accepts s c) _ s _ h
       (seen-as (λ k n l. Row t s (accepts s c) (Link l) (is k n l (x .peer .credits)) (is Connected n l (x .peer .credits))) x
-      (is-pending (x .state) (not-false _ e)) (held _ f) refl Steps.accept)
+      (pending-is (x .state) (not-false _ e)) (held _ f) refl Steps.accept)
       (λ i g. g))))))
 
   reject-pending : (room signal s : ℕ) (result : ResultRead) → S (rejects s result) (rejectRead t room signal s result)
@@ -211,7 +209,7 @@ module _ (t : Table) (fit : Fit t) (v w : Window) where
       (λ e. if-cases P _ (λ _ i l. stay refl)
       (λ f. steps-one (rejects s (Known result)) _ s _ h
       (seen-as (λ k n l. Row t s (rejects s (Known result)) (Link l) (is k n l (x .peer .credits)) (free (x .hold - 1))) x
-      (is-pending (x .state) (not-false _ e)) (held _ f) refl Steps.reject)
+      (pending-is (x .state) (not-false _ e)) (held _ f) refl Steps.reject)
       (λ i g. g))))
   reject-pending room signal s Unknown = gate-cases (S (rejects s Unknown)) t _ _ _ _ (λ r h i l. stay (and-off _ (refused-not-0 r))) (λ _ i l. stay refl)
 
@@ -233,7 +231,7 @@ module _ (t : Table) (fit : Fit t) (v w : Window) where
       (λ e. if-cases P _ (λ _ i l. stay refl)
       (λ f. if-cases P _
       (λ g. steps-one (drops s) _ s _ h
-      (seen-as (λ k n l. Row t s (drops s) Done (is k n l (x .peer .credits)) (free (x .hold - 1))) x (is-pending (x .state) g) (held _ f) refl Steps.drop-pending) (λ i z. and-off _ z))
+      (seen-as (λ k n l. Row t s (drops s) Done (is k n l (x .peer .credits)) (free (x .hold - 1))) x (pending-is (x .state) g) (held _ f) refl Steps.drop-pending) (λ i z. and-off _ z))
       (λ g. steps-one (drops s) _ s _ h
       (seen-as (λ k n l. Row t s (drops s) Done (is k n l (x .peer .credits)) (is k (x .hold - 1) l (x .peer .credits))) x refl (held _ f) refl (Steps.drop-hold e g)) (λ i z. and-off _ z)))))
 
@@ -253,7 +251,7 @@ module _ (t : Table) (fit : Fit t) (v w : Window) where
       let p : isFree x ≡ true = found-passes t fit isFree e in
       steps-one (creates link spsm c) _ s _ (leb-false _ _ e)
       (seen-as (λ k h l. Row t s (creates link spsm c) (At (index s)) (is k h l (x .peer .credits)) (is (Connecting (nextId t)) 0 link 0)) x
-      (is-free (x .state) (and-left (isDisconnected (x .state)) _ p)) (eqb-true _ _ (and-right (isDisconnected (x .state)) _ p)) refl (Steps.create refl))
+      (free-is (x .state) (and-left (isDisconnected (x .state)) _ p)) (eqb-true _ _ (and-right (isDisconnected (x .state)) _ p)) refl (Steps.create refl))
       (λ i g. g)))))
 
   opens-gate : (s link i : ℕ) (up : Bool) (r : Refusal) → refusalNumber r ≤ 6 → steps t i (opens s link up) (Refused r) (seen (slotAt t i)) ≡ false
@@ -292,7 +290,7 @@ module _ (t : Table) (fit : Fit t) (v w : Window) where
       (λ c. if-cases P _ (λ _ i l. stay refl)
       (λ z. steps-one (opens s link up) _ s _ h
       (subst (λ (u : Bool). Row t s (opens s link u) Opened (seen x) (is (x .state) 1 (x .link) p)) is-up
-      (seen-as (λ k n l. Row t s (opens s link true) Opened (is k n l p) (is k 1 l p)) x (is-connected (x .state) (not-false _ c)) (eqb-true _ _ (not-false _ z)) link-is Steps.open-held))
+      (seen-as (λ k n l. Row t s (opens s link true) Opened (is k n l p) (is k 1 l p)) x (connected-is (x .state) (not-false _ c)) (eqb-true _ _ (not-false _ z)) link-is Steps.open-held))
       (λ i u. or-off (and-off _ u))))))))))
 
   give-up : (room s : ℕ) → S (gives s) (giveUp t room s)
@@ -334,7 +332,7 @@ module _ (t : Table) (fit : Fit t) (v w : Window) where
       (λ e. if-cases P _
       (λ f. steps-one (releases s) _ s _ h
       (seen-as (λ k n l. Row t s (releases s) Done (is k n l p) (is (Disconnecting false) 0 l p)) x
-      (is-connected (x .state) (and-left (isConnected (x .state)) _ f)) (eqb-true _ _ (and-right (isConnected (x .state)) _ f)) refl Steps.release-last) (λ i g. g))
+      (connected-is (x .state) (and-left (isConnected (x .state)) _ f)) (eqb-true _ _ (and-right (isConnected (x .state)) _ f)) refl Steps.release-last) (λ i g. g))
       (λ f. steps-one (releases s) _ s _ h
       (seen-as (λ k n l. Row t s (releases s) Done (is k n l p) (is k (x .hold - 1) l p)) x refl (held _ e) refl (Steps.release (not-last (isConnected (x .state)) (x .hold) e f))) (λ i g. g))))
 
@@ -346,7 +344,7 @@ module _ (t : Table) (fit : Fit t) (v w : Window) where
       let x = slotAt t s in
       if-cases (S r) _
       (λ e. steps-one r _ s _ h
-      (seen-as (λ k n l. Row t s r Done (is k n l (x .peer .credits)) (is (Disconnecting false) n l (x .peer .credits))) x (is-connected (x .state) e) refl refl (p _ _ _)) (λ i g. q i ∙ and-off _ g))
+      (seen-as (λ k n l. Row t s r Done (is k n l (x .peer .credits)) (is (Disconnecting false) n l (x .peer .credits))) x (connected-is (x .state) e) refl refl (p _ _ _)) (λ i g. q i ∙ and-off _ g))
       (λ e i l. stay (q i ∙ only-at s i (λ y. isConnected (y .state)) e))
 
   disconnect-steps : (room s : ℕ) → S (leaves s) (disconnect t room s)
@@ -361,7 +359,7 @@ module _ (t : Table) (fit : Fit t) (v w : Window) where
       gate-cases P t _ _ _ _ (λ r h i l. stay (and-off _ (refused-not-0 r)))
       (λ _. if-cases P _
       (λ e. subst (λ (c : ℕ). S (leavesCid c) (disconnecting t (slotOf cid))) (cid-back t cid e)
-      (leaves-steps (leavesCid (cidOf (slotOf cid))) (slotOf cid) (cid-slot t cid e) (λ _ _ _. Steps.leave-cid) (λ i. ap (λ (b : Bool). b && isConnected (slotAt t i .state)) (cid-eqb i (slotOf cid)))))
+      (leaves-steps (leavesCid (cidOf (slotOf cid))) (slotOf cid) (cid-within t cid e) (λ _ _ _. Steps.leave-cid) (λ i. ap (λ (b : Bool). b && isConnected (slotAt t i .state)) (cid-eqb i (slotOf cid)))))
       (λ e i l. stay (and-off _ (no-cid t cid e i l))))
 
   next-disconnect : (room signal : ℕ) → S announces (nextDisconnect t room signal)
@@ -463,7 +461,7 @@ module _ (t : Table) (fit : Fit t) (v w : Window) where
         (λ f i l. stay (code-06 _ _ _ _ _ c (ap (λ (z : Bool). z && ofLink link (slotAt t i)) (at i) ∙ only-at s i (ofLink link) (not-true _ f))))
         (λ f.
         let its : ofLink link x ≡ true = not-false _ f in
-        steps-one G _ s _ (cid-slot t (req .dcid) on)
+        steps-one G _ s _ (cid-within t (req .dcid) on)
         (seen-as (λ k h l. Row t s G Done (is k h l (x .peer .credits)) (is (PeerDisconnecting id) h l (x .peer .credits))) x refl refl
         (eqb-true _ _ (and-right (not (isDisconnected (x .state))) _ its)) (Steps.peer-leaves c q (sym back) (not-true _ (and-left (not (isDisconnected (x .state))) _ its))))
         (λ i z. code-06 _ _ _ _ _ c (and-off _ (at i ∙ z)))))
@@ -484,7 +482,7 @@ module _ (t : Table) (fit : Fit t) (v w : Window) where
         (λ f i l. stay (code-07 _ _ _ _ _ c (ap (λ (z : Bool). z && (isDisconnecting (slotAt t i .state) && eqb (slotAt t i .link) link)) (at i) ∙ only-at s i (λ y. isDisconnecting (y .state) && eqb (y .link) link) (not-true _ f))))
         (λ f.
         let its : (isDisconnecting (x .state) && eqb (x .link) link) ≡ true = not-false _ f in
-        steps-one G _ s _ (cid-slot t (res .scid) on)
+        steps-one G _ s _ (cid-within t (res .scid) on)
         (leaving-cases (λ k. Row t s G Done (is k (x .hold) (x .link) (x .peer .credits)) (free (x .hold))) (x .state) (and-left (isDisconnecting (x .state)) _ its)
         (λ a. subst (λ (l : ℕ). Row t s G Done (is (Disconnecting a) (x .hold) l (x .peer .credits)) (free (x .hold))) (sym (eqb-true _ _ (and-right (isDisconnecting (x .state)) _ its))) (Steps.peer-confirms c q (sym back))))
         (λ i z. code-07 _ _ _ _ _ c (and-off _ (at i ∙ z)))))
@@ -511,7 +509,7 @@ module _ (t : Table) (fit : Fit t) (v w : Window) where
         steps-one G _ s _ (leb-false _ _ e)
         (subst (λ (u : Bool). Row t s (signals link u central pdu) Done (seen x) y) (sym (not-false _ n))
         (seen-as (λ k h l. Row t s (signals link true central pdu) Done (is k h l (x .peer .credits)) y) x
-        (is-free (x .state) (and-left (isDisconnected (x .state)) _ p)) (eqb-true _ _ (and-right (isDisconnected (x .state)) _ p)) refl (Steps.peer-asks c q refl)))
+        (free-is (x .state) (and-left (isDisconnected (x .state)) _ p)) (eqb-true _ _ (and-right (isDisconnected (x .state)) _ p)) refl (Steps.peer-asks c q refl)))
         (λ i z. off i (and-off-right admitted z))))))
 
     on-conn-res : code ≡ 0x15 → (b : LeCreditConnResRead) → leCreditConnRes (bodyIn pdu) ≡ b → S G (onConnRes t link id b)
@@ -524,12 +522,12 @@ module _ (t : Table) (fit : Fit t) (v w : Window) where
         if-cases (S G) _
         (λ e. all t fit (plain G v w) (Refused Refusal.NotFound) (attemptOf link)
         (λ i z f. row (seen-as (λ k h l. Row t i G (Refused Refusal.NotFound) (is k h l (z .peer .credits)) (free h)) z
-        (is-attempt (z .state) (and-left (isConnecting (z .state)) _ f)) refl (eqb-true _ _ (and-right (isConnecting (z .state)) _ f)) (Steps.unmatched c (leb-true _ _ e))))
+        (connecting-is (z .state) (and-left (isConnecting (z .state)) _ f)) refl (eqb-true _ _ (and-right (isConnecting (z .state)) _ f)) (Steps.unmatched c (leb-true _ _ e))))
         (λ i z f. stay (code-15 _ _ _ _ _ c (or-off f))))
         (λ e.
         let f : attemptBy link id x ≡ true = found-passes t fit (attemptBy link id) e in
         let g : attemptOf link x ≡ true = and-left (attemptOf link x) _ f in
-        let k-is : x .state ≡ Connecting id = is-attempt (x .state) (and-left (isConnecting (x .state)) _ g) ∙ ap Connecting (eqb-true _ _ (and-right (attemptOf link x) _ f)) in
+        let k-is : x .state ≡ Connecting id = connecting-is (x .state) (and-left (isConnecting (x .state)) _ g) ∙ ap Connecting (eqb-true _ _ (and-right (attemptOf link x) _ f)) in
         let l-is : x .link ≡ link = eqb-true _ _ (and-right (isConnecting (x .state)) _ g) in
         if-cases (S G) _
         (λ z. steps-one G _ s _ (leb-false _ _ e)
@@ -549,7 +547,7 @@ module _ (t : Table) (fit : Fit t) (v w : Window) where
         if-cases (S G) _ (λ _ i l. stay (code-16 _ _ _ _ _ c refl))
         (λ e.
         let f : connectedTo link (ind .cid) x ≡ true = found-passes t fit (connectedTo link (ind .cid)) e in
-        let k-is : x .state ≡ Connected = is-connected (x .state) (and-left (isConnected (x .state)) _ f) in
+        let k-is : x .state ≡ Connected = connected-is (x .state) (and-left (isConnected (x .state)) _ f) in
         let l-is : x .link ≡ link = eqb-true _ _ (and-left (eqb (x .link) link) _ (and-right (isConnected (x .state)) _ f)) in
         let to : (i : ℕ) → grantsTo t i link (leCreditFlowInd (bodyIn pdu)) ≡ eqb i s = λ i. ap (grantsTo t i link) q in
         if-cases (S G) _
@@ -720,7 +718,7 @@ module _ (t : Table) (fit : Fit t) (link : ℕ) (payload : List ℕ) where
       (λ _.
       let j : Joined = joinStep (y .mtu) (y .mps) (t .d) (y .assembly) (y .queue .count) (length head + count) (u16At head 0) in
       subst (λ (c : ℕ). Steps t (frame link c payload) (joined t s (withAccount (received (y .account) 1) y) count j)) (cid-back t cid (not-false _ e))
-      (joined-steps s (cid-slot t cid (not-false _ e)) (is-connected (y .state) (not-false _ f)) (eqb-true _ _ (not-false _ g)) count j
+      (joined-steps s (cid-within t cid (not-false _ e)) (connected-is (y .state) (not-false _ f)) (eqb-true _ _ (not-false _ g)) count j
       (step-overruns (y .mtu) (y .mps) (t .d) (y .assembly) (y .queue .count) (length head + count) (u16At head 0))))))))
 
 -- ---- a send, and link down
@@ -745,7 +743,7 @@ module _ (t : Table) (fit : Fit t) (s : ℕ) (sdu : List ℕ) (w : Window) where
   unfolding send
   send-steps l out =
       gate-cases (Steps t D) t _ _ _ _ (λ r h i u. stay-send (and-off _ (refused-not-0 r)))
-      (λ h. if-cases (Steps t D) _ (λ _ i u. stay-send refl) (λ e. planned-steps l out h (is-connected (slotAt t s .state) (not-false _ e)) _ refl))
+      (λ h. if-cases (Steps t D) _ (λ _ i u. stay-send refl) (λ e. planned-steps l out h (connected-is (slotAt t s .state) (not-false _ e)) _ refl))
 
 down-steps : (t : Table) → Fit t → (room link : ℕ) → Steps t (down link) (disconnected t room link)
 unfolding disconnected

@@ -59,7 +59,8 @@ use Rattle.definition.specs.Asking.{registerSpsm, attention, query, sendSignal}
 use Rattle.definition.specs.Calls.{Window, frame, sends, down, plain, Request, register, signals, pends, rejectsAll, accepts, rejects, drops, creates, opens, gives, holds, releases, leaves, leavesCid, announces, takes, attends, asks, sendsSignal, writes, bare, decide, serve}
 use Rattle.definition.specs.Numbers.{refused-not-0}
 use Rattle.definition.specs.Forms.{Fit, found-passes}
-use Rattle.rules_steps.specs.Tools.{gate-cases, is-pending, is-connected, is-peer-leaving, is-unannounced}
+use Rattle.definition.specs.Tells.{pending-is, connected-is}
+use Rattle.rules_steps.specs.Tools.{gate-cases, is-peer-leaving, is-unannounced}
 use Rattle.rules_steps.specs.Told.{connect, credits, parameters, Replies, accepted, rejected, cleared, repliedTo, not-understood, not-connected, not-valid, request, refused-12, refused-13, reply, silent, frame-in, frames-out, link-down, own, Told, uses, keeps, Tells, EveryCallTells}
 use Rattle.rules_steps.specs.Told as Told
 
@@ -102,7 +103,7 @@ module _ (t : Table) (fit : Fit t) (v w : Window) where
       (λ e.
       let x = slotAt t (found (unheldPendingOf link) t) in
       let p : pendingOf link x ≡ true = and-left (pendingOf link x) _ (found-passes t fit (unheldPendingOf link) e) in
-      keeps (reply (cleared (is-pending (x .state) (and-left (isPeerConnecting (x .state)) _ p)) (eqb-true (x .link) link (and-right (isPeerConnecting (x .state)) _ p))))))
+      keeps (reply (cleared (pending-is (x .state) (and-left (isPeerConnecting (x .state)) _ p)) (eqb-true (x .link) link (and-right (isPeerConnecting (x .state)) _ p))))))
 
   accept-pending : (signal s : ℕ) (c : L2capChannelConfig) → P (accepts s c) (acceptPending t signal s c)
   unfolding acceptPending
@@ -112,7 +113,7 @@ module _ (t : Table) (fit : Fit t) (v w : Window) where
       (λ _. if-cases Q _ (λ _. keeps (silent refl))
       (λ _. if-cases Q _ (λ _. keeps (silent refl))
       (λ _. if-cases Q _ (λ _. keeps (silent refl))
-      (λ e. if-cases Q _ (λ _. keeps (silent refl)) (λ _. keeps (reply (accepted (is-pending (slotAt t s .state) (not-false _ e)))))))))
+      (λ e. if-cases Q _ (λ _. keeps (silent refl)) (λ _. keeps (reply (accepted (pending-is (slotAt t s .state) (not-false _ e)))))))))
 
   reject-pending : (room signal s : ℕ) (result : ResultRead) → P (rejects s result) (rejectRead t room signal s result)
   unfolding rejectPending notCode
@@ -120,7 +121,7 @@ module _ (t : Table) (fit : Fit t) (v w : Window) where
       let Q = P (rejects s (Known result)) in
       gate-cases Q t _ _ _ _ (λ r h. keeps (silent refl))
       (λ _. if-cases Q _ (λ _. keeps (silent refl))
-      (λ e. if-cases Q _ (λ _. keeps (silent refl)) (λ _. keeps (reply (rejected (is-pending (slotAt t s .state) (not-false _ e)))))))
+      (λ e. if-cases Q _ (λ _. keeps (silent refl)) (λ _. keeps (reply (rejected (pending-is (slotAt t s .state) (not-false _ e)))))))
   reject-pending room signal s Unknown = gate-cases (P (rejects s Unknown)) t _ _ _ _ (λ r h. keeps (silent refl)) (λ _. keeps (silent refl))
 
   drop-pending : (room s : ℕ) → P (drops s) (dropPending t room s)
@@ -274,7 +275,7 @@ module _ (t : Table) (fit : Fit t) (v w : Window) where
   taken-tells : (s size : ℕ) (g : Grant) → grantIn (slotAt t s) ≡ g → P (takes s) (taken t s (slotAt t s) size g)
   unfolding taken
   taken-tells s size Grant.Nothing e = keeps (silent refl)
-  taken-tells s size (Grant.Credits n) e = let g = granted-in (slotAt t s) n e in uses (request (credits (is-connected (slotAt t s .state) (g .0)) (g .1)))
+  taken-tells s size (Grant.Credits n) e = let g = granted-in (slotAt t s) n e in uses (request (credits (connected-is (slotAt t s .state) (g .0)) (g .1)))
 
   receive-tells : (room signal s size : ℕ) → P (takes s) (receive t room signal s size)
   unfolding receive

@@ -4,6 +4,7 @@ ghost use lib.ListN.{length};
 ghost use Rattle.run_play.specs.Plays.{Plays, spelledOf};
 ghost use Rattle.run_frames.specs.PlayedFrames.{signalOf, frameOf, sendOf, takeOf};
 use channel::Cid;
+use channel::SIGNAL_MOST;
 use channel::Table;
 use row_call::first;
 use run_play::Played;
@@ -23,7 +24,7 @@ pub fn signal(
 ) -> Played
     ensures { λ r. ⌜ Plays (signalOf t (now (room .entry)) link listening central (now (pdu .entry))) (now (row .entry)) r (now (room .exit)) (now (row .exit)) ⌝ }
 {
-    let mut signal = [0u8; 18];
+    let mut signal = [0u8; SIGNAL_MOST];
     let s = call_signal::signal(t, room, &mut signal, link, listening, central, pdu);
     let answer = s.answer;
     let octets = row_call::answered(row, answer, first(&signal, s.octets));
@@ -77,7 +78,7 @@ pub fn send(
 pub fn take(t: Table, slot: u16, room: &mut [u8], job: &mut [u8], row: &mut [u8]) -> Played
     ensures { λ r. ⌜ Plays (takeOf t (now (room .entry)) (now (job .entry)) slot) (now (row .entry)) r (now (room .exit)) (now (row .exit)) ⌝ }
 {
-    let mut signal = [0u8; 18];
+    let mut signal = [0u8; SIGNAL_MOST];
     let s = call_receive::receive(t, room, &mut signal, slot_of(slot), job);
     let answer = s.answer;
     let octets = row_call::taken(row, answer, job, first(&signal, s.octets));

@@ -2,6 +2,7 @@
 // a lent `row`. What each comes to is defined in specs/Played.antt. Signals, frames and jobs are in `run_frames`.
 ghost use Rattle.run_play.specs.Plays.{Plays};
 ghost use Rattle.run_plain.specs.Played.{plainOf, openedOf};
+use channel::SIGNAL_MOST;
 use channel::Table;
 use row_call::first;
 use run_call::called;
@@ -12,7 +13,7 @@ use script_commands::Command;
 pub fn plain(t: Table, c: Command, room: &mut [u8], row: &mut [u8]) -> Played
     ensures { λ r. ⌜ Plays (plainOf t (now (room .entry)) c) (now (row .entry)) r (now (room .exit)) (now (row .exit)) ⌝ }
 {
-    let mut signal = [0u8; 18];
+    let mut signal = [0u8; SIGNAL_MOST];
     let s = called(t, c, room, &mut signal);
     let answer = s.answer;
     let octets = row_call::answered(row, answer, first(&signal, s.octets));
@@ -24,7 +25,7 @@ pub fn plain(t: Table, c: Command, room: &mut [u8], row: &mut [u8]) -> Played
 pub fn opened(t: Table, c: Command, room: &mut [u8], row: &mut [u8]) -> Played
     ensures { λ r. ⌜ Plays (openedOf t (now (room .entry)) c) (now (row .entry)) r (now (room .exit)) (now (row .exit)) ⌝ }
 {
-    let mut signal = [0u8; 18];
+    let mut signal = [0u8; SIGNAL_MOST];
     let s = called(t, c, room, &mut signal);
     let answer = s.answer;
     let octets = row_call::opened(row, answer);

@@ -9,6 +9,7 @@ use Rattle.text_write.specs.Rows.{Writes}
 use Rattle.text_hex.specs.Hex.{hexOctets}
 use Rattle.text_words.specs.Words.{textOf}
 use Rattle.text_words.specs.declared.Word.{Word}
+use Rattle.channel.specs.Limits.{signalMost}
 use Rattle.channel.specs.declared.Table.{Table}
 use Rattle.definition.specs.Table.{roomWidth, sizesFit}
 use Rattle.definition.specs.Ending.{End}
@@ -35,7 +36,7 @@ abbrev pub ended : End → (text : List ℕ) → Play
 ended e text = play (e .served .table) (e .room) text
 
 abbrev pub lentSignal : List ℕ
-lentSignal = replicate 18 0
+lentSignal = replicate signalMost 0
 
 -- what it wrote to the lent buffer
 abbrev pub wrote : End → List ℕ

@@ -4,6 +4,11 @@ use codes::Refusal;
 ghost use mathlib.Core.Path.{_≡_};
 ghost use Rattle.sar_cut.specs.Cutting.{frameCount, planSend};
 
+// The least MPS that is sent to (4.22), and the longest job whose frame of one payload has a length of two octets.
+pub const LEAST_MPS: u16 = 23;
+
+pub const LONGEST_JOB: usize = 65533;
+
 // What a send comes to: a refusal, or so many frames of so many octets in all.
 pub enum Plan {
     Refused(Refusal),
@@ -27,10 +32,10 @@ pub fn plan_send(l: usize, mtu: u16, mps: u16, credits: u16, room: usize) -> Pla
     if (mtu as usize) < l {
         return Plan::Refused(Refusal::InsufficientSpace);
     }
-    if 65533 < l {
+    if LONGEST_JOB < l {
         return Plan::Refused(Refusal::TooLong);
     }
-    if mps < 23 {
+    if mps < LEAST_MPS {
         return Plan::Refused(Refusal::BadMps);
     }
     let n = frame_count(l as u16, mps);

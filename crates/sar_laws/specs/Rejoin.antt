@@ -12,7 +12,7 @@ use native.Mathlib.Numerals.{add-one}
 use lib.Dec.{leb}
 use borrow.Author.Tests.{le-leb, lt-leb}
 use Rattle.lists.specs.Choose.{choose, choose-true, choose-false}
-use Rattle.octets.specs.Sets.{sets-append, sets-comm, sets-over, part-length, part-same, part-after}
+use Rattle.octets.specs.Sets.{sets-append, sets-comm, part-length, part-same, part-after, sets-hide}
 use Rattle.sar_cut.specs.declared.Plan.the-variants.{Frames}
 use Rattle.sar_cut.specs.Cutting.{frameCount, stream, pieces, payloads, frame, planSend}
 use Rattle.sar_cut.specs.CutLaws.{split, plan-allowed}
@@ -28,17 +28,6 @@ use Rattle.sar_join.specs.JoinLaws.{reached-part, reached-whole, first-reaches,
 use Rattle.sar_join_room.specs.PlaceLaws.{grow-first, grow-next, finish-first, finish-joined}
 use Rattle.sar_join_room.specs.RoomLaws.{within}
 use Rattle.sar_laws.specs.Run.{Side, ran, after, stepOn, run}
-
--- what is written over no more than what was written is all that stays
-pub sets-cover : (xs : List ℕ) (at : ℕ) (ys zs : List ℕ) → length ys ≤ length zs → sets (sets xs at ys) at zs ≡ sets xs at zs
-sets-cover xs at ys zs h =
-    let a = take (length ys) zs in
-    let b = drop (length ys) zs in
-    let l : length a ≡ length ys = length-take-le (length ys) zs h in
-    let w : a ++ b ≡ zs = take-append-drop (length ys) zs in
-    let e : sets (sets xs at ys) at (a ++ b) ≡ sets xs at (a ++ b) =
-    sets-append (sets xs at ys) at a b ∙ ap (λ (r : List ℕ). sets r (at + length a) b) (sets-over xs at ys a (sym l)) ∙ sym (sets-append xs at a b) in
-    rw w at e
 
 -- the part of the room that a whole job leaves: the job at its place's start and, where it took more than one frame, zeros in the place for assembly
 unfoldable pub placesAfter : (mps place queued : ℕ) (sdu xs : List ℕ) → List ℕ
@@ -115,7 +104,7 @@ module _ (m mtu mps d place queued : ℕ) (sdu xs : List ℕ) (jobs : List (List
       rw t at (sym (sets-append ys q (take have sdu) p)) ∙ ap (sets ys q) (take-append-drop have sdu) in
       let c : sets ys q sdu ≡ sets (sets xs q sdu) 0 (take have sdu) = sets-comm xs 0 (take have sdu) q sdu (omega (arith, behind)) in
       let z : sets (sets (sets xs q sdu) 0 (take have sdu)) 0 (replicate place 0) ≡ sets (sets xs q sdu) 0 (replicate place 0) =
-      sets-cover (sets xs q sdu) 0 (take have sdu) (replicate place 0) (omega (arith, length-replicate {A = ℕ} place 0)) in
+      sets-hide (sets xs q sdu) 0 (take have sdu) (replicate place 0) (omega (arith, length-replicate {A = ℕ} place 0)) in
       let f : finish place a q ys p ≡ sets (sets xs q sdu) 0 (replicate place 0) =
       sym (rw (part-all p, u) at (finish-joined a ys p place q (λ n. omega arith))) ∙ ap (λ (r : List ℕ). sets r 0 (replicate place 0)) (v ∙ c) ∙ z in
       step-is mtu mps d place (open-at have) p (Finished (length sdu)) e

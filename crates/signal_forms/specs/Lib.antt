@@ -1,2 +1,3 @@
--- A refused connect response.
+-- A refused connect response; the longest signal.
 pub mod Forms
+pub mod Limits

@@ -3,6 +3,9 @@ use codes::LeCreditConnResultCode;
 ghost use mathlib.Core.Path.{_≡_};
 ghost use Rattle.signal_forms.specs.Forms.{rejectRes};
 
+// The longest signal that is written, and the least buffer that is taken for any.
+pub const SIGNAL_MOST: usize = 18;
+
 // Code 0x01 (Core Vol 3 Part A 4.1), without the data that Core adds for reasons 1 and 2.
 pub struct CommandRejectRes {
     pub reason: u16,

@@ -12,6 +12,7 @@ use Rattle.octets.specs.Octets.{u16At}
 use Rattle.octets.specs.Numbers.{le16-back}
 use Rattle.signal_forms.specs.declared.Signal.{Signal}
 use Rattle.signal_write.specs.Writer.{pduOf, encodeOf, outOf, encode-short}
+use Rattle.signal_forms.specs.Limits.{signalMost}
 
 -- length and CID stand before a signal (Core Vol 3 Part A 3.1); the length counts what follows the two
 pub pdu-length : (code id : ℕ) (fs : List ℕ) → u16At (pduOf code id fs) 0 ≡ 4 + 2 * length fs
@@ -21,15 +22,15 @@ module _ (id : ℕ) (s : Signal) (l : List ℕ) where
   abbrev x : List ℕ
   x = encodeOf id s
 
-  pub buffer-refused : length l < 18 → outOf l x ≡ l
+  pub buffer-refused : length l < signalMost → outOf l x ≡ l
   unfolding outOf
-  buffer-refused h = choose-true _ _ _ (lt-ltb (length l) 18 h)
+  buffer-refused h = choose-true _ _ _ (lt-ltb (length l) signalMost h)
 
-  module _ (h : 18 ≤ length l) where
+  module _ (h : signalMost ≤ length l) where
     out-is : outOf l x ≡ x ++ drop (length x) l
     unfolding outOf
     out-is =
-        choose-false _ _ _ (le-ltb (length l) 18 h)
+        choose-false _ _ _ (le-ltb (length l) signalMost h)
         ∙ sets-eq x l 0 (omega (arith, encode-short id s)) ∙ rw (zero-add (length x))
 
     pub buffer-back : take (length x) (outOf l x) ≡ x

@@ -9,6 +9,7 @@ use borrow.Author.Tests.{lt-ltb, le-ltb}
 use Rattle.lists.specs.Choose.{choose}
 pub use Rattle.signal_write_pdu.specs.Pdu.{octetsOf, headOf, pduOf}
 use Rattle.codes.specs.Codes.{resultNumber}
+use Rattle.signal_forms.specs.Limits.{signalMost}
 use Rattle.signal_forms.specs.declared.Signal.{Signal}
 use Rattle.signal_forms.specs.declared.Signal.the-variants.{CommandRejectRes, DisconnectionReq, DisconnectionRes, ConnParamUpdateReq, ConnParamUpdateRes, LeCreditConnReq, LeCreditConnRes, LeCreditFlowInd}
 use Rattle.signal_write.specs.declared.SignalWritten.{SignalWritten}
@@ -38,19 +39,19 @@ fieldsOf (LeCreditFlowInd f) = f .cid ∷ f .credits ∷ []
 unfoldable pub encodeOf : ℕ → Signal → List ℕ
 encodeOf id s = pduOf (codeOf s) id (fieldsOf s)
 
--- what is answered, and what the buffer l holds, once the octets x were to be written: a buffer under 18 octets is refused
+-- what is answered, and what the buffer l holds, once the octets x were to be written: a buffer under `signalMost` octets is refused
 unfoldable pub writtenOf : List ℕ → List ℕ → SignalWritten
-writtenOf l x = choose (ltb (length l) 18) NoRoom (Octets (length x))
+writtenOf l x = choose (ltb (length l) signalMost) NoRoom (Octets (length x))
 
 unfoldable pub outOf : List ℕ → List ℕ → List ℕ
-outOf l x = choose (ltb (length l) 18) l (sets l 0 x)
+outOf l x = choose (ltb (length l) signalMost) l (sets l 0 x)
 
 pub record Writes (l x : List ℕ) (r : SignalWritten) (out : List ℕ) : Type 0 where
   pub answer : r ≡ writtenOf l x
   pub buffer : out ≡ outOf l x
 
--- no signal is longer than 18 octets
-pub encode-short : (id : ℕ) (s : Signal) → length (encodeOf id s) ≤ 18
+-- no signal is longer
+pub encode-short : (id : ℕ) (s : Signal) → length (encodeOf id s) ≤ signalMost
 unfolding encodeOf
 encode-short id (CommandRejectRes f) = lit≤ tt
 encode-short id (DisconnectionReq f) = lit≤ tt
@@ -62,11 +63,11 @@ encode-short id (LeCreditConnRes f) = lit≤ tt
 encode-short id (LeCreditFlowInd f) = lit≤ tt
 
 -- the two ways that a buffer is met
-pub writes-none : {l x : List ℕ} → length l < 18 → Writes l x NoRoom l
+pub writes-none : {l x : List ℕ} → length l < signalMost → Writes l x NoRoom l
 unfolding writtenOf outOf choose
-writes-none {l} h = let e = lt-ltb (length l) 18 h in record { answer = rw e; buffer = rw e }
+writes-none {l} h = let e = lt-ltb (length l) signalMost h in record { answer = rw e; buffer = rw e }
 
-pub writes-all : {l out : List ℕ} (id : ℕ) {s s′ : Signal} → s ≡ s′ → 18 ≤ length l → out ≡ sets l 0 (encodeOf id s′)
+pub writes-all : {l out : List ℕ} (id : ℕ) {s s′ : Signal} → s ≡ s′ → signalMost ≤ length l → out ≡ sets l 0 (encodeOf id s′)
     → Writes l (encodeOf id s) (Octets (length (encodeOf id s′))) out
 unfolding writtenOf outOf choose
-writes-all {l} id e h p = let f = le-ltb (length l) 18 h in record { answer = rw (e, f); buffer = rw (e, f) p }
+writes-all {l} id e h p = let f = le-ltb (length l) signalMost h in record { answer = rw (e, f); buffer = rw (e, f) p }

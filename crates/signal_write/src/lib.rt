@@ -1,4 +1,5 @@
 // A signal, written: the PDU that its form's code and fields make (Core Vol 3 Part A 3.1 and 4). The one writer of all replies and requests.
+use signal_forms::SIGNAL_MOST;
 use signal_forms::Signal;
 use signal_write_pdu::put_five;
 use signal_write_pdu::put_four;
@@ -6,20 +7,17 @@ use signal_write_pdu::put_one;
 use signal_write_pdu::put_two;
 ghost use Rattle.signal_write.specs.Writer.{encodeOf, Writes};
 
-// The longest signal, and the least buffer that is taken for any.
-pub const SIGNAL_ROOM: usize = 18;
-
 pub enum SignalWritten {
     // Refusal 3.
     NoRoom,
     Octets(usize),
 }
 
-// Writes a signal from the buffer's start; a buffer under SIGNAL_ROOM is left as it is, whatever the signal.
+// Writes a signal from the buffer's start; a buffer under SIGNAL_MOST octets is left as it is, whatever the signal.
 pub fn write_signal(out: &mut [u8], id: u8, s: Signal) -> SignalWritten
     ensures { λ r. ⌜ Writes (now (out .entry)) (encodeOf id s) r (now (out .exit)) ⌝ }
 {
-    if out.len() < SIGNAL_ROOM {
+    if out.len() < SIGNAL_MOST {
         return SignalWritten::NoRoom;
     }
     match s {

@@ -30,11 +30,11 @@ pub alters-telling : (t : Table) (s : ℕ) (x : Slot) (a : Answer) {l xs l′ : 
 alters-telling t s x a {l} {xs} e w t₀ room job = rw (e, w .octets, w .buffer) (sym (end-slot-given t₀ t s x a [] room l job xs))
 
 -- a slot's part is moved in, and nothing is written
-pub moves-in : (t : Table) (s : ℕ) (x : Slot) (ms : List Move) (a : Answer) (room : List ℕ) {r : Served} {room′ : List ℕ} → r ≡ gave a (putSlot t s x) 0
-    → room′ ≡ parts itself [] (width t) (only s ms) room
-    → (out job : List ℕ) → end r room′ out job ≡ endOf t [] room out job (change t s x ms a [])
+pub moves-in : (t : Table) (s : ℕ) (x : Slot) (ms : List Move) (a : Answer) (jobs room : List ℕ) {r : Served} {room′ : List ℕ} → r ≡ gave a (putSlot t s x) 0
+    → room′ ≡ parts itself jobs (width t) (only s ms) room
+    → (out job : List ℕ) → end r room′ out job ≡ endOf t jobs room out job (change t s x ms a [])
 unfolding endOf sizes written fills
-moves-in t s x ms a room e h out job = rw (e, h)
+moves-in t s x ms a jobs room e h out job = rw (e, h)
 
 -- the same with a signal written
 pub moves-in-telling : (t : Table) (s : ℕ) (x : Slot) (ms : List Move) (a : Answer) (room : List ℕ) {r : Served} {room′ l xs l′ : List ℕ} {n : ℕ} → r ≡ gave a (putSlot t s x) n

@@ -17,22 +17,23 @@ use Rattle.definition.specs.Mem.{given}
 use Rattle.definition.specs.Table.{width, putSlot}
 use Rattle.definition.specs.Outcome.{change}
 use Rattle.definition.specs.Ending.{end, endOf, gave, written-given, sizes-given, written-none, parts-none}
+use Rattle.channel.specs.Limits.{signalMost}
 
 pub record Replied (l xs : List ℕ) (n : ℕ) (out : List ℕ) : Type 0 where
   pub octets : n ≡ length xs
   pub buffer : out ≡ sets l 0 xs
 
-pub replied : {l xs out : List ℕ} {r : SignalWritten} {n : ℕ} → 18 ≤ length l → Writes l xs r out → r ≡ Octets n → Replied l xs n out
+pub replied : {l xs out : List ℕ} {r : SignalWritten} {n : ℕ} → signalMost ≤ length l → Writes l xs r out → r ≡ Octets n → Replied l xs n out
 unfolding writtenOf outOf choose
 replied {l} {xs} {out} {r} {n} h w e =
-    let f = le-ltb (length l) 18 h in
+    let f = le-ltb (length l) signalMost h in
     let a : Octets n ≡ Octets (length xs) = sym e ∙ w .answer ∙ rw f in
     record { octets = cc; buffer = w .buffer ∙ rw f }
 
-pub refused : {l xs out : List ℕ} {r : SignalWritten} → 18 ≤ length l → Writes l xs r out → r ≡ NoRoom → ⊥
+pub refused : {l xs out : List ℕ} {r : SignalWritten} → signalMost ≤ length l → Writes l xs r out → r ≡ NoRoom → ⊥
 unfolding writtenOf outOf choose
 refused {l} {xs} {out} {r} h w e =
-    let f = le-ltb (length l) 18 h in
+    let f = le-ltb (length l) signalMost h in
     let a : NoRoom ≡ Octets (length xs) = sym e ∙ w .answer ∙ rw f in
     let z : _≡_ {A = ℕ} 0 1 = cc in omega arith
 

@@ -1,3 +1,4 @@
 pub mod Sizes
 pub mod Passed
+pub mod Behind
 pub mod Fits

@@ -1,19 +1,16 @@
 -- What a call may rely on once the first refusals let it pass. It follows from the definition of `verdict`, test by test.
-use mathlib.Core.Path.{_≡_, refl}
-use mathlib.Core.Bool.{Bool, true, false, not}
+use mathlib.Core.Path.{_≡_}
+use mathlib.Core.Bool.{Bool, true, false}
 use Prim.Native.Nat.{ℕ, _≤_, _<_}
-use native.Mathlib.Omega.{arith}
 use borrow.Author.Tests.{ltb-false, leb-false, eqb-true, not-false}
-use Rattle.lists.specs.Choose.{choose}
-use Rattle.codes.specs.declared.Refusal.{Refusal}
 use Rattle.channel.specs.Limits.{signalMost, handleMost}
 use Rattle.channel.specs.declared.Given.{Given}
 use Rattle.channel.specs.declared.Given.the-variants.{Nothing, Is}
-use Rattle.channel.specs.declared.Verdict.{Verdict}
-use Rattle.channel.specs.declared.Verdict.the-variants.{Pass, Stop}
+use Rattle.channel.specs.declared.Verdict.the-variants.{Pass}
 use Rattle.channel.specs.declared.Table.{Table}
 use Rattle.definition.specs.Table.{wellFormed, roomSize}
 use Rattle.definition.specs.Outcome.{fails, verdict}
+use Rattle.definition.specs.Tells.{not-stopped}
 use Rattle.table_gate_sizes.specs.Sizes.{Sized, formed-sizes}
 
 -- P holds of the number, if one was given
@@ -33,20 +30,14 @@ good : (bad : ℕ → Bool) (P : ℕ → Type 0) (g : Given) → ((x : ℕ) → 
 good bad P Nothing f e = tt
 good bad P (Is x) f e = f x e
 
--- a refusal that does not come, and then what follows it
-next : (b : Bool) (r : Refusal) (v : Verdict) → choose b (Stop r) v ≡ Pass → (b ≡ false) × (v ≡ Pass)
-unfolding choose
-next true r v e = let z : _≡_ {A = ℕ} 0 1 = cc in absurd (omega arith)
-next false r v e = (refl, e)
-
 pub passed : (t : Table) (room signal link slot : Given) → verdict t room signal link slot ≡ Pass → Passed t room signal link slot
 unfolding verdict
 passed t room signal link slot e0 =
-    let (h1, e1) = next _ _ _ e0 in
-    let (h2, e2) = next _ _ _ e1 in
-    let (h3, e3) = next _ _ _ e2 in
-    let (h4, e4) = next _ _ _ e3 in
-    let (h5, e5) = next _ _ _ e4 in
+    let (h1, e1) = not-stopped _ _ _ e0 in
+    let (h2, e2) = not-stopped _ _ _ e1 in
+    let (h3, e3) = not-stopped _ _ _ e2 in
+    let (h4, e4) = not-stopped _ _ _ e3 in
+    let (h5, e5) = not-stopped _ _ _ e4 in
     let f = not-false (wellFormed t) h1 in
     record {
       formed = f;

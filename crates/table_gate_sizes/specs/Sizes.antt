@@ -1,10 +1,11 @@
 -- What sizes within the limits tell: how large a slot's part of the room and the room are, and where a part lies in it.
 -- The products are bounded here, once; what follows is arithmetic.
-use mathlib.Core.Path.{_≡_, refl}
-use mathlib.Core.Bool.{Bool, true, false, _&&_, false≢true}
+use mathlib.Core.Path.{_≡_}
+use mathlib.Core.Bool.{true}
 use Prim.Native.Nat.{ℕ, suc, _+_, _-_, _*_, _≤_, _<_}
 use native.Mathlib.Nat.{mul-le-mul, mul-le-mul-right, suc-mul}
 use native.Mathlib.Omega.{arith}
+use Rattle.lists.specs.Both.{both}
 use borrow.Author.Tests.{leb-true}
 use Rattle.channel.specs.Limits.{slotsMost, depthMost, packetLeast, packetMost}
 use Rattle.channel.specs.declared.Table.{Table}
@@ -19,11 +20,6 @@ pub record Sized (n d m : ℕ) : Type 0 where
   pub d-most : d ≤ depthMost
   pub m-least : packetLeast ≤ m
   pub m-most : m ≤ packetMost
-
--- of a test that is two
-pub both : (a b : Bool) → (a && b) ≡ true → (a ≡ true) × (b ≡ true)
-both true b e = (refl, e)
-both false b e = absurd (false≢true e)
 
 pub sizes-fit : (n d m : ℕ) → sizesFit n d m ≡ true → Sized n d m
 sizes-fit n d m e0 =

@@ -47,6 +47,7 @@ pub fn index_at(s: usize) -> ChannelIndex
     ChannelIndex(s as u8)
 }
 
+// The CID of a slot, and the slot that a CID names: every other crate asks these two.
 pub fn cid_of(i: ChannelIndex) -> Cid
     ensures { λ r. ⌜ r .0 ≡ cidOf (i .0) ⌝ }
 {

@@ -5,12 +5,13 @@ use mathlib.Core.List.{List, [], _∷_, _++_, append-assoc, append-nil, map}
 use Prim.Native.Nat.{ℕ, zero, suc, _+_, _-_, _*_, _≤_}
 use native.Mathlib.Nat.{suc-mul, zero-mul, zero-add, add-comm}
 use native.Mathlib.Omega.{arith}
-use lib.ListN.{length, take, drop, replicate, length-take, length-append, length-map, length-replicate, drop-of-length-le}
-use lib.Seq.{sets, sets-eq, drop-drop, take-add, length-sets, take-at, drop-at}
+use lib.ListN.{length, take, drop, replicate, length-take, length-append, length-replicate, drop-of-length-le}
+use lib.Seq.{sets, sets-eq, drop-drop, take-add, take-at, drop-at}
 use borrow.Rule.Slice.PartMut.{midOf, putMid, post-is}
 use Rattle.octets.specs.Octets.{part}
 use Rattle.octets.specs.Sets.{store, cut-at, mid-part, part-length}
-use Rattle.definition.specs.Mem.{Fill, zeros, Move, put, wipe, fill, move, moves, parts}
+use Rattle.definition.specs.Mem.{Fill, zeros, Move, put, fill, move, moves, parts}
+use Rattle.definition.specs.Lengths.{length-moves}
 use Rattle.definition.specs.Outcome.{only}
 
 -- zeros all over
@@ -27,16 +28,6 @@ wiped z w xs e =
     ∙ ap (λ n. replicate n z) (sym e) ∙ zeros-all z xs
 
 module _ {A : Type 0} (octet : ℕ → A) (js : List A) where
-  pub move-length : (xs : List A) (m : Move) → length (move octet js xs m) ≡ length xs
-  unfolding move
-  move-length xs (put at f) = length-sets xs at (fill octet js xs f)
-  move-length xs wipe = length-map xs (λ _. octet 0)
-
-  pub moves-length : (ms : List Move) (xs : List A) → length (moves octet js xs ms) ≡ length xs
-  unfolding moves
-  moves-length [] xs = refl
-  moves-length (m ∷ ms) xs = moves-length ms (move octet js xs m) ∙ move-length xs m
-
   pub moves-append : (ms ns : List Move) (xs : List A) → moves octet js xs (ms ++ ns) ≡ moves octet js (moves octet js xs ms) ns
   unfolding moves
   moves-append [] ns xs = refl
@@ -110,7 +101,7 @@ module _ {A : Type 0} (octet : ℕ → A) (js : List A) where
       let y = part room (s * w) w in
       let z = drop (s * w + w) room in
       let y′ = moves octet js y ms in
-      let l : length y′ ≡ w = moves-length ms y ∙ part-length room (s * w) w h in
+      let l : length y′ ≡ w = length-moves octet js y ms ∙ part-length room (s * w) w h in
       parts-only w s (ms ++ ns) room
       ∙ ap (λ (r : List A). x ++ r ++ z) (moves-append ms ns y)
       ∙ sym (ap (parts octet js w (only s ns)) (parts-only w s ms room)

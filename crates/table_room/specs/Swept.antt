@@ -11,7 +11,8 @@ use Rattle.octets.specs.Octets.{part}
 use Rattle.octets.specs.Sets.{part-length}
 use Rattle.definition.specs.Mem.{Move, moves, parts}
 use Rattle.definition.specs.Outcome.{only}
-use Rattle.table_room.specs.Parts.{moves-length, parts-only}
+use Rattle.definition.specs.Lengths.{length-moves}
+use Rattle.table_room.specs.Parts.{parts-only}
 
 -- the moves mss of the slots from i on
 abbrev from : {A : Type 0} → (ℕ → A) → List A → ℕ → ℕ → List (List Move) → List A → List A
@@ -30,7 +31,7 @@ one {A} octet js w i mss none room room′ h l r =
     let z = drop (i * w + w) room in
     let n : (i + 1) * w ≡ i * w + w = rw (add-one i) (suc-mul i w) in
     let m : length (x ++ y) ≡ i * w + w =
-    length-append x y ∙ omega (arith, length-take (i * w) room, moves-length octet js ms (part room (i * w) w), part-length room (i * w) w l) in
+    length-append x y ∙ omega (arith, length-take (i * w) room, length-moves octet js (part room (i * w) w) ms, part-length room (i * w) w l) in
     let g : room′ ≡ x ++ y ++ z = r ∙ parts-only octet js w i ms room in
     let t : take ((i + 1) * w) room′ ≡ x ++ y = ap₂ take n g ∙ take-at (x ++ y) z (i * w + w) m in
     let d : drop ((i + 1) * w) room′ ≡ z = ap₂ drop n g ∙ drop-at (x ++ y) z (i * w + w) m in

@@ -9,7 +9,6 @@ ghost use lib.Dec.{ltb};
 ghost use Rattle.channel.specs.Limits.{packetLeast, packetMost, depthMost};
 ghost use Rattle.definition.specs.Pending.{settled, mtuOf, mpsOf, creditsOf, acceptedAs, accepting};
 ghost use Rattle.definition.specs.Opening.{attemptAs, asking};
-use channel::CID_BASE;
 use channel::ChannelState;
 use channel::FRAME_HEAD;
 use channel::JOB_HEAD;
@@ -90,8 +89,9 @@ pub fn response(s: usize, mtu: u16, mps: u16, credits: u16) -> LeCreditConnRes
     requires { ⌜ s < 256 ⌝ }
     ensures { λ r. ⌜ r ≡ accepting s mtu mps credits ⌝ }
 {
+    let cid = table_identifiers::cid_of(table_identifiers::index_at(s));
     LeCreditConnRes {
-        dcid: CID_BASE + s as u16,
+        dcid: cid.0,
         mtu,
         mps,
         credits,
@@ -133,9 +133,10 @@ pub fn request(s: usize, spsm: u16, mtu: u16, mps: u16, credits: u16) -> LeCredi
     requires { ⌜ s < 256 ⌝ }
     ensures { λ r. ⌜ r ≡ asking s spsm mtu mps credits ⌝ }
 {
+    let cid = table_identifiers::cid_of(table_identifiers::index_at(s));
     LeCreditConnReq {
         spsm,
-        scid: CID_BASE + s as u16,
+        scid: cid.0,
         mtu,
         mps,
         credits,

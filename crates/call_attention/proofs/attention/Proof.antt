@@ -4,6 +4,7 @@ use Rattle.channel.specs.declared.Answer.{Answer}
 use Rattle.definition.specs.Mem.{sizes}
 use Rattle.definition.specs.Ending.{gave}
 use Rattle.definition.specs.Asking.{attention}
+use Rattle.table_gate.specs.Behind.{on, stopped}
 use borrow.Author.Needs.{needs}
 use Rattle.call_attention.proofs.attention.Statement.{statement}
 use Rattle.call_attention.proofs.attention.Tie as tie
@@ -27,22 +28,18 @@ still-requires : tie.Need-still-requires
 still-requires c κs = search needs
 
 returns : tie.Need-returns
-unfolding sizes attention
+unfolding attention
 returns c =
-    rw (
-      ← c .before .before .before .before .gate .ensures,
-      c .before .before .r .given .1,
-      c .refused .ensures,
-    )
+    rw (stopped (c .before .before .before .before .gate .ensures) (c .before .before .r .given .1)) (c .refused .ensures)
 
 returns-2 : tie.Need-returns-2
 unfolding sizes attention
 returns-2 c =
+    let b = c .before .before in
     rw (
-      ← c .before .before .before .before .gate .ensures,
-      c .before .before .enum-told .given .1,
+      on (b .before .before .gate .ensures) (b .enum-told .given .1),
       c .still .ensures,
-    ) (ap (λ (a : Answer). gave a (c .before .before .before .before .before .args .t) 0) (c .before .attention .ensures))
+    ) (ap (λ (a : Answer). gave a (b .before .before .before .args .t) 0) (c .before .attention .ensures))
 
 pub attention-spec : {M : Type 1} → statement M
 attention-spec =

@@ -1,11 +1,7 @@
 -- `call_disconnect::disconnect` meets its contract: behind the gate code and definition make the same tests in the same order.
-use mathlib.Core.Path.{sym, _∙_}
-use Rattle.definition.specs.Ending.{end-still}
-use Rattle.table_gate.specs.Passed.{passed}
 use Rattle.table_room.specs.Placed.{room-of}
-use Rattle.lists.specs.Choose.{choose}
-use Rattle.definition.specs.Mem.{sizes}
 use Rattle.definition.specs.Closing.{disconnect}
+use Rattle.table_gate.specs.Behind.{behind, on, stopped, ended}
 use borrow.Author.Needs.{needs}
 use Rattle.call_disconnect.proofs.disconnect.Statement.{statement}
 use Rattle.call_disconnect.proofs.disconnect.Tie as tie
@@ -27,29 +23,28 @@ enum-told c = search needs
 
 disconnecting-requires : tie.Need-disconnecting-requires
 disconnecting-requires c κs =
-    let p = passed _ _ _ _ _ (sym (c .before .before .before .gate .ensures) ∙ c .before .enum-told .given .1) in
+    let p = behind (c .before .before .before .gate .ensures) (c .before .enum-told .given .1) in
     (room-of p, p .slot-is)
 
 returns : tie.Need-returns
-unfolding choose sizes disconnect
+unfolding disconnect
 returns c =
+    let g = c .before .before .before .before in
     rw (
-      ← c .before .before .before .before .before .number .ensures,
-      ← c .before .before .before .before .gate .ensures,
-      c .before .before .r .given .1,
-      c .refused .ensures,
-    ) (sym (end-still _ _ _ _ _ _ _))
+      ← g .before .number .ensures,
+      stopped (g .gate .ensures) (c .before .before .r .given .1),
+    ) (ended (c .refused .ensures) _ _)
 
 same-length : tie.Need-same-length
 same-length c = search needs
 
 returns-2 : tie.Need-returns-2
-unfolding choose sizes disconnect
+unfolding disconnect
 returns-2 c =
+    let b = c .before .before .before .before in
     rw (
-      ← c .before .before .before .before .before .before .before .number .ensures,
-      ← c .before .before .before .before .before .before .gate .ensures,
-      c .before .before .before .before .enum-told .given .1,
+      ← b .before .before .before .number .ensures,
+      on (b .before .before .gate .ensures) (b .enum-told .given .1),
     ) (c .before .before .disconnecting .ensures)
 
 pub disconnect-spec : {M : Type 1} → statement M

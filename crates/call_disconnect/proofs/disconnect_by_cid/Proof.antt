@@ -1,15 +1,13 @@
 -- `call_disconnect::disconnect_by_cid` meets its contract: behind the gate code and definition make the same tests in the same order.
 use mathlib.Core.Path.{sym, ap, _∙_}
-use Rattle.definition.specs.Ending.{end-still}
-use Rattle.table_gate.specs.Passed.{passed}
 use Rattle.table_room.specs.Placed.{room-of}
 use Rattle.lists.specs.Choose.{choose}
-use Rattle.definition.specs.Mem.{sizes}
 use Rattle.definition.specs.Closing.{disconnectByCid}
 use native.Mathlib.Omega.{arith}
+use Rattle.table_gate.specs.Behind.{behind, on, stopped, ended}
 use borrow.Author.Needs.{needs}
 use Rattle.channel.specs.declared.ChannelIndex.{ChannelIndex}
-use Rattle.table.specs.Named.{named}
+use Rattle.definition.specs.Tells.{cid-within}
 use Rattle.call_disconnect.proofs.disconnect_by_cid.Statement.{statement}
 use Rattle.call_disconnect.proofs.disconnect_by_cid.Tie as tie
 
@@ -30,9 +28,10 @@ is-cid-requires c κs = search needs
 
 slot-of-requires : tie.Need-slot-of-requires
 slot-of-requires c κs =
-    let p = passed _ _ _ _ _ (sym (c .before .before .before .before .gate .ensures) ∙ c .before .before .enum-told .given .1) in
-    let g = c .before .before .before .before .before .before .args in
-    let h = named (g .t) (g .cid .0) (sym (c .before .is-cid .ensures) ∙ c .if1 .taken) in
+    let b = c .before .before in
+    let p = behind (b .before .before .gate .ensures) (b .enum-told .given .1) in
+    let g = b .before .before .before .before .args in
+    let h = cid-within (g .t) (g .cid .0) (sym (c .before .is-cid .ensures) ∙ c .if1 .taken) in
     omega (arith, h, p .sizes .n-most)
 
 number-requires : tie.Need-number-requires
@@ -40,22 +39,25 @@ number-requires c κs = search needs
 
 disconnecting-requires : tie.Need-disconnecting-requires
 disconnecting-requires c κs =
-    let p = passed _ _ _ _ _ (sym (c .before .before .before .before .before .before .before .gate .ensures) ∙ c .before .before .before .before .before .enum-told .given .1) in
-    let g = c .before .before .before .before .before .before .before .before .before .args in
-    let h = named (g .t) (g .cid .0) (sym (c .before .before .before .before .is-cid .ensures) ∙ c .before .before .before .if1 .taken) in
+    let at1 = c .before .before .before in
+    let b = at1 .before .before in
+    let p = behind (b .before .before .gate .ensures) (b .enum-told .given .1) in
+    let g = b .before .before .before .before .args in
+    let h = cid-within (g .t) (g .cid .0) (sym (at1 .before .is-cid .ensures) ∙ at1 .if1 .taken) in
     (room-of p, rw (c .before .number .ensures ∙ ap (λ (i : ChannelIndex). i .0) (c .before .before .slot-of .ensures)) h)
 
 same-length : tie.Need-same-length
 same-length c = search needs
 
 returns : tie.Need-returns
-unfolding choose sizes disconnectByCid
+unfolding choose disconnectByCid
 returns c =
+    let at1 = c .before .before .before .before .before .before in
+    let b = at1 .before .before in
     rw (
-      ← c .before .before .before .before .before .before .before .before .before .before .gate .ensures,
-      c .before .before .before .before .before .before .before .before .enum-told .given .1,
-      ← c .before .before .before .before .before .before .before .is-cid .ensures,
-      c .before .before .before .before .before .before .if1 .taken,
+      on (b .before .before .gate .ensures) (b .enum-told .given .1),
+      ← at1 .before .is-cid .ensures,
+      at1 .if1 .taken,
       ← (c .before .before .before .before .number .ensures ∙ ap (λ (i : ChannelIndex). i .0) (c .before .before .before .before .before .slot-of .ensures)),
     ) (c .before .before .disconnecting .ensures)
 
@@ -63,24 +65,19 @@ done-requires : tie.Need-done-requires
 done-requires c κs = search needs
 
 returns-2 : tie.Need-returns-2
-unfolding choose sizes disconnectByCid
+unfolding disconnectByCid
 returns-2 c =
-    rw (
-      ← c .before .before .before .before .gate .ensures,
-      c .before .before .r .given .1,
-      c .refused .ensures,
-    ) (sym (end-still _ _ _ _ _ _ _))
+    rw (stopped (c .before .before .before .before .gate .ensures) (c .before .before .r .given .1)) (ended (c .refused .ensures) _ _)
 
 returns-3 : tie.Need-returns-3
-unfolding choose sizes disconnectByCid
+unfolding choose disconnectByCid
 returns-3 c =
+    let b = c .before .before .before in
     rw (
-      ← c .before .before .before .before .before .gate .ensures,
-      c .before .before .before .enum-told .given .1,
+      on (b .before .before .gate .ensures) (b .enum-told .given .1),
       ← c .before .before .is-cid .ensures,
       c .before .if1 .left,
-      c .done .ensures,
-    ) (sym (end-still _ _ _ _ _ _ _))
+    ) (ended (c .done .ensures) _ _)
 
 pub disconnect-by-cid-spec : {M : Type 1} → statement M
 disconnect-by-cid-spec =

@@ -7,7 +7,8 @@ use Rattle.definition.specs.Table.{width}
 use Rattle.definition.specs.Ending.{parts-none}
 use Rattle.table_room.specs.Placed.{placed}
 use Rattle.definition.specs.Frames.{joined}
-use Rattle.call_dispatch_join.specs.Joins.{moves-in, end-leaving}
+use Rattle.table_endings.specs.Endings.{moves-in}
+use Rattle.call_dispatch_join.specs.Joins.{end-leaving}
 use borrow.Author.Needs.{needs}
 use Rattle.call_dispatch_join.proofs.join.Statement.{statement}
 use Rattle.call_dispatch_join.proofs.join.Tie as tie
@@ -84,7 +85,7 @@ returns-2 c =
     let j = c .before .before .before .before .before .before in
     let g = j .before .before .before .before .before .before .before .args in
     let told = c .before .before .enum-told .given .1 in
-    rw (← j .join-part .ensures .0, told) (moves-in (g .t) (g .s) _ _ _ _ _ (rw (c .before .with-assembly .ensures) at (c .changed .ensures)) (rw told at (j .join-part .ensures .1)))
+    rw (← j .join-part .ensures .0, told) (moves-in (g .t) (g .s) _ _ _ _ _ (rw (c .before .with-assembly .ensures) at (c .changed .ensures)) (rw told at (j .join-part .ensures .1)) [] [])
 
 same-length-3 : tie.Need-same-length-3
 same-length-3 c = search needs
@@ -95,7 +96,7 @@ returns-3 c =
     let j = c .before .before .before .before .before .before .before .before .before in
     let g = j .before .before .before .before .before .before .before .args in
     let told = c .before .before .before .before .before .step2 .given .1 in
-    rw (← j .join-part .ensures .0, told) (moves-in (g .t) (g .s) _ _ _ _ _ (rw (c .before .with-queue .ensures, c .before .before .queued .ensures, c .before .before .before .with-assembly2 .ensures) at (c .changed2 .ensures)) (rw told at (j .join-part .ensures .1)))
+    rw (← j .join-part .ensures .0, told) (moves-in (g .t) (g .s) _ _ _ _ _ (rw (c .before .with-queue .ensures, c .before .before .queued .ensures, c .before .before .before .with-assembly2 .ensures) at (c .changed2 .ensures)) (rw told at (j .join-part .ensures .1)) [] [])
 
 same-length-4 : tie.Need-same-length-4
 same-length-4 c = search needs
@@ -106,7 +107,7 @@ returns-4 c =
     let j = c .before .before .before .before .before .before .before in
     let g = j .before .before .before .before .before .before .before .args in
     let told = c .before .before .before .step3 .given .1 in
-    rw (← j .join-part .ensures .0, told) (moves-in (g .t) (g .s) _ _ _ _ _ (rw (c .before .with-assembly3 .ensures) at (c .changed3 .ensures)) (rw told at (j .join-part .ensures .1)))
+    rw (← j .join-part .ensures .0, told) (moves-in (g .t) (g .s) _ _ _ _ _ (rw (c .before .with-assembly3 .ensures) at (c .changed3 .ensures)) (rw told at (j .join-part .ensures .1)) [] [])
 
 pub join-spec : {M : Type 1} → statement M
 join-spec =

@@ -1,13 +1,8 @@
 -- `call_give_up::give_up` meets its contract: behind the gate code and definition make the same tests in the same order.
-use mathlib.Core.Path.{sym, _∙_}
-use mathlib.Core.List.{[]}
-use native.Mathlib.Omega.{arith}
-use Rattle.definition.specs.Ending.{end-still}
-use Rattle.table_gate.specs.Passed.{passed}
 use Rattle.table_room.specs.Placed.{room-of}
 use Rattle.lists.specs.Choose.{choose}
-use Rattle.definition.specs.Mem.{sizes}
 use Rattle.definition.specs.Opening.{giveUp}
+use Rattle.table_gate.specs.Behind.{behind, on, stopped, ended}
 use borrow.Author.Needs.{needs}
 use Rattle.call_give_up.proofs.give_up.Statement.{statement}
 use Rattle.call_give_up.proofs.give_up.Tie as tie
@@ -41,53 +36,54 @@ is-connected-requires c κs = search needs
 
 free-requires : tie.Need-free-requires
 free-requires c κs =
-    let p = passed _ _ _ _ _ (sym (c .before .before .before .before .before .before .before .before .before .gate .ensures) ∙ c .before .before .before .before .before .before .before .enum-told .given .1) in
+    let b = c .before .before .before .before .before .before .before in
+    let p = behind (b .before .before .gate .ensures) (b .enum-told .given .1) in
     (room-of p, p .slot-is)
 
 same-length : tie.Need-same-length
 same-length c = search needs
 
 returns : tie.Need-returns
-unfolding choose sizes giveUp
+unfolding choose giveUp
 returns c =
+    let at1 = c .before .before .before .before in
+    let b = at1 .before .before .before .before .before .before in
     rw (
-      ← c .before .before .before .before .before .before .before .before .before .before .before .before .before .number .ensures,
-      ← c .before .before .before .before .before .before .before .before .before .before .before .before .gate .ensures,
-      c .before .before .before .before .before .before .before .before .before .before .enum-told .given .1,
-      ← c .before .before .before .before .before .before .before .before .before .slot-at .ensures,
-      ← c .before .before .before .before .before .before .before .before .is-connecting .ensures,
-      ← c .before .before .before .before .before .before .before .is-connect-failed .ensures,
-      ← c .before .before .before .before .before .before .is-connected .ensures,
-      c .before .before .before .before .if1 .taken,
+      ← b .before .before .before .number .ensures,
+      on (b .before .before .gate .ensures) (b .enum-told .given .1),
+      ← at1 .before .before .before .before .before .slot-at .ensures,
+      ← at1 .before .before .before .before .is-connecting .ensures,
+      ← at1 .before .before .before .is-connect-failed .ensures,
+      ← at1 .before .before .is-connected .ensures,
+      at1 .if1 .taken,
     ) (c .before .before .free .ensures _ _)
 
 refused-requires-2 : tie.Need-refused-requires-2
 refused-requires-2 c κs = search needs
 
 returns-2 : tie.Need-returns-2
-unfolding choose sizes giveUp
+unfolding giveUp
 returns-2 c =
+    let g = c .before .before .before .before in
     rw (
-      ← c .before .before .before .before .before .number .ensures,
-      ← c .before .before .before .before .gate .ensures,
-      c .before .before .r .given .1,
-      c .refused .ensures,
-    ) (sym (end-still _ _ _ _ _ _ _))
+      ← g .before .number .ensures,
+      stopped (g .gate .ensures) (c .before .before .r .given .1),
+    ) (ended (c .refused .ensures) _ _)
 
 returns-3 : tie.Need-returns-3
-unfolding choose sizes giveUp
+unfolding choose giveUp
 returns-3 c =
+    let w = c .before .before .before .before .before in
+    let b = w .before .before in
     rw (
-      ← c .before .before .before .before .before .before .before .before .before .before .number .ensures,
-      ← c .before .before .before .before .before .before .before .before .before .gate .ensures,
-      c .before .before .before .before .before .before .before .enum-told .given .1,
-      ← c .before .before .before .before .before .before .slot-at .ensures,
-      ← c .before .before .before .before .before .is-connecting .ensures,
+      ← b .before .before .before .number .ensures,
+      on (b .before .before .gate .ensures) (b .enum-told .given .1),
+      ← w .before .slot-at .ensures,
+      ← w .is-connecting .ensures,
       ← c .before .before .before .before .is-connect-failed .ensures,
       ← c .before .before .before .is-connected .ensures,
       c .before .if1 .left,
-      c .refused2 .ensures,
-    ) (sym (end-still _ _ _ _ _ _ _))
+    ) (ended (c .refused2 .ensures) _ _)
 
 pub give-up-spec : {M : Type 1} → statement M
 give-up-spec =

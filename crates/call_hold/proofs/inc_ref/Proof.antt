@@ -3,6 +3,7 @@ use borrow.Author.Tests.{le-leb, lt-leb}
 use Rattle.lists.specs.Choose.{choose}
 use Rattle.definition.specs.Mem.{sizes}
 use Rattle.definition.specs.Closing.{incRef}
+use Rattle.table_gate.specs.Behind.{on, stopped}
 use borrow.Author.Needs.{needs}
 use Rattle.call_hold.proofs.inc_ref.Statement.{statement}
 use Rattle.call_hold.proofs.inc_ref.Tie as tie
@@ -29,16 +30,15 @@ refused-requires-2 : tie.Need-refused-requires-2
 refused-requires-2 c κs = search needs
 
 returns : tie.Need-returns
-unfolding choose sizes incRef
+unfolding choose incRef
 returns c =
+    let b = c .before .before .before in
     rw (
-      ← c .before .before .before .before .before .before .number .ensures,
-      ← c .before .before .before .before .before .gate .ensures,
-      c .before .before .before .enum-told .given .1,
+      ← b .before .before .before .number .ensures,
+      on (b .before .before .gate .ensures) (b .enum-told .given .1),
       ← c .before .before .slot-at .ensures,
       le-leb _ _ (c .before .if1 .taken),
-      c .refused2 .ensures,
-    )
+    ) (c .refused2 .ensures)
 
 add-with-hold : tie.Need-add-with-hold
 add-with-hold c = search needs
@@ -50,22 +50,21 @@ changed-requires : tie.Need-changed-requires
 changed-requires c κs = search needs
 
 returns-2 : tie.Need-returns-2
-unfolding choose sizes incRef
+unfolding incRef
 returns-2 c =
+    let g = c .before .before .before .before in
     rw (
-      ← c .before .before .before .before .before .number .ensures,
-      ← c .before .before .before .before .gate .ensures,
-      c .before .before .r .given .1,
-      c .refused .ensures,
-    )
+      ← g .before .number .ensures,
+      stopped (g .gate .ensures) (c .before .before .r .given .1),
+    ) (c .refused .ensures)
 
 returns-3 : tie.Need-returns-3
 unfolding choose sizes incRef
 returns-3 c =
+    let b = c .before .before .before .before in
     rw (
-      ← c .before .before .before .before .before .before .before .number .ensures,
-      ← c .before .before .before .before .before .before .gate .ensures,
-      c .before .before .before .before .enum-told .given .1,
+      ← b .before .before .before .number .ensures,
+      on (b .before .before .gate .ensures) (b .enum-told .given .1),
       ← c .before .before .before .slot-at .ensures,
       lt-leb _ _ (c .before .before .if1 .left),
       c .changed .ensures,

@@ -1,11 +1,7 @@
 -- `call_link_down::disconnected` meets its contract: behind the gate code and definition make the same tests in the same order.
-use mathlib.Core.Path.{sym, _∙_}
-use Rattle.definition.specs.Ending.{end-still}
-use Rattle.table_gate.specs.Passed.{passed}
 use Rattle.table_room.specs.Placed.{room-of}
-use Rattle.lists.specs.Choose.{choose}
-use Rattle.definition.specs.Mem.{sizes}
 use Rattle.definition.specs.Closing.{disconnected}
+use Rattle.table_gate.specs.Behind.{behind, on, stopped, ended}
 use borrow.Author.Needs.{needs}
 use Rattle.call_link_down.proofs.disconnected.Statement.{statement}
 use Rattle.call_link_down.proofs.disconnected.Tie as tie
@@ -24,28 +20,22 @@ enum-told c = search needs
 
 free-all-requires : tie.Need-free-all-requires
 free-all-requires c κs =
-    let p = passed _ _ _ _ _ (sym (c .before .before .before .gate .ensures) ∙ c .before .enum-told .given .1) in
+    let p = behind (c .before .before .before .gate .ensures) (c .before .enum-told .given .1) in
     room-of p
 
 returns : tie.Need-returns
-unfolding choose sizes disconnected
+unfolding disconnected
 returns c =
-    rw (
-      ← c .before .before .before .before .gate .ensures,
-      c .before .before .r .given .1,
-      c .refused .ensures,
-    ) (sym (end-still _ _ _ _ _ _ _))
+    rw (stopped (c .before .before .before .before .gate .ensures) (c .before .before .r .given .1)) (ended (c .refused .ensures) _ _)
 
 same-length : tie.Need-same-length
 same-length c = search needs
 
 returns-2 : tie.Need-returns-2
-unfolding choose sizes disconnected
+unfolding disconnected
 returns-2 c =
-    rw (
-      ← c .before .before .before .before .before .before .gate .ensures,
-      c .before .before .before .before .enum-told .given .1,
-    ) (c .before .before .free-all .ensures _ _)
+    let b = c .before .before .before .before in
+    rw (on (b .before .before .gate .ensures) (b .enum-told .given .1)) (c .before .before .free-all .ensures _ _)
 
 pub disconnected-spec : {M : Type 1} → statement M
 disconnected-spec =

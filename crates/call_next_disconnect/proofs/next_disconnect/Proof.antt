@@ -1,14 +1,10 @@
 -- `call_next_disconnect::next_disconnect` meets its contract: behind the gate code and definition make the same tests in the same order.
-use mathlib.Core.Path.{sym, _∙_}
-use mathlib.Core.List.{[]}
 use native.Mathlib.Omega.{arith}
-use Rattle.definition.specs.Ending.{end-still}
-use Rattle.table_gate.specs.Passed.{passed}
 use Rattle.table_room.specs.Placed.{room-of}
 use borrow.Author.Tests.{le-leb, lt-leb}
 use Rattle.lists.specs.Choose.{choose}
-use Rattle.definition.specs.Mem.{sizes}
 use Rattle.definition.specs.Closing.{nextDisconnect}
+use Rattle.table_gate.specs.Behind.{behind, on, stopped, ended}
 use borrow.Author.Needs.{needs}
 use Rattle.call_next_disconnect.proofs.next_disconnect.Statement.{statement}
 use Rattle.call_next_disconnect.proofs.next_disconnect.Tie as tie
@@ -32,15 +28,14 @@ done-requires : tie.Need-done-requires
 done-requires c κs = search needs
 
 returns : tie.Need-returns
-unfolding choose sizes nextDisconnect
+unfolding choose nextDisconnect
 returns c =
+    let b = c .before .before .before .before in
     rw (
-      ← c .before .before .before .before .before .before .gate .ensures,
-      c .before .before .before .before .enum-told .given .1,
+      on (b .before .before .gate .ensures) (b .enum-told .given .1),
       ← c .before .before .before .find .ensures,
       le-leb _ _ (c .before .if1 .taken),
-      c .done .ensures,
-    ) (sym (end-still _ _ _ _ _ _ _))
+    ) (ended (c .done .ensures) _ _)
 
 slot-at-requires : tie.Need-slot-at-requires
 slot-at-requires c κs = search needs
@@ -50,7 +45,8 @@ is-peer-disconnecting-requires c κs = search needs
 
 respond-requires : tie.Need-respond-requires
 respond-requires c κs =
-    let p = passed _ _ _ _ _ (sym (c .before .before .before .before .before .before .before .before .before .before .gate .ensures) ∙ c .before .before .before .before .before .before .before .before .enum-told .given .1) in
+    let b = c .before .before .before .before .before .before .before .before in
+    let p = behind (b .before .before .gate .ensures) (b .enum-told .given .1) in
     (room-of p, omega arith, p .signal-is, omega (arith, p .sizes .n-most))
 
 same-length : tie.Need-same-length
@@ -60,46 +56,47 @@ same-length-2 : tie.Need-same-length-2
 same-length-2 c = search needs
 
 returns-2 : tie.Need-returns-2
-unfolding choose sizes nextDisconnect
+unfolding choose nextDisconnect
 returns-2 c =
+    let at2 = c .before .before .before .before .before .before .before in
+    let at1 = at2 .before .before .before in
+    let b = at1 .before .before .before in
     rw (
-      ← c .before .before .before .before .before .before .before .before .before .before .before .before .before .before .before .gate .ensures,
-      c .before .before .before .before .before .before .before .before .before .before .before .before .before .enum-told .given .1,
-      ← c .before .before .before .before .before .before .before .before .before .before .before .before .find .ensures,
-      lt-leb _ _ (c .before .before .before .before .before .before .before .before .before .before .if1 .left),
-      ← c .before .before .before .before .before .before .before .before .before .slot-at .ensures,
-      ← c .before .before .before .before .before .before .before .before .is-peer-disconnecting .ensures,
-      c .before .before .before .before .before .before .before .if2 .taken,
+      on (b .before .before .gate .ensures) (b .enum-told .given .1),
+      ← at1 .before .before .find .ensures,
+      lt-leb _ _ (at1 .if1 .left),
+      ← at2 .before .before .slot-at .ensures,
+      ← at2 .before .is-peer-disconnecting .ensures,
+      at2 .if2 .taken,
     ) (c .before .before .before .before .respond .ensures)
 
 request-requires : tie.Need-request-requires
 request-requires c κs =
-    let p = passed _ _ _ _ _ (sym (c .before .before .before .before .before .before .before .before .before .gate .ensures) ∙ c .before .before .before .before .before .before .before .enum-told .given .1) in
+    let b = c .before .before .before .before .before .before .before in
+    let p = behind (b .before .before .gate .ensures) (b .enum-told .given .1) in
     (p .signal-is, omega (arith, p .sizes .n-most))
 
 returns-3 : tie.Need-returns-3
-unfolding choose sizes nextDisconnect
+unfolding nextDisconnect
 returns-3 c =
-    rw (
-      ← c .before .before .before .before .gate .ensures,
-      c .before .before .r .given .1,
-      c .refused .ensures,
-    ) (sym (end-still _ _ _ _ _ _ _))
+    rw (stopped (c .before .before .before .before .gate .ensures) (c .before .before .r .given .1)) (ended (c .refused .ensures) _ _)
 
 same-length-3 : tie.Need-same-length-3
 same-length-3 c = search needs
 
 returns-4 : tie.Need-returns-4
-unfolding choose sizes nextDisconnect
+unfolding choose nextDisconnect
 returns-4 c =
+    let at2 = c .before .before .before .before in
+    let at1 = at2 .before .before .before in
+    let b = at1 .before .before .before in
     rw (
-      ← c .before .before .before .before .before .before .before .before .before .before .before .before .gate .ensures,
-      c .before .before .before .before .before .before .before .before .before .before .enum-told .given .1,
-      ← c .before .before .before .before .before .before .before .before .before .find .ensures,
-      lt-leb _ _ (c .before .before .before .before .before .before .before .if1 .left),
-      ← c .before .before .before .before .before .before .slot-at .ensures,
-      ← c .before .before .before .before .before .is-peer-disconnecting .ensures,
-      c .before .before .before .before .if2 .left,
+      on (b .before .before .gate .ensures) (b .enum-told .given .1),
+      ← at1 .before .before .find .ensures,
+      lt-leb _ _ (at1 .if1 .left),
+      ← at2 .before .before .slot-at .ensures,
+      ← at2 .before .is-peer-disconnecting .ensures,
+      at2 .if2 .left,
     ) (c .before .before .request .ensures _ _ _)
 
 pub next-disconnect-spec : {M : Type 1} → statement M

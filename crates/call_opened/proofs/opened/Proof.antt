@@ -1,12 +1,9 @@
 -- `call_opened::opened` meets its contract: behind the gate code and definition make the same tests in the same order; the rest is `behind`.
-use mathlib.Core.Path.{sym, _∙_}
-use Rattle.definition.specs.Ending.{end-still}
-use Rattle.table_gate.specs.Passed.{passed}
 use Rattle.table_room.specs.Placed.{room-of}
 use borrow.Author.Tests.{eq-eqb, ne-eqb}
 use Rattle.lists.specs.Choose.{choose}
-use Rattle.definition.specs.Mem.{sizes}
 use Rattle.definition.specs.Opening.{opened}
+use Rattle.table_gate.specs.Behind.{behind, on, stopped, ended}
 use borrow.Author.Needs.{needs}
 use Rattle.call_opened.proofs.opened.Statement.{statement}
 use Rattle.call_opened.proofs.opened.Tie as tie
@@ -36,64 +33,64 @@ refused-requires-2 : tie.Need-refused-requires-2
 refused-requires-2 c κs = search needs
 
 returns : tie.Need-returns
-unfolding choose sizes opened
+unfolding choose opened
 returns c =
+    let b = c .before .before .before .before in
     rw (
-      ← c .before .before .before .before .before .before .before .number .ensures,
-      ← c .before .before .before .before .before .before .gate .ensures,
-      c .before .before .before .before .enum-told .given .1,
+      ← b .before .before .before .number .ensures,
+      on (b .before .before .gate .ensures) (b .enum-told .given .1),
       ← c .before .before .before .slot-at .ensures,
       ← c .before .before .is-disconnected .ensures,
       c .before .if1 .taken,
-      c .refused2 .ensures,
-    ) (sym (end-still _ _ _ _ _ _ _))
+    ) (ended (c .refused2 .ensures) _ _)
 
 refused-requires-3 : tie.Need-refused-requires-3
 refused-requires-3 c κs = search needs
 
 returns-2 : tie.Need-returns-2
-unfolding choose sizes opened
+unfolding choose opened
 returns-2 c =
+    let at1 = c .before .before .before in
+    let b = at1 .before .before .before in
     rw (
-      ← c .before .before .before .before .before .before .before .before .before .number .ensures,
-      ← c .before .before .before .before .before .before .before .before .gate .ensures,
-      c .before .before .before .before .before .before .enum-told .given .1,
-      ← c .before .before .before .before .before .slot-at .ensures,
-      ← c .before .before .before .before .is-disconnected .ensures,
-      c .before .before .before .if1 .left,
+      ← b .before .before .before .number .ensures,
+      on (b .before .before .gate .ensures) (b .enum-told .given .1),
+      ← at1 .before .before .slot-at .ensures,
+      ← at1 .before .is-disconnected .ensures,
+      at1 .if1 .left,
       ne-eqb _ _ (c .before .if2 .taken),
-      c .refused3 .ensures,
-    ) (sym (end-still _ _ _ _ _ _ _))
+    ) (ended (c .refused3 .ensures) _ _)
 
 polled-requires : tie.Need-polled-requires
 polled-requires c κs =
-    let p = passed _ _ _ _ _ (sym (c .before .before .before .before .before .before .before .before .gate .ensures) ∙ c .before .before .before .before .before .before .enum-told .given .1) in
+    let b = c .before .before .before .before .before .before in
+    let p = behind (b .before .before .gate .ensures) (b .enum-told .given .1) in
     (room-of p, p .slot-is)
 
 returns-3 : tie.Need-returns-3
-unfolding choose sizes opened
+unfolding opened
 returns-3 c =
+    let g = c .before .before .before .before in
     rw (
-      ← c .before .before .before .before .before .number .ensures,
-      ← c .before .before .before .before .gate .ensures,
-      c .before .before .r .given .1,
-      c .refused .ensures,
-    ) (sym (end-still _ _ _ _ _ _ _))
+      ← g .before .number .ensures,
+      stopped (g .gate .ensures) (c .before .before .r .given .1),
+    ) (ended (c .refused .ensures) _ _)
 
 same-length : tie.Need-same-length
 same-length c = search needs
 
 returns-4 : tie.Need-returns-4
-unfolding choose sizes opened
+unfolding choose opened
 returns-4 c =
+    let at2 = c .before .before .before .before in
+    let b = at2 .before .before .before .before .before in
     rw (
-      ← c .before .before .before .before .before .before .before .before .before .before .before .before .number .ensures,
-      ← c .before .before .before .before .before .before .before .before .before .before .before .gate .ensures,
-      c .before .before .before .before .before .before .before .before .before .enum-told .given .1,
-      ← c .before .before .before .before .before .before .before .before .slot-at .ensures,
-      ← c .before .before .before .before .before .before .before .is-disconnected .ensures,
-      c .before .before .before .before .before .before .if1 .left,
-      eq-eqb _ _ (c .before .before .before .before .if2 .left),
+      ← b .before .before .before .number .ensures,
+      on (b .before .before .gate .ensures) (b .enum-told .given .1),
+      ← at2 .before .before .before .before .slot-at .ensures,
+      ← at2 .before .before .before .is-disconnected .ensures,
+      at2 .before .before .if1 .left,
+      eq-eqb _ _ (at2 .if2 .left),
     ) (c .before .before .polled .ensures)
 
 pub opened-spec : {M : Type 1} → statement M

@@ -1,11 +1,7 @@
 -- `call_receive::receive` meets its contract: behind the gate it is `take`.
-use mathlib.Core.Path.{sym, _∙_}
-use Rattle.lists.specs.Choose.{choose}
-use Rattle.definition.specs.Mem.{sizes}
-use Rattle.definition.specs.Ending.{end-still}
 use Rattle.definition.specs.Frames.{receive}
-use Rattle.table_gate.specs.Passed.{passed}
 use Rattle.table_room.specs.Placed.{room-of}
+use Rattle.table_gate.specs.Behind.{behind, on, stopped, ended}
 use borrow.Author.Needs.{needs}
 use Rattle.call_receive.proofs.receive.Statement.{statement}
 use Rattle.call_receive.proofs.receive.Tie as tie
@@ -27,18 +23,18 @@ enum-told c = search needs
 
 take-requires : tie.Need-take-requires
 take-requires c κs =
-    let p = passed _ _ _ _ _ (sym (c .before .before .before .before .before .gate .ensures) ∙ c .before .before .before .enum-told .given .1) in
+    let b = c .before .before .before in
+    let p = behind (b .before .before .gate .ensures) (b .enum-told .given .1) in
     (room-of p, p .slot-is, p .signal-is)
 
 returns : tie.Need-returns
-unfolding choose sizes receive
+unfolding receive
 returns c =
+    let g = c .before .before .before .before in
     rw (
-      ← c .before .before .before .before .before .number .ensures,
-      ← c .before .before .before .before .gate .ensures,
-      c .before .before .r .given .1,
-      c .refused .ensures,
-    ) (sym (end-still _ _ _ _ _ _ _))
+      ← g .before .number .ensures,
+      stopped (g .gate .ensures) (c .before .before .r .given .1),
+    ) (ended (c .refused .ensures) _ _)
 
 same-length : tie.Need-same-length
 same-length c = search needs
@@ -50,13 +46,14 @@ same-length-3 : tie.Need-same-length-3
 same-length-3 c = search needs
 
 returns-2 : tie.Need-returns-2
-unfolding choose sizes receive
+unfolding receive
 returns-2 c =
+    let w = c .before .before .before .before .before .before in
+    let b = w .before .before .before .before in
     rw (
-      ← c .before .before .before .before .before .before .before .before .before .before .before .before .before .number .ensures,
-      ← c .before .before .before .before .before .before .before .before .before .before .before .before .gate .ensures,
-      c .before .before .before .before .before .before .before .before .before .before .enum-told .given .1,
-    ) (c .before .before .before .before .before .before .take .ensures)
+      ← b .before .before .before .number .ensures,
+      on (b .before .before .gate .ensures) (b .enum-told .given .1),
+    ) (w .take .ensures)
 
 pub receive-spec : {M : Type 1} → statement M
 receive-spec =

@@ -3,10 +3,11 @@ use Rattle.lists.specs.Choose.{choose}
 use Rattle.definition.specs.Mem.{sizes}
 use Rattle.definition.specs.Asking.{registerSpsm}
 use lib.Dec.{leb}
+use Rattle.table_gate.specs.Behind.{on, stopped}
 use borrow.Author.Needs.{needs}
 use borrow.Author.Tests.{leb-true, not-false}
 use Rattle.channel.specs.Limits.{spsmMost}
-use Rattle.table_gate.specs.Sizes.{both}
+use Rattle.lists.specs.Both.{both}
 use Rattle.call_register_spsm.proofs.register_spsm.Statement.{statement}
 use Rattle.call_register_spsm.proofs.register_spsm.Tie as tie
 
@@ -26,14 +27,13 @@ refused-requires-2 : tie.Need-refused-requires-2
 refused-requires-2 c κs = search needs
 
 returns : tie.Need-returns
-unfolding choose sizes registerSpsm
+unfolding choose registerSpsm
 returns c =
+    let b = c .before .before in
     rw (
-      ← c .before .before .before .before .gate .ensures,
-      c .before .before .enum-told .given .1,
+      on (b .before .before .gate .ensures) (b .enum-told .given .1),
       c .before .if1 .taken,
-      c .refused2 .ensures,
-    )
+    ) (c .refused2 .ensures)
 
 registered-requires : tie.Need-registered-requires
 registered-requires c κs =
@@ -45,20 +45,16 @@ still-requires : tie.Need-still-requires
 still-requires c κs = search needs
 
 returns-2 : tie.Need-returns-2
-unfolding choose sizes registerSpsm
+unfolding registerSpsm
 returns-2 c =
-    rw (
-      ← c .before .before .before .before .gate .ensures,
-      c .before .before .r .given .1,
-      c .refused .ensures,
-    )
+    rw (stopped (c .before .before .before .before .gate .ensures) (c .before .before .r .given .1)) (c .refused .ensures)
 
 returns-3 : tie.Need-returns-3
 unfolding choose sizes registerSpsm
 returns-3 c =
+    let b = c .before .before .before in
     rw (
-      ← c .before .before .before .before .before .gate .ensures,
-      c .before .before .before .enum-told .given .1,
+      on (b .before .before .gate .ensures) (b .enum-told .given .1),
       c .before .before .if1 .left,
       c .still .ensures,
       c .before .registered .ensures,

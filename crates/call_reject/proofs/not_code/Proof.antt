@@ -1,8 +1,6 @@
 -- `call_reject::not_code` meets its contract: the gate, and the refusal behind it.
-use mathlib.Core.Path.{sym}
-use Rattle.definition.specs.Ending.{end-still}
-use Rattle.definition.specs.Mem.{sizes}
 use Rattle.definition.specs.Pending.{notCode}
+use Rattle.table_gate.specs.Behind.{on, stopped, ended}
 use borrow.Author.Needs.{needs}
 use Rattle.call_reject.proofs.not_code.Statement.{statement}
 use Rattle.call_reject.proofs.not_code.Tie as tie
@@ -26,24 +24,21 @@ refused-requires-2 : tie.Need-refused-requires-2
 refused-requires-2 c κs = search needs
 
 returns : tie.Need-returns
-unfolding sizes notCode
+unfolding notCode
 returns c =
+    let g = c .before .before .before .before in
     rw (
-      ← c .before .before .before .before .before .number .ensures,
-      ← c .before .before .before .before .gate .ensures,
-      c .before .before .r .given .1,
-      c .refused .ensures,
-    ) (sym (end-still _ _ _ _ _ _ _))
+      ← g .before .number .ensures,
+      stopped (g .gate .ensures) (c .before .before .r .given .1),
+    ) (ended (c .refused .ensures) _ _)
 
 returns-2 : tie.Need-returns-2
-unfolding sizes notCode
+unfolding notCode
 returns-2 c =
     rw (
       ← c .before .before .before .before .number .ensures,
-      ← c .before .before .before .gate .ensures,
-      c .before .enum-told .given .1,
-      c .refused2 .ensures,
-    ) (sym (end-still _ _ _ _ _ _ _))
+      on (c .before .before .before .gate .ensures) (c .before .enum-told .given .1),
+    ) (ended (c .refused2 .ensures) _ _)
 
 pub not-code-spec : {M : Type 1} → statement M
 not-code-spec =

@@ -1,14 +1,11 @@
 -- `call_reject_all::reject_all_pending` meets its contract: behind the gate code and definition make the same tests in the same order.
-use mathlib.Core.Path.{sym, _∙_}
 use mathlib.Core.List.{[]}
 use native.Mathlib.Omega.{arith}
-use Rattle.definition.specs.Ending.{end-still}
-use Rattle.table_gate.specs.Passed.{passed}
 use Rattle.table_room.specs.Placed.{room-of}
 use borrow.Author.Tests.{le-leb, lt-leb}
 use Rattle.lists.specs.Choose.{choose}
-use Rattle.definition.specs.Mem.{sizes}
 use Rattle.definition.specs.Pending.{rejectAllPending}
+use Rattle.table_gate.specs.Behind.{behind, on, stopped, ended}
 use borrow.Author.Needs.{needs}
 use Rattle.call_reject_all.proofs.reject_all_pending.Statement.{statement}
 use Rattle.call_reject_all.proofs.reject_all_pending.Tie as tie
@@ -32,15 +29,14 @@ done-requires : tie.Need-done-requires
 done-requires c κs = search needs
 
 returns : tie.Need-returns
-unfolding choose sizes rejectAllPending
+unfolding choose rejectAllPending
 returns c =
+    let b = c .before .before .before .before in
     rw (
-      ← c .before .before .before .before .before .before .gate .ensures,
-      c .before .before .before .before .enum-told .given .1,
+      on (b .before .before .gate .ensures) (b .enum-told .given .1),
       ← c .before .before .before .find .ensures,
       le-leb _ _ (c .before .if1 .taken),
-      c .done .ensures,
-    ) (sym (end-still _ _ _ _ _ _ _))
+    ) (ended (c .done .ensures) _ _)
 
 slot-at-requires : tie.Need-slot-at-requires
 slot-at-requires c κs = search needs
@@ -50,7 +46,8 @@ identifier-of-requires c κs = search needs
 
 index-at-requires : tie.Need-index-at-requires
 index-at-requires c κs =
-    let p = passed _ _ _ _ _ (sym (c .before .before .before .before .before .before .before .gate .ensures) ∙ c .before .before .before .before .before .enum-told .given .1) in
+    let b = c .before .before .before .before .before in
+    let p = behind (b .before .before .gate .ensures) (b .enum-told .given .1) in
     omega (arith, p .sizes .n-most)
 
 reject-requires : tie.Need-reject-requires
@@ -58,17 +55,14 @@ reject-requires c κs = search needs
 
 free-and-tell-requires : tie.Need-free-and-tell-requires
 free-and-tell-requires c κs =
-    let p = passed _ _ _ _ _ (sym (c .before .before .before .before .before .before .before .before .before .before .before .gate .ensures) ∙ c .before .before .before .before .before .before .before .before .before .enum-told .given .1) in
+    let b = c .before .before .before .before .before .before .before .before .before in
+    let p = behind (b .before .before .gate .ensures) (b .enum-told .given .1) in
     (room-of p, omega arith, p .signal-is)
 
 returns-2 : tie.Need-returns-2
-unfolding choose sizes rejectAllPending
+unfolding rejectAllPending
 returns-2 c =
-    rw (
-      ← c .before .before .before .before .gate .ensures,
-      c .before .before .r .given .1,
-      c .refused .ensures,
-    ) (sym (end-still _ _ _ _ _ _ _))
+    rw (stopped (c .before .before .before .before .gate .ensures) (c .before .before .r .given .1)) (ended (c .refused .ensures) _ _)
 
 same-length : tie.Need-same-length
 same-length c = search needs
@@ -77,14 +71,16 @@ same-length-2 : tie.Need-same-length-2
 same-length-2 c = search needs
 
 returns-3 : tie.Need-returns-3
-unfolding choose sizes rejectAllPending
+unfolding choose rejectAllPending
 returns-3 c =
+    let w = c .before .before .before .before .before .before .before in
+    let at1 = w .before .before .before .before in
+    let b = at1 .before .before .before in
     rw (
-      ← c .before .before .before .before .before .before .before .before .before .before .before .before .before .before .before .before .gate .ensures,
-      c .before .before .before .before .before .before .before .before .before .before .before .before .before .before .enum-told .given .1,
-      ← c .before .before .before .before .before .before .before .before .before .before .before .before .before .find .ensures,
-      lt-leb _ _ (c .before .before .before .before .before .before .before .before .before .before .before .if1 .left),
-    ) (rw (c .before .before .before .before .before .before .before .reject .ensures, c .before .before .before .before .before .before .before .before .index-at .ensures, c .before .before .before .before .before .before .before .before .before .identifier-of .ensures, c .before .before .before .before .before .before .before .before .before .before .slot-at .ensures) at (c .before .before .before .before .free-and-tell .ensures []))
+      on (b .before .before .gate .ensures) (b .enum-told .given .1),
+      ← at1 .before .before .find .ensures,
+      lt-leb _ _ (at1 .if1 .left),
+    ) (rw (w .reject .ensures, w .before .index-at .ensures, w .before .before .identifier-of .ensures, w .before .before .before .slot-at .ensures) at (c .before .before .before .before .free-and-tell .ensures []))
 
 pub reject-all-pending-spec : {M : Type 1} → statement M
 reject-all-pending-spec =

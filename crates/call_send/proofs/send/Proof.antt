@@ -1,9 +1,6 @@
 -- `call_send::send` meets its contract: behind the gate it is `send_on`.
-use mathlib.Core.Path.{sym}
-use Rattle.lists.specs.Choose.{choose}
-use Rattle.definition.specs.Mem.{sizes}
-use Rattle.definition.specs.Ending.{end-still}
 use Rattle.definition.specs.Frames.{send}
+use Rattle.table_gate.specs.Behind.{on, stopped, ended}
 use borrow.Author.Needs.{needs}
 use Rattle.call_send.proofs.send.Statement.{statement}
 use Rattle.call_send.proofs.send.Tie as tie
@@ -27,25 +24,24 @@ send-on-requires : tie.Need-send-on-requires
 send-on-requires c κs = search needs
 
 returns : tie.Need-returns
-unfolding choose sizes send
+unfolding send
 returns c =
+    let g = c .before .before .before .before in
     rw (
-      ← c .before .before .before .before .before .number .ensures,
-      ← c .before .before .before .before .gate .ensures,
-      c .before .before .r .given .1,
-      c .refused .ensures,
-    ) (sym (end-still _ _ _ _ _ _ _))
+      ← g .before .number .ensures,
+      stopped (g .gate .ensures) (c .before .before .r .given .1),
+    ) (ended (c .refused .ensures) _ _)
 
 same-length : tie.Need-same-length
 same-length c = search needs
 
 returns-2 : tie.Need-returns-2
-unfolding choose sizes send
+unfolding send
 returns-2 c =
+    let b = c .before .before .before .before in
     rw (
-      ← c .before .before .before .before .before .before .before .number .ensures,
-      ← c .before .before .before .before .before .before .gate .ensures,
-      c .before .before .before .before .enum-told .given .1,
+      ← b .before .before .before .number .ensures,
+      on (b .before .before .gate .ensures) (b .enum-told .given .1),
     ) (c .before .before .send-on .ensures)
 
 pub send-spec : {M : Type 1} → statement M

@@ -1,11 +1,7 @@
 -- `call_signal::signal` meets its contract: behind the gate it is `checked`.
-use mathlib.Core.Path.{sym, _∙_}
-use Rattle.lists.specs.Choose.{choose}
-use Rattle.definition.specs.Mem.{sizes}
-use Rattle.definition.specs.Ending.{end-still}
 use Rattle.definition.specs.Signals.{signalled}
-use Rattle.table_gate.specs.Passed.{passed}
 use Rattle.table_room.specs.Placed.{room-of}
+use Rattle.table_gate.specs.Behind.{behind, on, stopped, ended}
 use borrow.Author.Needs.{needs}
 use Rattle.call_signal.proofs.signal.Statement.{statement}
 use Rattle.call_signal.proofs.signal.Tie as tie
@@ -24,13 +20,14 @@ enum-told c = search needs
 
 checked-requires : tie.Need-checked-requires
 checked-requires c κs =
-    let p = passed _ _ _ _ _ (sym (c .before .before .before .before .gate .ensures) ∙ c .before .before .enum-told .given .1) in
+    let b = c .before .before in
+    let p = behind (b .before .before .gate .ensures) (b .enum-told .given .1) in
     (room-of p, p .signal-is)
 
 returns : tie.Need-returns
-unfolding choose sizes signalled
+unfolding signalled
 returns c =
-    rw (← c .before .before .before .before .gate .ensures, c .before .before .r .given .1, c .refused .ensures) (sym (end-still _ _ _ _ _ _ _))
+    rw (stopped (c .before .before .before .before .gate .ensures) (c .before .before .r .given .1)) (ended (c .refused .ensures) _ _)
 
 same-length : tie.Need-same-length
 same-length c = search needs
@@ -39,9 +36,10 @@ same-length-2 : tie.Need-same-length-2
 same-length-2 c = search needs
 
 returns-2 : tie.Need-returns-2
-unfolding choose sizes signalled
+unfolding signalled
 returns-2 c =
-    rw (← c .before .before .before .before .before .before .before .before .before .gate .ensures, c .before .before .before .before .before .before .before .enum-told .given .1) (c .before .before .before .before .checked .ensures)
+    let b = c .before .before .before .before .before .before .before in
+    rw (on (b .before .before .gate .ensures) (b .enum-told .given .1)) (c .before .before .before .before .checked .ensures)
 
 pub signal-spec : {M : Type 1} → statement M
 signal-spec =

@@ -5,7 +5,7 @@ use lib.ListN.{replicate}
 use Rattle.octets.specs.Octets.{part}
 use Rattle.octets.specs.Sets.{part-length}
 use Rattle.edge_layout.specs.Layout.{taken}
-use Rattle.edge_layout_decode.specs.Loops.{sets-whole}
+use Rattle.lists.specs.Sets.{sets-whole}
 use borrow.Author.Needs.{needs}
 use Rattle.edge_layout_decode.proofs.spsms_in.Statement.{statement}
 use Rattle.edge_layout_decode.proofs.spsms_in.Tie as tie

@@ -26,7 +26,7 @@ returns : tie.Need-returns
 returns c =
     let w = c .before .before .before .before in
     let g = w .before .before .before .args in
-    moves-in (g .t) (g .s) (freed (g .x)) (wipe ∷ []) (g .a) _ (rw (c .before .freed .ensures) at (c .changed .ensures)) (w .wipe-part .ensures)
+    moves-in (g .t) (g .s) (freed (g .x)) (wipe ∷ []) (g .a) _ _ (rw (c .before .freed .ensures) at (c .changed .ensures)) (w .wipe-part .ensures)
 
 pub free-spec : {M : Type 1} → statement M
 free-spec =

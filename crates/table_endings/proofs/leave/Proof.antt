@@ -26,7 +26,7 @@ returns : tie.Need-returns
 returns c =
     let w = c .before .before .before .before in
     let g = w .before .before .before .args in
-    moves-in (g .t) (g .s) (left (g .k) (g .x)) (put 0 (zeros (placeOf (g .t))) ∷ []) (g .a) _ (rw (c .before .left .ensures) at (c .changed .ensures)) (w .zero-assembly .ensures)
+    moves-in (g .t) (g .s) (left (g .k) (g .x)) (put 0 (zeros (placeOf (g .t))) ∷ []) (g .a) _ _ (rw (c .before .left .ensures) at (c .changed .ensures)) (w .zero-assembly .ensures)
 
 pub leave-spec : {M : Type 1} → statement M
 leave-spec =

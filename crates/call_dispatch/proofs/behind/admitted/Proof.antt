@@ -10,7 +10,7 @@ use Rattle.channel.specs.declared.ChannelIndex.{ChannelIndex}
 use Rattle.definition.specs.Table.{slotAt, slotOf, withAccount}
 use Rattle.definition.specs.Calls.{frame, headOf, jobs}
 use Rattle.definition.specs.Ending.{endOf}
-use Rattle.table.specs.Named.{named}
+use Rattle.definition.specs.Tells.{cid-within}
 use Rattle.table_gate.specs.Fits.{have-fits}
 use Rattle.call_dispatch.specs.Admitted.{frame-joins}
 use borrow.Author.Needs.{needs}
@@ -42,7 +42,7 @@ returns c =
 slot-of-requires : tie.Need-slot-of-requires
 slot-of-requires c κs =
     let a = c .before .before .before .before in
-    let h = named (a .args .t) (a .args .cid .0) (sym (c .before .is-cid .ensures) ∙ not-false _ (c .if1 .left)) in
+    let h = cid-within (a .args .t) (a .args .cid .0) (sym (c .before .is-cid .ensures) ∙ not-false _ (c .if1 .left)) in
     omega (arith, a .pre .0 .sizes .n-most)
 
 number-requires : tie.Need-number-requires
@@ -95,7 +95,7 @@ join-requires c κs =
     let a = c .before .before .before .before .before .before .before .before .before .before .before .before .before .before .before .before .before in
     let g = a .args in
     let x = reached (c .before .before .before .before .before .before .before .before .before .before) in
-    let h = named (g .t) (g .cid .0) (x .named) in
+    let h = cid-within (g .t) (g .cid .0) (x .named) in
     (a .pre .0, rw (x .number) h, rw (c .before .with-account .ensures, x .slot, x .number) (have-fits (g .t) (slotOf (g .cid .0)) (a .pre .1) h))
 
 same-length : tie.Need-same-length

@@ -1,7 +1,7 @@
 -- `call_queries::query::told` meets its contract: behind the gate, the number.
-use Rattle.lists.specs.Choose.{choose}
 use Rattle.definition.specs.Mem.{sizes}
 use Rattle.definition.specs.Asking.{query}
+use Rattle.table_gate.specs.Behind.{on, stopped}
 use borrow.Author.Needs.{needs}
 use Rattle.call_queries.proofs.query.told.Statement.{statement}
 use Rattle.call_queries.proofs.query.told.Tie as tie
@@ -25,22 +25,20 @@ still-requires : tie.Need-still-requires
 still-requires c κs = search needs
 
 returns : tie.Need-returns
-unfolding choose sizes query
+unfolding query
 returns c =
+    let g = c .before .before .before .before in
     rw (
-      ← c .before .before .before .before .before .number .ensures,
-      ← c .before .before .before .before .gate .ensures,
-      c .before .before .r .given .1,
-      c .refused .ensures,
-    )
+      ← g .before .number .ensures,
+      stopped (g .gate .ensures) (c .before .before .r .given .1),
+    ) (c .refused .ensures)
 
 returns-2 : tie.Need-returns-2
-unfolding choose sizes query
+unfolding sizes query
 returns-2 c =
     rw (
       ← c .before .before .before .before .number .ensures,
-      ← c .before .before .before .gate .ensures,
-      c .before .enum-told .given .1,
+      on (c .before .before .before .gate .ensures) (c .before .enum-told .given .1),
       c .still .ensures,
     )
 

@@ -1,14 +1,10 @@
 -- `call_reject::coded::reject_pending` meets its contract: behind the gate code and definition make the same tests in the same order.
-use mathlib.Core.Path.{sym, _∙_}
 use mathlib.Core.List.{[]}
-use native.Mathlib.Omega.{arith}
-use Rattle.definition.specs.Ending.{end-still}
-use Rattle.table_gate.specs.Passed.{passed}
 use Rattle.table_room.specs.Placed.{room-of}
 use borrow.Author.Tests.{eq-eqb, ne-eqb}
 use Rattle.lists.specs.Choose.{choose}
-use Rattle.definition.specs.Mem.{sizes}
 use Rattle.definition.specs.Pending.{rejectPending}
+use Rattle.table_gate.specs.Behind.{behind, on, stopped, ended}
 use borrow.Author.Needs.{needs}
 use Rattle.call_reject.proofs.coded.reject_pending.Statement.{statement}
 use Rattle.call_reject.proofs.coded.reject_pending.Tie as tie
@@ -38,34 +34,32 @@ refused-requires-2 : tie.Need-refused-requires-2
 refused-requires-2 c κs = search needs
 
 returns : tie.Need-returns
-unfolding choose sizes rejectPending
+unfolding choose rejectPending
 returns c =
+    let b = c .before .before .before .before in
     rw (
-      ← c .before .before .before .before .before .before .before .number .ensures,
-      ← c .before .before .before .before .before .before .gate .ensures,
-      c .before .before .before .before .enum-told .given .1,
+      ← b .before .before .before .number .ensures,
+      on (b .before .before .gate .ensures) (b .enum-told .given .1),
       ← c .before .before .before .slot-at .ensures,
       ← c .before .before .is-peer-connecting .ensures,
       c .before .if1 .taken,
-      c .refused2 .ensures,
-    ) (sym (end-still _ _ _ _ _ _ _))
+    ) (ended (c .refused2 .ensures) _ _)
 
 refused-requires-3 : tie.Need-refused-requires-3
 refused-requires-3 c κs = search needs
 
 returns-2 : tie.Need-returns-2
-unfolding choose sizes rejectPending
+unfolding choose rejectPending
 returns-2 c =
+    let b = c .before .before .before .before .before in
     rw (
-      ← c .before .before .before .before .before .before .before .before .number .ensures,
-      ← c .before .before .before .before .before .before .before .gate .ensures,
-      c .before .before .before .before .before .enum-told .given .1,
+      ← b .before .before .before .number .ensures,
+      on (b .before .before .gate .ensures) (b .enum-told .given .1),
       ← c .before .before .before .before .slot-at .ensures,
       ← c .before .before .before .is-peer-connecting .ensures,
       c .before .before .if1 .left,
       eq-eqb _ _ (c .before .if2 .taken),
-      c .refused3 .ensures,
-    ) (sym (end-still _ _ _ _ _ _ _))
+    ) (ended (c .refused3 .ensures) _ _)
 
 identifier-of-requires : tie.Need-identifier-of-requires
 identifier-of-requires c κs = search needs
@@ -81,18 +75,18 @@ reject-requires c κs = search needs
 
 free-and-tell-requires : tie.Need-free-and-tell-requires
 free-and-tell-requires c κs =
-    let p = passed _ _ _ _ _ (sym (c .before .before .before .before .before .before .before .before .before .before .before .gate .ensures) ∙ c .before .before .before .before .before .before .before .before .before .enum-told .given .1) in
+    let b = c .before .before .before .before .before .before .before .before .before in
+    let p = behind (b .before .before .gate .ensures) (b .enum-told .given .1) in
     (room-of p, p .slot-is, p .signal-is)
 
 returns-3 : tie.Need-returns-3
-unfolding choose sizes rejectPending
+unfolding rejectPending
 returns-3 c =
+    let g = c .before .before .before .before in
     rw (
-      ← c .before .before .before .before .before .number .ensures,
-      ← c .before .before .before .before .gate .ensures,
-      c .before .before .r .given .1,
-      c .refused .ensures,
-    ) (sym (end-still _ _ _ _ _ _ _))
+      ← g .before .number .ensures,
+      stopped (g .gate .ensures) (c .before .before .r .given .1),
+    ) (ended (c .refused .ensures) _ _)
 
 same-length : tie.Need-same-length
 same-length c = search needs
@@ -101,17 +95,19 @@ same-length-2 : tie.Need-same-length-2
 same-length-2 c = search needs
 
 returns-4 : tie.Need-returns-4
-unfolding choose sizes rejectPending
+unfolding choose rejectPending
 returns-4 c =
+    let w = c .before .before .before .before .before .before .before in
+    let at2 = w .before .before .before in
+    let b = at2 .before .before .before .before in
     rw (
-      ← c .before .before .before .before .before .before .before .before .before .before .before .before .before .before .before .before .before .number .ensures,
-      ← c .before .before .before .before .before .before .before .before .before .before .before .before .before .before .before .before .gate .ensures,
-      c .before .before .before .before .before .before .before .before .before .before .before .before .before .before .enum-told .given .1,
-      ← c .before .before .before .before .before .before .before .before .before .before .before .before .before .slot-at .ensures,
-      ← c .before .before .before .before .before .before .before .before .before .before .before .before .is-peer-connecting .ensures,
-      c .before .before .before .before .before .before .before .before .before .before .before .if1 .left,
-      ne-eqb _ _ (c .before .before .before .before .before .before .before .before .before .before .if2 .left),
-    ) (rw (c .before .before .before .before .before .before .before .reject .ensures, c .before .before .before .before .before .before .before .before .with-hold .ensures, c .before .before .before .before .before .before .before .before .before .identifier-of .ensures) at (c .before .before .before .before .free-and-tell .ensures []))
+      ← b .before .before .before .number .ensures,
+      on (b .before .before .gate .ensures) (b .enum-told .given .1),
+      ← at2 .before .before .before .slot-at .ensures,
+      ← at2 .before .before .is-peer-connecting .ensures,
+      at2 .before .if1 .left,
+      ne-eqb _ _ (at2 .if2 .left),
+    ) (rw (w .reject .ensures, w .before .with-hold .ensures, w .before .before .identifier-of .ensures) at (c .before .before .before .before .free-and-tell .ensures []))
 
 pub reject-pending-spec : {M : Type 1} → statement M
 reject-pending-spec =

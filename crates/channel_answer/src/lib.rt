@@ -5,7 +5,7 @@ use codes::Refusal;
 use octets::least;
 ghost use mathlib.Core.Path.{_≡_};
 ghost use Rattle.channel.specs.declared.Answer.the-variants.{Refused};
-ghost use Rattle.channel_answer.specs.Tells.{shown, toldBy, codeOf, tells};
+ghost use Rattle.channel_answer.specs.Tells.{shown, toldBy, tells};
 
 // What an answer tells: its kind, the refusal's number, and four numbers.
 pub struct Told {
@@ -38,37 +38,6 @@ fn shown(n: usize) -> u16
     least(n, 65535) as u16
 }
 
-// The result code of refusal 17.
-fn code_of(r: Refusal) -> u16
-    ensures { λ n. ⌜ n ≡ codeOf r ⌝ }
-{
-    match r {
-        Refusal::BadTable => 0,
-        Refusal::BadRoom => 0,
-        Refusal::NoRoom => 0,
-        Refusal::BadHandle => 0,
-        Refusal::BadSpsm => 0,
-        Refusal::BadSlot => 0,
-        Refusal::InvalidChannelId => 0,
-        Refusal::NotFound => 0,
-        Refusal::InvalidValue => 0,
-        Refusal::OutOfMemory => 0,
-        Refusal::ChannelClosed => 0,
-        Refusal::InsufficientSpace => 0,
-        Refusal::NoChannelAvailable => 0,
-        Refusal::Busy => 0,
-        Refusal::Decode => 0,
-        Refusal::NotSupported => 0,
-        Refusal::ConnectError(code) => codes::result_number(code),
-        Refusal::Disconnected => 0,
-        Refusal::ShortFrame => 0,
-        Refusal::BadMps => 0,
-        Refusal::QueueFull => 0,
-        Refusal::Held => 0,
-        Refusal::TooLong => 0,
-    }
-}
-
 // A refusal, with what it carries.
 fn refused(r: Refusal) -> Told
     ensures { λ x. ⌜ x ≡ tells (Refused r) ⌝ }
@@ -76,7 +45,7 @@ fn refused(r: Refusal) -> Told
     Told {
         kind: 1,
         refusal: codes::refusal_number(r),
-        first: code_of(r),
+        first: codes::result_in(r),
         second: 0,
         third: 0,
         fourth: 0,

@@ -5,7 +5,6 @@ pub use output::printed_row;
 ghost use Rattle.run_frames.specs.PlayedFrames.{signalOf};
 ghost use Rattle.run_signals.specs.Signalled.{Leaves, left, signalsOf};
 use channel::Table;
-use output::printed_row;
 
 // One signal of a PDU, and its row.
 fn one_signal(

@@ -10,6 +10,8 @@ use Rattle.script_fields_plain.specs.PlainFields.{isNumber, numberOf, isFlag, f
 use Rattle.script_fields_config.specs.Configs.{isConfig, configOf}
 use Rattle.script_commands.specs.declared.Command.{Command}
 use Rattle.script_commands.specs.declared.Command.the-variants as Command
+use Rattle.script_commands.specs.declared.Opening.the-variants as Opening
+use Rattle.script_commands.specs.declared.Closing.the-variants as Closing
 
 unfoldable pub fourWords : (c : ℕ) (a b d : List ℕ) (last : Word) → Command
 fourWords c a b d last =
@@ -30,10 +32,10 @@ fiveWords c a b d e last =
 unfoldable pub sixWords : (c : ℕ) (a b d e f : List ℕ) → Command
 sixWords c a b d e f =
     choose (isNumber a)
-    (choose (eqb c 65) (choose (isConfig b d e f) (Command.AcceptPending (numberOf a) (configOf b d e f)) Command.Bad)  -- A slot mtu mps policy credits
+    (choose (eqb c 65) (choose (isConfig b d e f) (Command.Opening (Opening.AcceptPending (numberOf a) (configOf b d e f))) Command.Bad)  -- A slot mtu mps policy credits
     (choose (eqb c 89)
     (choose (isNumber b && isNumber d && isNumber e && isNumber f)
-    (Command.SendConnParamUpdateReq (numberOf a) (numberOf b) (numberOf d) (numberOf e) (numberOf f))  -- Y link min max latency timeout
+    (Command.Closing (Closing.SendConnParamUpdateReq (numberOf a) (numberOf b) (numberOf d) (numberOf e) (numberOf f)))  -- Y link min max latency timeout
     Command.Bad)
     Command.Bad))
     Command.Bad
@@ -41,4 +43,4 @@ sixWords c a b d e f =
 -- C link spsm mtu mps policy credits
 unfoldable pub sevenWords : (c : ℕ) (a b d e f g : List ℕ) → Command
 sevenWords c a b d e f g =
-    choose (eqb c 67 && isNumber a && isNumber b && isConfig d e f g) (Command.Create (numberOf a) (numberOf b) (configOf d e f g)) Command.Bad
+    choose (eqb c 67 && isNumber a && isNumber b && isConfig d e f g) (Command.Opening (Opening.Create (numberOf a) (numberOf b) (configOf d e f g))) Command.Bad

@@ -1,6 +1,8 @@
 // The calls of a script (docs/CHANRUN.md) whose line has four words or more, by their number; the shorter ones are in `script_commands`. The table of these
 // calls is specs/LongCommands.antt, which every function here follows test by test. It rests on `script_commands`, `script_fields_plain`, `script_fields` and `text_hex_words`.
+use crate::Closing;
 use crate::Command;
+use crate::Opening;
 use script_fields_config::config_of;
 use script_fields_config::is_config;
 use script_fields_plain::central_of;
@@ -79,19 +81,19 @@ pub fn six_words(c: u8, a: &[u8], b: &[u8], d: &[u8], e: &[u8], f: &[u8]) -> Com
     if c == 65 {
         if is_config(b, d, e, f) {
             let config = config_of(b, d, e, f);
-            return Command::AcceptPending { slot: n, config };
+            return Command::Opening(Opening::AcceptPending { slot: n, config });
         }
         return Command::Bad;
     }
     if c == 89 {
         if is_number(b) & is_number(d) & is_number(e) & is_number(f) {
-            return Command::SendConnParamUpdateReq {
+            return Command::Closing(Closing::SendConnParamUpdateReq {
                 link: n,
                 min: number_of(b),
                 max: number_of(d),
                 latency: number_of(e),
                 timeout: number_of(f),
-            };
+            });
         }
         return Command::Bad;
     }
@@ -103,11 +105,11 @@ pub fn seven_words(c: u8, a: &[u8], b: &[u8], d: &[u8], e: &[u8], f: &[u8], g: &
 {
     if (c == 67) & is_number(a) & is_number(b) & is_config(d, e, f, g) {
         let config = config_of(d, e, f, g);
-        return Command::Create {
+        return Command::Opening(Opening::Create {
             link: number_of(a),
             spsm: number_of(b),
             config,
-        };
+        });
     }
     Command::Bad
 }

@@ -139,13 +139,13 @@ pub fn slot_of(n: u16) -> ChannelIndex
 pub fn one_word(c: u8) -> Command
     ensures { λ r. ⌜ r ≡ oneWord c ⌝ }
 {
-    if c == 81 {
+    if c == b'Q' {
         return Command::Closing(Closing::NextDisconnect);
     }
-    if c == 73 {
+    if c == b'I' {
         return Command::Closing(Closing::Attention);
     }
-    if c == 86 {
+    if c == b'V' {
         return Command::View;
     }
     Command::Bad
@@ -155,37 +155,37 @@ pub fn one_word(c: u8) -> Command
 fn with_number(c: u8, n: u16) -> Command
     ensures { λ r. ⌜ r ≡ withNumber c n ⌝ }
 {
-    if c == 82 {
+    if c == b'R' {
         return Command::Opening(Opening::RegisterSpsm(n));
     }
-    if c == 74 {
+    if c == b'J' {
         return Command::Opening(Opening::RejectAllPending(n));
     }
-    if c == 90 {
+    if c == b'Z' {
         return Command::Opening(Opening::DropPending(n));
     }
-    if c == 71 {
+    if c == b'G' {
         return Command::Opening(Opening::GiveUp(n));
     }
-    if c == 72 {
+    if c == b'H' {
         return Command::Closing(Closing::IncRef(n));
     }
-    if c == 76 {
+    if c == b'L' {
         return Command::Closing(Closing::DecRef(n));
     }
-    if c == 68 {
+    if c == b'D' {
         return Command::Closing(Closing::Disconnect(n));
     }
-    if c == 69 {
+    if c == b'E' {
         return Command::Closing(Closing::DisconnectByCid(n));
     }
-    if c == 87 {
+    if c == b'W' {
         return Command::Closing(Closing::Disconnected(n));
     }
-    if c == 85 {
+    if c == b'U' {
         return Command::Queries(n);
     }
-    if c == 77 {
+    if c == b'M' {
         return Command::Room(n);
     }
     Command::Bad
@@ -204,13 +204,13 @@ pub fn two_words(c: u8, a: &[u8]) -> Command
 fn with_numbers(c: u8, n: u16, m: u16) -> Command
     ensures { λ r. ⌜ r ≡ withNumbers c n m ⌝ }
 {
-    if c == 88 {
+    if c == b'X' {
         return Command::Opening(Opening::RejectPending { slot: n, result: m });
     }
-    if c == 66 {
+    if c == b'B' {
         return Command::Receive { slot: n, size: m };
     }
-    if c == 121 {
+    if c == b'y' {
         return Command::Closing(Closing::SendConnParamUpdateRes { link: n, result: m });
     }
     Command::Bad
@@ -223,7 +223,7 @@ pub fn three_words(c: u8, a: &[u8], b: &[u8], last: Word) -> Command
         return Command::Bad;
     }
     let n = number_of(a);
-    if c == 80 {
+    if c == b'P' {
         if is_flag(b) {
             return Command::Opening(Opening::NextPending {
                 link: n,
@@ -232,7 +232,7 @@ pub fn three_words(c: u8, a: &[u8], b: &[u8], last: Word) -> Command
         }
         return Command::Bad;
     }
-    if c == 75 {
+    if c == b'K' {
         if hex_ok(b) {
             return Command::Send { slot: n, job: last };
         }

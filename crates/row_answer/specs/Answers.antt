@@ -2,6 +2,7 @@
 -- wrote, in hex, or `-`."
 use mathlib.Core.List.{List, [], _∷_, _++_}
 use Prim.Native.Nat.{ℕ}
+use Rattle.text_write.specs.Text.{text}
 use Rattle.text_decimal.specs.NumberText.{numberText}
 use Rattle.text_hex_write.specs.HexText.{hexText}
 use Rattle.channel.specs.declared.Answer.{Answer}
@@ -10,4 +11,4 @@ use Rattle.row_answer.specs.Told.{columnsIn}
 use Rattle.row_columns.specs.Columns.{columnsText}
 
 unfoldable pub answerText : Answer → List ℕ → List ℕ
-answerText a octets = ((numberText (answerNumber a) ++ 32 ∷ []) ++ hexText octets) ++ columnsText (columnsIn (tells a))
+answerText a octets = ((numberText (answerNumber a) ++ text " ") ++ hexText octets) ++ columnsText (columnsIn (tells a))

@@ -19,7 +19,7 @@ pub fn write_answer(out: &mut [u8], at: usize, a: Answer, octets: &[u8]) -> usiz
 {
     let x = tells(a);
     let number = write_number(out, at, x.refusal as u16);
-    let space = write_character(out, number, 32);
+    let space = write_character(out, number, b' ');
     let next = write_hex(out, space, octets);
     let c = columns_of(x);
     let numbers = c.numbers;

@@ -4,6 +4,7 @@ use mathlib.Core.List.{List, [], _∷_, _++_}
 use Prim.Native.Nat.{ℕ}
 use lib.Dec.{eqb}
 use lib.ListN.{take}
+use Rattle.text_write.specs.Text.{text}
 use Rattle.lists.specs.Choose.{choose}
 use Rattle.text_hex_write.specs.HexText.{hexText}
 use Rattle.row_answer.specs.Answers.{answerText}
@@ -17,7 +18,7 @@ openedText a = choose (eqb (tells a .kind) Kind.done) (moreText a (0 ∷ [])) (r
 
 -- `B`: "copied, job length, the credit signal's octets or `-`; none of these where no job waits"
 abbrev jobText : Answer → (job signal : List ℕ) → List ℕ
-jobText a job signal = ((answerText a job ++ 32 ∷ []) ++ hexText signal) ++ 10 ∷ []
+jobText a job signal = ((answerText a job ++ text " ") ++ hexText signal) ++ text "\n"
 
 unfoldable pub takenText : Answer → (job signal : List ℕ) → List ℕ
 takenText a job signal = choose (eqb (tells a .kind) Kind.job) (jobText a (take (tells a .second) job) signal) (rowText a [])

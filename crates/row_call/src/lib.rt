@@ -38,9 +38,9 @@ pub fn taken(row: &mut [u8], a: Answer, job: &[u8], signal: &[u8]) -> usize
     let x = tells(a);
     if x.kind == JOB {
         let n = write_answer(row, 0, a, first(job, x.second as usize));
-        let space = write_character(row, n, 32);
+        let space = write_character(row, n, b' ');
         let m = write_hex(row, space, signal);
-        write_character(row, m, 10)
+        write_character(row, m, b'\n')
     } else {
         told(row, a)
     }

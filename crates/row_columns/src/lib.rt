@@ -13,7 +13,7 @@ pub fn write_columns(out: &mut [u8], at: usize, numbers: &[u16]) -> usize
     let mut next = least(at, out.len());
     let mut i: usize = 0;
     while i < numbers.len() {
-        let behind = write_character(out, next, 32);
+        let behind = write_character(out, next, b' ');
         next = write_number(out, behind, numbers[i]);
         i += 1;
     }

@@ -1,6 +1,7 @@
 -- The view of a table (docs/CHANRUN.md, `V`): "N D M and the next identifier; then a line for each slot".
 use mathlib.Core.List.{List, [], _∷_, _++_}
 use Prim.Native.Nat.{ℕ, zero, suc}
+use Rattle.text_write.specs.Text.{text}
 use Rattle.row_columns.specs.Columns.{columnsText}
 use Rattle.channel_answer.specs.Tells.{shown}
 use Rattle.row_answer.specs.Answers.{answerText}
@@ -19,7 +20,7 @@ slotsText s (x ∷ xs) = slotText s x ++ slotsText (suc s) xs
 unfoldable pub sizesText : Table → List ℕ
 sizesText t =
     (answerText Answer.Done [] ++ columnsText (shown (t .n) ∷ shown (t .d) ∷ shown (t .m) ∷ t .identifier ∷ []))
-    ++ 10 ∷ []
+    ++ text "\n"
 
 unfoldable pub viewText : Table → List ℕ
 viewText t = sizesText t ++ slotsText zero (live t)

@@ -22,7 +22,7 @@ fn write_sizes(out: &mut [u8], at: usize, t: Table) -> usize
         answer,
         &[shown(t.n), shown(t.d), shown(t.m), t.identifier as u16],
     );
-    write_character(out, numbers, 10)
+    write_character(out, numbers, b'\n')
 }
 
 // The rows of `V`.

@@ -1,2 +1,3 @@
--- What an answer tells.
+-- What an answer tells, and the kinds of answers.
+pub mod Kinds
 pub mod Tells

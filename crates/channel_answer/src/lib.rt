@@ -1,11 +1,34 @@
-// What a call's answer tells callers in other languages, in numbers: its kind, its refusal and what it carries. Defined in specs/Tells.antt;
-// `edge_answer` writes it. It rests on `codes` for the numbers of refusals and result codes.
+// What a call's answer tells, in numbers: its kind, its refusal and what it carries. Defined in specs/Tells.antt. `edge_answer` writes it for
+// callers in other languages, `row_answer` and `row_call` as a row. It rests on `codes` for the numbers of refusals and result codes.
 use channel::Answer;
 use codes::Refusal;
 use octets::least;
 ghost use mathlib.Core.Path.{_≡_};
 ghost use Rattle.channel.specs.declared.Answer.the-variants.{Refused};
-ghost use Rattle.channel_answer.specs.Tells.{shown, toldBy, codeOf, tells};
+ghost use Rattle.channel_answer.specs.Tells.{shown, toldBy, tells};
+
+// The kinds, a number for each answer in their order (specs/Kinds.antt).
+pub const DONE: u8 = 0;
+
+pub const REFUSED: u8 = 1;
+
+pub const AT: u8 = 2;
+
+pub const LINK: u8 = 3;
+
+pub const OPENED: u8 = 4;
+
+pub const DUE: u8 = 5;
+
+pub const FRAMES: u8 = 6;
+
+pub const JOB: u8 = 7;
+
+pub const ATTENTION: u8 = 8;
+
+pub const NUMBER: u8 = 9;
+
+pub const EVENT: u8 = 10;
 
 // What an answer tells: its kind, the refusal's number, and four numbers.
 pub struct Told {
@@ -32,41 +55,10 @@ fn plain(kind: u8, first: u16, second: u16, third: u16, fourth: u16) -> Told
 }
 
 // A count above 65,535, which no table and no job reaches, is told as that.
-fn shown(n: usize) -> u16
+pub fn shown(n: usize) -> u16
     ensures { λ r. ⌜ r ≡ shown n ⌝ }
 {
     least(n, 65535) as u16
-}
-
-// The result code of refusal 17.
-fn code_of(r: Refusal) -> u16
-    ensures { λ n. ⌜ n ≡ codeOf r ⌝ }
-{
-    match r {
-        Refusal::BadTable => 0,
-        Refusal::BadRoom => 0,
-        Refusal::NoRoom => 0,
-        Refusal::BadHandle => 0,
-        Refusal::BadSpsm => 0,
-        Refusal::BadSlot => 0,
-        Refusal::InvalidChannelId => 0,
-        Refusal::NotFound => 0,
-        Refusal::InvalidValue => 0,
-        Refusal::OutOfMemory => 0,
-        Refusal::ChannelClosed => 0,
-        Refusal::InsufficientSpace => 0,
-        Refusal::NoChannelAvailable => 0,
-        Refusal::Busy => 0,
-        Refusal::Decode => 0,
-        Refusal::NotSupported => 0,
-        Refusal::ConnectError(code) => codes::result_number(code),
-        Refusal::Disconnected => 0,
-        Refusal::ShortFrame => 0,
-        Refusal::BadMps => 0,
-        Refusal::QueueFull => 0,
-        Refusal::Held => 0,
-        Refusal::TooLong => 0,
-    }
 }
 
 // A refusal, with what it carries.
@@ -74,9 +66,9 @@ fn refused(r: Refusal) -> Told
     ensures { λ x. ⌜ x ≡ tells (Refused r) ⌝ }
 {
     Told {
-        kind: 1,
+        kind: REFUSED,
         refusal: codes::refusal_number(r),
-        first: code_of(r),
+        first: codes::result_in(r),
         second: 0,
         third: 0,
         fourth: 0,
@@ -88,25 +80,31 @@ pub fn tells(a: Answer) -> Told
     ensures { λ r. ⌜ r ≡ tells a ⌝ }
 {
     match a {
-        Answer::Done => plain(0, 0, 0, 0, 0),
+        Answer::Done => plain(DONE, 0, 0, 0, 0),
         Answer::Refused(r) => refused(r),
-        Answer::At(slot) => plain(2, slot.0 as u16, 0, 0, 0),
-        Answer::Link(link) => plain(3, link, 0, 0, 0),
-        Answer::Opened => plain(4, 0, 0, 0, 0),
-        Answer::Due { link, slot } => plain(5, link, slot.0 as u16, 0, 0),
-        Answer::Frames { link, count } => plain(6, link, shown(count), 0, 0),
+        Answer::At(slot) => plain(AT, slot.0 as u16, 0, 0, 0),
+        Answer::Link(link) => plain(LINK, link, 0, 0, 0),
+        Answer::Opened => plain(OPENED, 0, 0, 0, 0),
+        Answer::Due { link, slot } => plain(DUE, link, slot.0 as u16, 0, 0),
+        Answer::Frames { link, count } => plain(FRAMES, link, shown(count), 0, 0),
         Answer::Job {
             link,
             copied,
             length,
-        } => plain(7, link, shown(copied), length, 0),
-        Answer::Attention { set, count, lowest } => plain(8, set, count as u16, lowest as u16, 0),
-        Answer::Number(n) => plain(9, n, 0, 0, 0),
+        } => plain(JOB, link, shown(copied), length, 0),
+        Answer::Attention { set, count, lowest } => plain(
+            ATTENTION,
+            set,
+            count as u16,
+            lowest as u16,
+            0,
+        ),
+        Answer::Number(n) => plain(NUMBER, n, 0, 0, 0),
         Answer::Event {
             min,
             max,
             latency,
             timeout,
-        } => plain(10, min, max, latency, timeout),
+        } => plain(EVENT, min, max, latency, timeout),
     }
 }

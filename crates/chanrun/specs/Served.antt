@@ -35,30 +35,15 @@ module _ (t : Table) (line room octets frames : List ℕ) where
 
   unfoldable pub lineOf : Command → After
   lineOf Command.Bad = played Command.Bad
+  lineOf (Command.Opening c) = played (Command.Opening c)
+  lineOf (Command.Closing c) = played (Command.Closing c)
   lineOf (Command.Make n d m) = left (madeOf n d m room)
-  lineOf (Command.RegisterSpsm spsm) = played (Command.RegisterSpsm spsm)
   lineOf (Command.Signal link listening central pdu) = within (λ own. signalsOf link listening central t own (spelledOf (length octets) line pdu))
-  lineOf (Command.NextPending link up) = played (Command.NextPending link up)
-  lineOf (Command.RejectAllPending link) = played (Command.RejectAllPending link)
-  lineOf (Command.AcceptPending slot config) = played (Command.AcceptPending slot config)
-  lineOf (Command.RejectPending slot result) = played (Command.RejectPending slot result)
-  lineOf (Command.DropPending slot) = played (Command.DropPending slot)
-  lineOf (Command.Create link spsm config) = played (Command.Create link spsm config)
   lineOf (Command.Opened slot link up) = played (Command.Opened slot link up)
-  lineOf (Command.GiveUp slot) = played (Command.GiveUp slot)
-  lineOf (Command.IncRef slot) = played (Command.IncRef slot)
-  lineOf (Command.DecRef slot) = played (Command.DecRef slot)
-  lineOf (Command.Disconnect slot) = played (Command.Disconnect slot)
-  lineOf (Command.DisconnectByCid cid) = played (Command.DisconnectByCid cid)
-  lineOf (Command.Disconnected link) = played (Command.Disconnected link)
-  lineOf Command.NextDisconnect = played Command.NextDisconnect
   lineOf (Command.Dispatch link cid payload) = played (Command.Dispatch link cid payload)
   lineOf (Command.Send slot job) = played (Command.Send slot job)
   lineOf (Command.Receive slot size) = played (Command.Receive slot size)
-  lineOf Command.Attention = played Command.Attention
   lineOf (Command.Queries slot) = played (Command.Queries slot)
-  lineOf (Command.SendConnParamUpdateReq link least most latency timeout) = played (Command.SendConnParamUpdateReq link least most latency timeout)
-  lineOf (Command.SendConnParamUpdateRes link result) = played (Command.SendConnParamUpdateRes link result)
   lineOf Command.View = played Command.View
   lineOf (Command.Room slot) = played (Command.Room slot)
 

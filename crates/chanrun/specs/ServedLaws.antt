@@ -35,39 +35,24 @@ module _ (t : Table) (line room octets frames : List ℕ) {c : Command} {u : Tab
 -- ---- the last way: neither `T` nor `S`
 
 abbrev others : List ℕ
-others = 0 ∷ 2 ∷ 3 ∷ 4 ∷ 5 ∷ 6 ∷ 7 ∷ 8 ∷ 9 ∷ 10 ∷ 11 ∷ 12 ∷ 13 ∷ 14 ∷ 15 ∷ 16 ∷ 17 ∷ 18 ∷ 19 ∷ 20 ∷ 21 ∷ 22 ∷ 23 ∷ 24 ∷ 25 ∷ 26 ∷ []
+others = 0 ∷ 1 ∷ 2 ∷ 4 ∷ 5 ∷ 6 ∷ 7 ∷ 8 ∷ 9 ∷ 10 ∷ 11 ∷ []
 
 abbrev others′ : List ℕ
-others′ = 0 ∷ 1 ∷ 2 ∷ 4 ∷ 5 ∷ 6 ∷ 7 ∷ 8 ∷ 9 ∷ 10 ∷ 11 ∷ 12 ∷ 13 ∷ 14 ∷ 15 ∷ 16 ∷ 17 ∷ 18 ∷ 19 ∷ 20 ∷ 21 ∷ 22 ∷ 23 ∷ 24 ∷ 25 ∷ 26 ∷ []
+others′ = 0 ∷ 1 ∷ 2 ∷ 3 ∷ 5 ∷ 6 ∷ 7 ∷ 8 ∷ 9 ∷ 10 ∷ 11 ∷ []
 
 played-is : (t : Table) (line room octets frames : List ℕ) (c : Command) → OneOf others (tagOf the-type c) → OneOf others′ (tagOf the-type c)
     → lineOf t line room octets frames c ≡ played t line room octets frames c
 unfolding lineOf
 played-is t line room octets frames Command.Bad h k = refl
-played-is t line room octets frames (Command.Make n d m) h k = absurd (miss others 1 tt h)
-played-is t line room octets frames (Command.RegisterSpsm spsm) h k = refl
-played-is t line room octets frames (Command.Signal link listening central pdu) h k = absurd (miss others′ 3 tt k)
-played-is t line room octets frames (Command.NextPending link up) h k = refl
-played-is t line room octets frames (Command.RejectAllPending link) h k = refl
-played-is t line room octets frames (Command.AcceptPending slot config) h k = refl
-played-is t line room octets frames (Command.RejectPending slot result) h k = refl
-played-is t line room octets frames (Command.DropPending slot) h k = refl
-played-is t line room octets frames (Command.Create link spsm config) h k = refl
+played-is t line room octets frames (Command.Opening c) h k = refl
+played-is t line room octets frames (Command.Closing c) h k = refl
+played-is t line room octets frames (Command.Make n d m) h k = absurd (miss others 3 tt h)
+played-is t line room octets frames (Command.Signal link listening central pdu) h k = absurd (miss others′ 4 tt k)
 played-is t line room octets frames (Command.Opened slot link up) h k = refl
-played-is t line room octets frames (Command.GiveUp slot) h k = refl
-played-is t line room octets frames (Command.IncRef slot) h k = refl
-played-is t line room octets frames (Command.DecRef slot) h k = refl
-played-is t line room octets frames (Command.Disconnect slot) h k = refl
-played-is t line room octets frames (Command.DisconnectByCid cid) h k = refl
-played-is t line room octets frames (Command.Disconnected link) h k = refl
-played-is t line room octets frames Command.NextDisconnect h k = refl
 played-is t line room octets frames (Command.Dispatch link cid payload) h k = refl
 played-is t line room octets frames (Command.Send slot job) h k = refl
 played-is t line room octets frames (Command.Receive slot size) h k = refl
-played-is t line room octets frames Command.Attention h k = refl
 played-is t line room octets frames (Command.Queries slot) h k = refl
-played-is t line room octets frames (Command.SendConnParamUpdateReq link least most latency timeout) h k = refl
-played-is t line room octets frames (Command.SendConnParamUpdateRes link result) h k = refl
 played-is t line room octets frames Command.View h k = refl
 played-is t line room octets frames (Command.Room slot) h k = refl
 

@@ -101,3 +101,29 @@ refusalNumber Refusal.BadMps = 20
 refusalNumber Refusal.QueueFull = 21
 refusalNumber Refusal.Held = 22
 refusalNumber Refusal.TooLong = 23
+
+-- the result code that refusal 17 carries; 0 of every other
+unfoldable pub resultIn : Refusal → ℕ
+resultIn Refusal.BadTable = 0
+resultIn Refusal.BadRoom = 0
+resultIn Refusal.NoRoom = 0
+resultIn Refusal.BadHandle = 0
+resultIn Refusal.BadSpsm = 0
+resultIn Refusal.BadSlot = 0
+resultIn Refusal.InvalidChannelId = 0
+resultIn Refusal.NotFound = 0
+resultIn Refusal.InvalidValue = 0
+resultIn Refusal.OutOfMemory = 0
+resultIn Refusal.ChannelClosed = 0
+resultIn Refusal.InsufficientSpace = 0
+resultIn Refusal.NoChannelAvailable = 0
+resultIn Refusal.Busy = 0
+resultIn Refusal.Decode = 0
+resultIn Refusal.NotSupported = 0
+resultIn (Refusal.ConnectError c) = resultNumber c
+resultIn Refusal.Disconnected = 0
+resultIn Refusal.ShortFrame = 0
+resultIn Refusal.BadMps = 0
+resultIn Refusal.QueueFull = 0
+resultIn Refusal.Held = 0
+resultIn Refusal.TooLong = 0

@@ -1,7 +1,7 @@
 // The numbers of document 01 that are enums here: the refusals, and the result codes of a connect response (Core Vol 3 Part A 4.23).
 // What each stands for is in specs/Codes.antt; every crate above uses these two enums.
 ghost use mathlib.Core.Path.{_≡_};
-ghost use Rattle.codes.specs.Codes.{resultNumber, resultOf, refusalNumber};
+ghost use Rattle.codes.specs.Codes.{resultNumber, resultOf, refusalNumber, resultIn};
 
 // The result of a connect response.
 pub enum LeCreditConnResultCode {
@@ -133,5 +133,15 @@ pub fn refusal_number(r: Refusal) -> u8
         Refusal::QueueFull => 21,
         Refusal::Held => 22,
         Refusal::TooLong => 23,
+    }
+}
+
+// The result code's number that refusal 17 carries; 0 of every other.
+pub fn result_in(r: Refusal) -> u16
+    ensures { λ n. ⌜ n ≡ resultIn r ⌝ }
+{
+    match r {
+        Refusal::ConnectError(code) => result_number(code),
+        _ => 0,
     }
 }

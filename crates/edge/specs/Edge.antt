@@ -19,7 +19,8 @@ use Rattle.definition.specs.Table.{if_then_else_}
 use Rattle.definition.specs.Ending.{End, end}
 use Rattle.edge_layout.specs.Layout.{read, written, tableOctets}
 use Rattle.edge_layout.specs.declared.Decoded.{Decoded}
-use Rattle.edge_answer.specs.Answers.{tells, answerOctets}
+use Rattle.channel_answer.specs.Tells.{answerNumber}
+use Rattle.edge_answer.specs.Answers.{answerOctets}
 
 pub record Edge : Type 0 where
   pub number : ℕ  -- 0, or the refusal's
@@ -60,7 +61,7 @@ coincide p q =
 unfoldable pub lifted : (ok : Bool) (table answer : List ℕ) → End → Edge
 lifted ok table answer e =
     record {
-      number = tells (e .served .answer) .refusal;
+      number = answerNumber (e .served .answer);
       table = choose ok (written table (e .served .table)) table;
       answer = sets answer 0 (answerOctets (e .served));
       room = e .room;

@@ -9,7 +9,7 @@ use Prim.Native.Nat.{ℕ, _/_, _%_, min}
 use Rattle.octets.specs.Octets.{le16}
 use Rattle.channel.specs.declared.Served.{Served}
 use Rattle.channel_answer.specs.declared.Told.{Told}
-unfoldable pub use Rattle.channel_answer.specs.Tells.{tells}
+use Rattle.channel_answer.specs.Tells.{tells}
 
 -- four octets of a number; one that takes more is told as the greatest
 abbrev pub le32 : ℕ → List ℕ

@@ -8,7 +8,8 @@ use octets::put;
 use octets::put_number;
 ghost use mathlib.Core.Path.{_≡_};
 ghost use lib.Seq.{sets};
-ghost use Rattle.edge_answer.specs.Answers.{tells, toldOctets, answerOctets};
+ghost use Rattle.channel_answer.specs.Tells.{answerNumber};
+ghost use Rattle.edge_answer.specs.Answers.{toldOctets, answerOctets};
 
 // Writes what was told, and how many octets the call wrote.
 fn put_told(out: &mut [u8], x: Told, n: usize)
@@ -28,7 +29,7 @@ fn put_told(out: &mut [u8], x: Told, n: usize)
 
 // Writes the answer of a call.
 pub fn put_answer(out: &mut [u8], s: Served) -> u32
-    ensures { λ r. ⌜ r ≡ tells (s .answer) .refusal ⌝ }
+    ensures { λ r. ⌜ r ≡ answerNumber (s .answer) ⌝ }
     ensures { λ _. ⌜ now (out .exit) ≡ sets (now (out .entry)) 0 (answerOctets s) ⌝ }
 {
     let a = s.answer;

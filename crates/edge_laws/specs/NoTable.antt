@@ -8,6 +8,7 @@ use Prim.Native.Nat.{ℕ}
 use lib.ListN.{length, replicate}
 use lib.Seq.{sets}
 use Rattle.lists.specs.Choose.{choose, choose-true}
+use Rattle.codes.specs.Codes.{resultIn}
 use Rattle.codes.specs.declared.Refusal.the-variants.{BadTable}
 use Rattle.codes.specs.declared.ResultRead.the-variants.{Known, Unknown}
 use Rattle.channel.specs.declared.Answer.the-variants.{Refused}
@@ -27,8 +28,7 @@ use Rattle.definition.specs.Calls.{Call, frame, sends, down, plain, Request, re
 use Rattle.definition.specs.Ending.{End, end, gave, endOf, end-still}
 use Rattle.edge_layout.specs.declared.Decoded.{Decoded}
 use Rattle.edge_layout.specs.Layout.{read}
-use Rattle.channel_answer.specs.Tells.{codeOf}
-use Rattle.edge_answer.specs.Answers.{tells, answerOctets}
+use Rattle.edge_answer.specs.Answers.{answerOctets}
 use Rattle.edge.specs.Edge.{Edge, edge, lifted, onTable}
 
 -- ---- the gate is shut
@@ -136,7 +136,7 @@ abbrev pub leftAlone : (table answer room out job : List ℕ) → Edge
 leftAlone table answer room out job = edge 1 table (sets answer 0 refusalOne) room out job
 
 one-told : (o a room out job : List ℕ) → lifted false o a (end (gave (Refused BadTable) noSlots 0) room out job) ≡ leftAlone o a room out job
-unfolding lifted choose answerOctets tells codeOf
+unfolding lifted choose answerOctets resultIn
 one-told o a room out job = refl
 
 pub on-none : (o a room out job : List ℕ) (f : Table → End) → read o .ok ≡ false → f noSlots ≡ end (gave (Refused BadTable) noSlots 0) room out job

@@ -12,7 +12,6 @@ use Rattle.definition.specs.Calls.{Window, Call}
 use Rattle.definition.specs.Example.{calls}
 use Rattle.definition.specs.Run.{State, outcome, after, made}
 use Rattle.edge_layout.specs.Back.{Sized}
-use Rattle.edge_answer.specs.Answers.{tells}
 use Rattle.isolation.specs.Statement.{overAfter, Alike, AlikeRuns}
 use Rattle.isolation.specs.Example.{alike}
 use Rattle.edge.specs.Edge.{lifted, madeOn, settingOf, policyBy}
@@ -81,7 +80,7 @@ apart id a b c x y e =
 
 -- Two makings over rooms and octets of any contents: both return 0.
 pub made-well : (z : ℕ) → makeEdge (replicate 672 z) [] (replicate 92 z) 2 1 29 .number ≡ 0
-unfolding madeOn lifted make choose tells
+unfolding madeOn lifted make choose
 made-well z = refl
 
 abbrev pub begun : ℕ → EdgeState

@@ -23,7 +23,6 @@ use Rattle.edge_layout.specs.Back.{Sized, read-back}
 use Rattle.isolation.specs.Statement.{isDown, overAfter, sent, framed, Alike, same, exchanged, AlikeRuns, Marks, marksOf, Isolated, Handed}
 use Rattle.isolation.specs.Isolation.{isolation}
 use Rattle.rules.specs.Run.{SettingFits, Fits, Reached, start, next}
-use Rattle.rules.specs.Step.{number}
 use Rattle.rules.specs.Rules.{never-1-nor-2}
 use Rattle.edge.specs.Edge.{settingOf}
 use Rattle.edge_sized.specs.Sized.{after-sized, run-sized}
@@ -125,27 +124,13 @@ entry-fits (own w octets) = tt
 
 -- ---- no entry of a run returns 1 or 2
 
--- the rules have the same number for an answer
-same-number : (a : Answer) → number a ≡ answerNumber a
-same-number Answer.Done = refl
-same-number (Answer.Refused r) = refl
-same-number (Answer.At slot) = refl
-same-number (Answer.Link link) = refl
-same-number Answer.Opened = refl
-same-number (Answer.Due link slot) = refl
-same-number (Answer.Frames link count) = refl
-same-number (Answer.Job link copied length) = refl
-same-number (Answer.Attention set count lowest) = refl
-same-number (Answer.Number n) = refl
-same-number (Answer.Event least most latency timeout) = refl
-
 never : (s : State) → Reached s → Sized (s .table) → (es : List Asked) → BuffersApart es → Never1Nor2 (told (spelled s) es)
 unfolding told
 never s r w [] h = tt
 never s r w (a ∷ es) h =
     let c = callIn a in
     let p = never-1-nor-2 r c (entry-fits (a .entry)) in
-    let e : edgeOf (spelled s) a .number ≡ number (outcome s c .answer) = number-is s w a ∙ sym (same-number (outcome s c .answer)) in (
+    let e : edgeOf (spelled s) a .number ≡ answerNumber (outcome s c .answer) = number-is s w a in (
       ((λ f. p .0 (sym e ∙ f)), (λ f. p .1 (sym e ∙ f))),
       subst (λ (x : EdgeState). Never1Nor2 (told x es)) (sym (entered-spelled s w a (h .0))) (never (after s c) (next c r (entry-fits (a .entry))) (after-sized s c w) es (h .1)),
     )

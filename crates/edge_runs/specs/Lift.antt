@@ -28,7 +28,7 @@ use Rattle.edge_layout.specs.Layout.{spell, tableOctets}
 use Rattle.edge_layout.specs.Layout as Layout
 use Rattle.edge_layout.specs.Columns.{spell-length}
 use Rattle.edge_layout.specs.Back.{Sized, read-back}
-use Rattle.edge_answer.specs.Answers.{tells, answerOctets}
+use Rattle.edge_answer.specs.Answers.{answerOctets}
 use Rattle.edge.specs.Edge.{Edge, edge, onTable, lifted, alone, flag}
 use Rattle.edge_sized.specs.Sized.{after-sized}
 use Rattle.edge_runs.specs.Entries.{Entry, registerSpsm, spsm, mtu, mps, peerMtu, peerMps, attention, sendConnParamUpdateReq, sendConnParamUpdateRes, nextPending, acceptPending, rejectPending, rejectAllPending, dropPending, create, opened, giveUp, incRef, decRef, disconnect, disconnectByCid, disconnected, nextDisconnect, signal, dispatch, send, receive, own, leaves, callOf}
@@ -117,22 +117,6 @@ written-full o u e w = choose-false _ _ _ (le-ltb (length o) tableOctets (omega 
 written-spelled : (t u : Table) → Sized t → Sized u → Layout.written (spell t) u ≡ spell u
 written-spelled t u w x = written-full (spell t) u (spell-length t ∙ omega (arith, w .spsms)) x
 
--- ---- the number that is returned is the paper's
-
-pub told-number : (a : Answer) → tells a .refusal ≡ answerNumber a
-unfolding tells
-told-number Answer.Done = refl
-told-number (Answer.Refused r) = refl
-told-number (Answer.At slot) = refl
-told-number (Answer.Link link) = refl
-told-number Answer.Opened = refl
-told-number (Answer.Due link slot) = refl
-told-number (Answer.Frames link count) = refl
-told-number (Answer.Job link copied length) = refl
-told-number (Answer.Attention set count lowest) = refl
-told-number (Answer.Number n) = refl
-told-number (Answer.Event least most latency timeout) = refl
-
 -- ---- the end that a contract names, with the room that a run has
 
 module _ (s : State) (c : Call) where
@@ -175,7 +159,7 @@ module _ (s : State) (w : Sized (s .table)) (a : Asked) where
   -- what it gives back, from its outcome
   pub number-is : edgeOf (spelled s) a .number ≡ answerNumber (o .answer)
   unfolding lifted endOf
-  number-is = ap (λ (x : Edge). x .number) edge-is ∙ told-number (o .answer)
+  number-is = ap (λ (x : Edge). x .number) edge-is
 
   pub answer-is : edgeOf (spelled s) a .answer ≡ sets (a .answer) 0 (answerOctets (servedOf o))
   unfolding lifted endOf

@@ -28,7 +28,7 @@ use Rattle.definition.specs.Calls.{Call, frame, sends, down, plain, bare, serve
 use Rattle.definition.specs.Calls as Calls
 use Rattle.definition.specs.Run.{State, after, run, outcomes}
 use Rattle.definition.specs.Example.{start}
-use Rattle.edge_answer.specs.Answers.{tells, answerOctets}
+use Rattle.edge_answer.specs.Answers.{answerOctets}
 use Rattle.isolation.specs.Statement.{overAfter, marked, marksFrom, marksOf, handed}
 use Rattle.edge.specs.Edge.{Edge, settingOf, policyBy}
 use Rattle.edge_sized.specs.Said.{isSend}
@@ -127,7 +127,7 @@ module _ (demand : Demand3AtEntries) (id a b c x y e a′ b′ c′ x′ y′ e�
     never : (i : ℕ) → (getD (each number (begun 5) es) i 0 ≡ 1 → ⊥) × (getD (each number (begun 5) es) i 0 ≡ 2 → ⊥)
 
   heard : Heard
-  unfolding tellings outcomes handed size sizes answerOctets tells settingOf policyBy encodeOf after decide serve registerSpsm signalled checked headersOf whole handled onConnReq leCreditConnReq nextPending acceptPending dispatch joined joinStep firstStep reached assembled receive taken grantIn grantOf due send planned planSend frameCount ceil framesLength frames laterFrames disconnect disconnecting nextDisconnect disconnected decRef Calls.jobs bare verdict wellFormed slotFits every first only choose make parts moves move fill fills written
+  unfolding tellings outcomes handed size sizes answerOctets settingOf policyBy encodeOf after decide serve registerSpsm signalled checked headersOf whole handled onConnReq leCreditConnReq nextPending acceptPending dispatch joined joinStep firstStep reached assembled receive taken grantIn grantOf due send planned planSend frameCount ceil framesLength frames laterFrames disconnect disconnecting nextDisconnect disconnected decRef Calls.jobs bare verdict wellFormed slotFits every first only choose make parts moves move fill fills written
   heard =
       record {
         numbers = second (λ x. x .number) number (λ a x. refl);

@@ -15,12 +15,11 @@ use Rattle.definition.specs.Run.{made}
 use Rattle.definition.specs.Ending.{endMade}
 use Rattle.edge_layout.specs.Layout.{tableOctets}
 use Rattle.edge_layout.specs.Back.{Sized}
-use Rattle.edge_answer.specs.Answers.{tells}
 use Rattle.edge.specs.Edge.{Edge, lifted, madeOn}
 use Rattle.edge_asking.specs.Asking.{makeEdge}
 use Rattle.edge_sized.specs.Sized.{made-sized}
 use Rattle.edge_runs.specs.Run.{EdgeState, started}
-use Rattle.edge_runs.specs.Lift.{spelled, written-full, told-number}
+use Rattle.edge_runs.specs.Lift.{spelled, written-full}
 
 -- the making of the definition answers 0 too: Done
 made-done : (n d m : ℕ) (room : List ℕ) → answerNumber (make n d m room .answer) ≡ 0 → make n d m room .answer ≡ Done
@@ -42,10 +41,10 @@ at fits table answer room n d m = lifted fits table answer (endMade (make (choos
 
 starts : (fits : Bool) (table answer room : List ℕ) (n d m : ℕ) (memory : List ℕ) → eqb (length table) tableOctets ≡ fits → at fits table answer room n d m .number ≡ 0
     → Start n d m room memory (record { table = at fits table answer room n d m .table; room = at fits table answer room n d m .room; memory = memory })
-unfolding lifted choose make tells
+unfolding lifted choose make
 starts false table answer room n d m memory e h = absurd (eqb-false 1 0 refl h)
 starts true table answer room n d m memory e h =
-    let z : answerNumber (make n d m room .answer) ≡ 0 = sym (told-number (make n d m room .answer)) ∙ h in
+    let z : answerNumber (make n d m room .answer) ≡ 0 = h in
     let w = made-sized n d m room z in
     record {
       is = ap (λ (o : List ℕ). record { table = o; room = make n d m room .room; memory = memory }) (written-full table (make n d m room .table) (eqb-true (length table) tableOctets e) w);

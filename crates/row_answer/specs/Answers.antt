@@ -2,26 +2,13 @@
 -- wrote, in hex, or `-`."
 use mathlib.Core.List.{List, [], _∷_, _++_}
 use Prim.Native.Nat.{ℕ}
-use Rattle.codes.specs.Codes.{refusalNumber}
+use Rattle.text_write.specs.Text.{text}
 use Rattle.text_decimal.specs.NumberText.{numberText}
 use Rattle.text_hex_write.specs.HexText.{hexText}
 use Rattle.channel.specs.declared.Answer.{Answer}
-use Rattle.channel.specs.declared.Answer.the-variants as Answer
+use Rattle.channel_answer.specs.Tells.{tells, answerNumber}
+use Rattle.row_answer.specs.Told.{columnsIn}
 use Rattle.row_columns.specs.Columns.{columnsText}
-use Rattle.row_answer.specs.Told.{told}
-
-unfoldable pub answerNumber : Answer → ℕ
-answerNumber Answer.Done = 0
-answerNumber (Answer.Refused r) = refusalNumber r
-answerNumber (Answer.At slot) = 0
-answerNumber (Answer.Link link) = 0
-answerNumber Answer.Opened = 0
-answerNumber (Answer.Due link slot) = 0
-answerNumber (Answer.Frames link count) = 0
-answerNumber (Answer.Job link copied length) = 0
-answerNumber (Answer.Attention set count lowest) = 0
-answerNumber (Answer.Number n) = 0
-answerNumber (Answer.Event least most latency timeout) = 0
 
 unfoldable pub answerText : Answer → List ℕ → List ℕ
-answerText a octets = ((numberText (answerNumber a) ++ 32 ∷ []) ++ hexText octets) ++ columnsText (told a)
+answerText a octets = ((numberText (answerNumber a) ++ text " ") ++ hexText octets) ++ columnsText (columnsIn (tells a))

@@ -1,55 +1,27 @@
 -- What an answer tells in the columns of its row (docs/CHANRUN.md: "ANSWER OCTETS and the columns listed").
 use mathlib.Core.Path.{_≡_, sym, ap, ap₂, _∙_}
 use mathlib.Core.List.{List, [], _∷_, _++_}
-use Prim.Native.Nat.{ℕ, _-_, _≤_, min}
+use Prim.Native.Nat.{ℕ, _-_, _≤_}
 use native.Mathlib.Omega.{arith}
 use lib.ListN.{length, take, drop, replicate, length-take, take-append-drop}
-use Rattle.codes.specs.Codes.{resultNumber}
-use Rattle.codes.specs.declared.Refusal.{Refusal}
-use Rattle.codes.specs.declared.Refusal.the-variants as Refusal
-use Rattle.channel.specs.declared.Answer.{Answer}
-use Rattle.channel.specs.declared.Answer.the-variants as Answer
+use lib.Dec.{eqb}
+use Rattle.lists.specs.Choose.{choose}
+use Rattle.channel_answer.specs.declared.Told.{Told}
+use Rattle.channel_answer.specs.Kinds as Kind
 
--- "with 17: the result code"
-unfoldable pub toldOf : Refusal → List ℕ
-toldOf Refusal.BadTable = []
-toldOf Refusal.BadRoom = []
-toldOf Refusal.NoRoom = []
-toldOf Refusal.BadHandle = []
-toldOf Refusal.BadSpsm = []
-toldOf Refusal.BadSlot = []
-toldOf Refusal.InvalidChannelId = []
-toldOf Refusal.NotFound = []
-toldOf Refusal.InvalidValue = []
-toldOf Refusal.OutOfMemory = []
-toldOf Refusal.ChannelClosed = []
-toldOf Refusal.InsufficientSpace = []
-toldOf Refusal.NoChannelAvailable = []
-toldOf Refusal.Busy = []
-toldOf Refusal.Decode = []
-toldOf Refusal.NotSupported = []
-toldOf (Refusal.ConnectError code) = resultNumber code ∷ []
-toldOf Refusal.Disconnected = []
-toldOf Refusal.ShortFrame = []
-toldOf Refusal.BadMps = []
-toldOf Refusal.QueueFull = []
-toldOf Refusal.Held = []
-toldOf Refusal.TooLong = []
-
--- The columns that an answer tells: "the slot, where one is given", "1 where a hold was taken", "link and slot", the number of frames,
--- "copied, job length", "the set, the number of slots calling, the lowest", "min max latency timeout".
-unfoldable pub told : Answer → List ℕ
-told Answer.Done = []
-told (Answer.Refused r) = toldOf r
-told (Answer.At slot) = slot .0 ∷ []
-told (Answer.Link link) = []
-told Answer.Opened = 1 ∷ []
-told (Answer.Due link slot) = link ∷ slot .0 ∷ []
-told (Answer.Frames link count) = min count 65535 ∷ []
-told (Answer.Job link copied length) = min copied 65535 ∷ length ∷ []
-told (Answer.Attention set count lowest) = set ∷ count ∷ lowest ∷ []
-told (Answer.Number n) = n ∷ []
-told (Answer.Event least most latency timeout) = least ∷ most ∷ latency ∷ timeout ∷ []
+-- The columns of what an answer tells. Only refusal 17 has the number 17; of what a row leaves away, a link goes to whom the octets go.
+unfoldable pub columnsIn : Told → List ℕ
+columnsIn x =
+    choose (eqb (x .refusal) 17) (x .first ∷ [])  -- "with 17: the result code"
+    (choose (eqb (x .kind) Kind.at) (x .first ∷ [])  -- "the slot, where one is given"
+    (choose (eqb (x .kind) Kind.opened) (1 ∷ [])  -- "1 where a hold was taken"
+    (choose (eqb (x .kind) Kind.due) (x .first ∷ x .second ∷ [])  -- "link and slot"
+    (choose (eqb (x .kind) Kind.frames) (x .second ∷ [])  -- the number of frames
+    (choose (eqb (x .kind) Kind.job) (x .second ∷ x .third ∷ [])  -- "copied, job length"
+    (choose (eqb (x .kind) Kind.attention) (x .first ∷ x .second ∷ x .third ∷ [])  -- "the set, the number of slots calling, the lowest"
+    (choose (eqb (x .kind) Kind.number) (x .first ∷ [])
+    (choose (eqb (x .kind) Kind.event) (x .first ∷ x .second ∷ x .third ∷ x .fourth ∷ [])  -- "min max latency timeout"
+    []))))))))
 
 -- numbers of columns, at most four, and zeros behind them
 pub record Tells (count : ℕ) (numbers : List ℕ) (l : List ℕ) : Type 0 where

@@ -32,7 +32,7 @@ pub fn answered(row: &mut [u8], a: Answer, octets: &[u8]) -> usize
     ensures { λ r. ⌜ Writes (now (row .entry)) 0 (rowText a (now (octets .entry))) r (now (row .exit)) ⌝ }
 {
     let n = write_answer(row, 0, a, octets);
-    write_character(row, n, 10)
+    write_character(row, n, b'\n')
 }
 
 // The row of an answer that wrote nothing.
@@ -48,5 +48,5 @@ pub fn told_more(row: &mut [u8], a: Answer, more: &[u16]) -> usize
 {
     let n = write_answer(row, 0, a, b"");
     let numbers = write_columns(row, n, more);
-    write_character(row, numbers, 10)
+    write_character(row, numbers, b'\n')
 }

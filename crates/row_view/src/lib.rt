@@ -1,11 +1,11 @@
 // The view of a table (docs/CHANRUN.md, `V`): its sizes, and a line for each slot. What is shown is defined in specs/View.antt; it rests on
-// `row_view_slot`, `row_answer`, `row_columns` and `text_write`.
+// `row_view_slot`, `row_answer`, `channel_answer`, `row_columns` and `text_write`.
 use channel::Answer;
 use channel::SLOTS;
 use channel::Table;
+use channel_answer::shown;
 use octets::least;
 use row_answer::write_answer;
-use row_columns::shown;
 use row_columns::write_columns;
 use row_view_slot::write_slot;
 use text_write::write_character;
@@ -22,7 +22,7 @@ fn write_sizes(out: &mut [u8], at: usize, t: Table) -> usize
         answer,
         &[shown(t.n), shown(t.d), shown(t.m), t.identifier as u16],
     );
-    write_character(out, numbers, 10)
+    write_character(out, numbers, b'\n')
 }
 
 // The rows of `V`.

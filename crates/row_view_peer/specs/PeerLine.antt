@@ -3,6 +3,7 @@
 use mathlib.Core.List.{List, [], _∷_, _++_}
 use Prim.Native.Nat.{ℕ, min}
 use lib.ListN.{take}
+use Rattle.text_write.specs.Text.{text}
 use Rattle.row_columns.specs.Columns.{columnsText}
 use Rattle.channel.specs.Limits.{depthMost}
 use Rattle.channel.specs.declared.Queue.{Queue}
@@ -17,4 +18,4 @@ unfoldable pub peerText : Slot → List ℕ
 peerText x =
     ((columnsText (x .peer .cid ∷ x .peer .mps ∷ x .peer .mtu ∷ x .peer .credits ∷ []) ++ columnsText (x .hold ∷ x .assembly .have ∷ x .assembly .want ∷ []))
     ++ jobsText (x .queue))
-    ++ 10 ∷ []
+    ++ text "\n"

@@ -29,5 +29,5 @@ pub fn write_peer(out: &mut [u8], at: usize, x: Slot) -> usize
     let peer = write_columns(out, at, &[p.cid, p.mps, p.mtu, p.credits]);
     let numbers = write_columns(out, peer, &[x.hold as u16, a.have, a.want]);
     let jobs = write_jobs(out, numbers, q);
-    write_character(out, jobs, 10)
+    write_character(out, jobs, b'\n')
 }

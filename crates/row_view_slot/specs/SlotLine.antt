@@ -2,6 +2,7 @@
 -- peer_credits hold have want queued" "and then the length of each waiting job, oldest first".
 use mathlib.Core.List.{List, [], _∷_, _++_}
 use Prim.Native.Nat.{ℕ, _+_}
+use Rattle.text_write.specs.Text.{text}
 use Rattle.row_columns.specs.Columns.{columnsText}
 use Rattle.channel.specs.Limits.{cidBase}
 use Rattle.channel.specs.declared.ChannelState.{ChannelState}
@@ -11,12 +12,12 @@ use Rattle.row_view_peer.specs.PeerLine.{peerText}
 
 -- `= slot state`
 unfoldable pub headText : ℕ → ChannelState → List ℕ
-headText s state = ((61 ∷ [] ++ columnsText (s ∷ [])) ++ 32 ∷ []) ++ stateText state
+headText s state = ((text "=" ++ columnsText (s ∷ [])) ++ text " ") ++ stateText state
 
 -- `link cid spsm mps mtu policy credits received`; "cid is 64 + slot"
 unfoldable pub localText : ℕ → Slot → List ℕ
 localText s x =
-    ((columnsText (x .link ∷ (cidBase + s) ∷ x .spsm ∷ x .mps ∷ x .mtu ∷ []) ++ 32 ∷ []) ++ policyText (x .account .policy))
+    ((columnsText (x .link ∷ (cidBase + s) ∷ x .spsm ∷ x .mps ∷ x .mtu ∷ []) ++ text " ") ++ policyText (x .account .policy))
     ++ columnsText (x .account .credits ∷ x .account .received ∷ [])
 
 unfoldable pub slotText : ℕ → Slot → List ℕ

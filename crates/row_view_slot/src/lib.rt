@@ -14,9 +14,9 @@ ghost use Rattle.row_view_slot.specs.SlotLine.{headText, localText, slot
 fn write_head(out: &mut [u8], at: usize, s: u8, state: ChannelState) -> usize
     ensures { λ r. ⌜ Writes (now (out .entry)) at (headText s state) r (now (out .exit)) ⌝ }
 {
-    let mark = write_character(out, at, 61);
+    let mark = write_character(out, at, b'=');
     let number = write_columns(out, mark, &[s as u16]);
-    let space = write_character(out, number, 32);
+    let space = write_character(out, number, b' ');
     write_state(out, space, state)
 }
 
@@ -25,7 +25,7 @@ fn write_local(out: &mut [u8], at: usize, s: u8, x: Slot) -> usize
     ensures { λ r. ⌜ Writes (now (out .entry)) at (localText s x) r (now (out .exit)) ⌝ }
 {
     let numbers = write_columns(out, at, &[x.link, 64 + (s as u16), x.spsm, x.mps, x.mtu]);
-    let space = write_character(out, numbers, 32);
+    let space = write_character(out, numbers, b' ');
     let account = x.account;
     let policy = account.policy;
     let name = write_policy(out, space, policy);

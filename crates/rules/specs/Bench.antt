@@ -25,7 +25,7 @@ use Rattle.definition.specs.Pending.{nextPending, acceptPending}
 use Rattle.definition.specs.Signals.{signalled, checked, handled, onConnReq, onCredits}
 use Rattle.definition.specs.Frames.{dispatch}
 use Rattle.definition.specs.Calls.{frame, plain, Request, register, signals, pends, accepts, decide, serve}
-use Rattle.rules.specs.Step.{number}
+use Rattle.definition.specs.Numbers.{answerNumber}
 
 -- N 2, D 1, M 64, and so a room of 232 octets
 abbrev two : Table
@@ -59,19 +59,19 @@ pub record Bench : Type 0 where
   pub counts : (job : ℕ → List ℕ) → ((l : ℕ) → length (job l) ≡ l) → Cut.Bench (λ (l : ℕ). length (payloads 23 (job l))) (payloads 23 [])
   pub held : slotAt open-slot 0 .peer .credits ≡ 65530
   -- 65,530 + 5: 65,535
-  pub five-answer : number (credits 5 .answer) ≡ 0
+  pub five-answer : answerNumber (credits 5 .answer) ≡ 0
   pub five : slotAt (credits 5 .table) 0 .peer .credits ≡ 65535
   pub five-state : slotAt (credits 5 .table) 0 .state ≡ Connected
   -- 65,530 + 6: refusal 9, Disconnecting, credits kept
-  pub six-answer : number (credits 6 .answer) ≡ 9
+  pub six-answer : answerNumber (credits 6 .answer) ≡ 9
   pub six : slotAt (credits 6 .table) 0 .peer .credits ≡ 65530
   pub six-state : slotAt (credits 6 .table) 0 .state ≡ Disconnecting false
   -- N 2: CID 0x3F is refused by 7, 0x41 is slot 1, 0x42 is refused by 7
-  pub below : (head : List ℕ) (k : ℕ) → number (framed 0x3F head k .answer) ≡ 7
+  pub below : (head : List ℕ) (k : ℕ) → answerNumber (framed 0x3F head k .answer) ≡ 7
   pub names : isCid two 0x41 ≡ true
   pub one : slotOf 0x41 ≡ 1
-  pub one-answer : (head : List ℕ) (k : ℕ) → number (framed 0x41 head k .answer) ≡ 0
-  pub above : (head : List ℕ) (k : ℕ) → number (framed 0x42 head k .answer) ≡ 7
+  pub one-answer : (head : List ℕ) (k : ℕ) → answerNumber (framed 0x41 head k .answer) ≡ 0
+  pub above : (head : List ℕ) (k : ℕ) → answerNumber (framed 0x42 head k .answer) ≡ 7
 
 pub bench : Bench
 unfolding make decide serve registerSpsm signalled checked handled headersOf whole fuelled onConnReq leCreditConnReq onCredits leCreditFlowInd nextPending acceptPending dispatch verdict wellFormed slotFits every first choose only

@@ -24,6 +24,7 @@ use Rattle.channel.specs.declared.ChannelState.the-variants.{Disconnected, Conn
 use Rattle.channel.specs.declared.L2capChannelConfig.{L2capChannelConfig}
 use Rattle.channel.specs.declared.Slot.{Slot}
 use Rattle.channel.specs.declared.Table.{Table}
+use Rattle.definition.specs.Numbers.{answerNumber}
 use Rattle.definition.specs.Mem.{given, Move}
 use Rattle.definition.specs.Table.{gap, slotAt, found, isFree, isDisconnected, isPeerConnecting, identifierOf, index, cidOf, nextId, spent, wellFormed}
 use Rattle.definition.specs.Outcome.{Outcome, refuse}
@@ -33,7 +34,7 @@ use Rattle.definition.specs.Pending.{acceptPending, mtuOf, mpsOf, creditsOf}
 use Rattle.definition.specs.Opening.{create}
 use Rattle.rules.specs.Run.{Fits, AllFit, Reached, next}
 use Rattle.lists.specs.Both.{and-left, and-right}
-use Rattle.rules.specs.Step.{number, Step, hold, go, accept, free, allocate, Steps, Numbered}
+use Rattle.rules.specs.Step.{Step, hold, go, accept, free, allocate, Steps, Numbered}
 use Rattle.rules.specs.Step as Step
 use Rattle.rules.specs.Forms.{live-at, gate-cases}
 use Rattle.rules.specs.Keep.{accounting-sum}
@@ -45,9 +46,9 @@ pub well-formed : {s : State} → Reached s → wellFormed (s .table) ≡ true
 well-formed r = good-formed (reached-good r)
 
 -- So no call of the run answers 1; nor 2, since the room is always the run's.
-pub never-1-nor-2 : {s : State} → Reached s → (a : Call) → Fits a → (number (outcome s a .answer) ≡ 1 → ⊥) × (number (outcome s a .answer) ≡ 2 → ⊥)
+pub never-1-nor-2 : {s : State} → Reached s → (a : Call) → Fits a → (answerNumber (outcome s a .answer) ≡ 1 → ⊥) × (answerNumber (outcome s a .answer) ≡ 2 → ⊥)
 never-1-nor-2 {s} r a f =
-    let n = number (outcome s a .answer) in
+    let n = answerNumber (outcome s a .answer) in
     let p : (not (eqb n 1) && not (eqb n 2)) ≡ true = call-steps s (reached-good r) a f .answer in
     (eqb-false n 1 (not-true _ (and-left (not (eqb n 1)) _ p)), eqb-false n 2 (not-true _ (and-right (not (eqb n 1)) _ p)))
 

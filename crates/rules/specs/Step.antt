@@ -6,7 +6,6 @@ use mathlib.Core.List.{List, [], _∷_}
 use Prim.Native.Nat.{ℕ, _+_, _≤_, _<_}
 use lib.Dec.{eqb}
 use lib.ListN.{length}
-use Rattle.codes.specs.Codes.{refusalNumber}
 use Rattle.credit.specs.declared.CreditFlowControl.{CreditFlowControl}
 use Rattle.credit.specs.declared.Grant.the-variants.{Credits}
 use Rattle.credit.specs.Account.{received, granted, grantOf, creditSum}
@@ -16,13 +15,13 @@ use Rattle.signal_write.specs.Writer.{encodeOf}
 use Rattle.signal_forms.specs.declared.Signal.{Signal}
 use Rattle.channel.specs.Limits.{creditsMost}
 use Rattle.channel.specs.declared.Answer.{Answer}
-use Rattle.channel.specs.declared.Answer.the-variants.{Done, Refused, At, Link, Opened, Due, Frames, Job, Attention, Number, Event}
 use Rattle.channel.specs.declared.Queue.{Queue}
 use Rattle.channel.specs.declared.Slot.{Slot}
 use Rattle.channel.specs.declared.Table.{Table}
 use Rattle.definition.specs.Mem.{Fill, given, zeros, job, Move, put, wipe}
 use Rattle.definition.specs.Table.{placeOf, fresh, live, isDisconnected, isPeerConnecting, withHold, nextId, spent}
 use Rattle.definition.specs.Outcome.{Outcome}
+use Rattle.definition.specs.Numbers.{answerNumber}
 use Rattle.definition.specs.Frames.{queued, finishing, shifted, movingUp}
 use Rattle.rules.specs.Tests.{begun}
 
@@ -95,23 +94,9 @@ pub data Numbered (t : Table) : ℕ → List Fill → Type 0 where
 
 -- ---- the answer
 
--- The paper's number for an answer: 0, or the refusal's.
-abbrev pub number : Answer → ℕ
-number Done = 0
-number (Refused r) = refusalNumber r
-number (At i) = 0
-number (Link link) = 0
-number Opened = 0
-number (Due link i) = 0
-number (Frames link n) = 0
-number (Job link copied len) = 0
-number (Attention set n lowest) = 0
-number (Number n) = 0
-number (Event min max latency timeout) = 0
-
 -- neither refusal 1 nor refusal 2
 abbrev pub passes : Answer → Bool
-passes a = not (eqb (number a) 1) && not (eqb (number a) 2)
+passes a = not (eqb (answerNumber a) 1) && not (eqb (answerNumber a) 2)
 
 -- ---- a call
 

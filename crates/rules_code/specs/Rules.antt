@@ -11,10 +11,11 @@ use Rattle.channel.specs.declared.Answer.the-variants.{Done}
 use Rattle.channel.specs.declared.Served.{Served}
 use Rattle.definition.specs.Table.{placeOf, width, fresh, slotAt, isDisconnected, nextId, wellFormed}
 use Rattle.definition.specs.Calls.{Call}
+use Rattle.definition.specs.Numbers.{answerNumber}
 use Rattle.definition.specs.Run.{State, outcome}
 use Rattle.rules.specs.Run.{Fits, AllFit, Reached, start, run-reached}
 use Rattle.rules.specs.Tests.{begun}
-use Rattle.rules.specs.Step.{number, Numbered}
+use Rattle.rules.specs.Step.{Numbered}
 use Rattle.rules.specs.Places.{jobIn}
 use Rattle.rules.specs.Rules.{well-formed, never-1-nor-2, credit-sum, identifiers, identifier-used, lasts, Lasts, credits-last}
 use Rattle.rules.specs.RoomRule.{room-rule, Empty, unbegun-empty, free-fresh, new-connection, connection-begins}
@@ -61,8 +62,8 @@ module _ {s : State} (g : CodeReached s) where
 
   module _ {s′ : State} {c : Call} {r : Served} (p : Called s c r s′) (f : Fits c) where
     -- no call answers 1, nor 2
-    pub code-never-1-nor-2 : (number (r .answer) ≡ 1 → ⊥) × (number (r .answer) ≡ 2 → ⊥)
-    code-never-1-nor-2 = subst (λ (x : Served). (number (x .answer) ≡ 1 → ⊥) × (number (x .answer) ≡ 2 → ⊥)) (sym (called-served p)) (never-1-nor-2 (code-reached g) c f)
+    pub code-never-1-nor-2 : (answerNumber (r .answer) ≡ 1 → ⊥) × (answerNumber (r .answer) ≡ 2 → ⊥)
+    code-never-1-nor-2 = subst (λ (x : Served). (answerNumber (x .answer) ≡ 1 → ⊥) × (answerNumber (x .answer) ≡ 2 → ⊥)) (sym (called-served p)) (never-1-nor-2 (code-reached g) c f)
 
     -- it keeps the next identifier, or uses it, and then writes nothing or one signal that carries it
     pub code-identifier-used : Numbered (s .table) (s′ .table .identifier) (outcome s c .out)

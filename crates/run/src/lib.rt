@@ -1,5 +1,6 @@
 // Every command but `T` and `S` with the row that it prints (docs/CHANRUN.md): which play of `run_plain`, `run_frames`, `run_queries` and
-// `run_table` it is. Defined in specs/Playing.antt, case by case. `room` is the table's room, no longer and no shorter; `octets` holds a
+// `run_table` it is. Defined in specs/Playing.antt, case by case; those two
+// have no row here. `room` is the table's room, no longer and no shorter; `octets` holds a
 // word's octets or a job, `frames` frames.
 ghost use Rattle.run_play.specs.Plays.{Plays};
 ghost use Rattle.run.specs.Playing.{playOf};
@@ -27,7 +28,17 @@ pub fn play(
                 octets: n,
             }
         }
-        Command::Opened { .. } => run_plain::opened(t, c, room, row),
+        Command::Opening(call) => run_plain::opening(t, call, room, row),
+        Command::Closing(call) => run_plain::closing(t, call, room, row),
+        Command::Make { .. } => Played {
+            table: t,
+            octets: 0,
+        },
+        Command::Signal { .. } => Played {
+            table: t,
+            octets: 0,
+        },
+        Command::Opened { slot, link, up } => run_plain::opened(t, slot, link, up, room, row),
         Command::Dispatch { link, cid, payload } => {
             run_frames::frame(t, link, cid, line, payload, octets, room, row)
         }
@@ -59,6 +70,5 @@ pub fn play(
                 octets: n,
             }
         }
-        _ => run_plain::plain(t, c, room, row),
     }
 }

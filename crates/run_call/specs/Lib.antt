@@ -1,2 +1,2 @@
--- The call that a command asks for.
+-- The calls of holds and disconnects, of the attention set and of the parameter signals.
 pub mod Called

@@ -1,2 +1,2 @@
--- The call that a command asks for.
+-- The calls of pending connections and of attempts.
 pub mod Called

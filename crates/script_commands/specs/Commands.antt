@@ -1,6 +1,7 @@
 -- The table of calls (docs/CHANRUN.md), by the number of words of a line: a letter, then what the call is given. A letter that no call of that many
 -- words has, and a word that is not of the call's kind, make the line bad. `last` is where the last word stands: octets are read from there.
 use mathlib.Core.List.{List}
+use Prim.Native.Char.{code}
 use Prim.Native.Nat.{ℕ, min}
 use lib.Dec.{eqb}
 use Rattle.lists.specs.Choose.{choose}
@@ -9,6 +10,8 @@ use Rattle.text_words.specs.declared.Word.{Word}
 use Rattle.script_commands.specs.declared.Command.{Command}
 use Rattle.script_fields_plain.specs.PlainFields.{isNumber, numberOf, isFlag, flagOf}
 use Rattle.script_commands.specs.declared.Command.the-variants as Command
+use Rattle.script_commands.specs.declared.Opening.the-variants as Opening
+use Rattle.script_commands.specs.declared.Closing.the-variants as Closing
 
 -- The slot that a command names. A number that is no octet is past every table, as 255 is.
 abbrev pub slotNumber : ℕ → ℕ
@@ -16,24 +19,24 @@ slotNumber n = min n 255
 
 unfoldable pub oneWord : (c : ℕ) → Command
 oneWord c =
-    choose (eqb c 81) Command.NextDisconnect  -- Q
-    (choose (eqb c 73) Command.Attention  -- I
-    (choose (eqb c 86) Command.View  -- V
+    choose (eqb c (code "Q")) (Command.Closing Closing.NextDisconnect)
+    (choose (eqb c (code "I")) (Command.Closing Closing.Attention)
+    (choose (eqb c (code "V")) Command.View
     Command.Bad))
 
 unfoldable pub withNumber : (c n : ℕ) → Command
 withNumber c n =
-    choose (eqb c 82) (Command.RegisterSpsm n)  -- R spsm
-    (choose (eqb c 74) (Command.RejectAllPending n)  -- J link
-    (choose (eqb c 90) (Command.DropPending n)  -- Z slot
-    (choose (eqb c 71) (Command.GiveUp n)  -- G slot
-    (choose (eqb c 72) (Command.IncRef n)  -- H slot
-    (choose (eqb c 76) (Command.DecRef n)  -- L slot
-    (choose (eqb c 68) (Command.Disconnect n)  -- D slot
-    (choose (eqb c 69) (Command.DisconnectByCid n)  -- E cid
-    (choose (eqb c 87) (Command.Disconnected n)  -- W link
-    (choose (eqb c 85) (Command.Queries n)  -- U slot
-    (choose (eqb c 77) (Command.Room n)  -- M slot
+    choose (eqb c (code "R")) (Command.Opening (Opening.RegisterSpsm n))  -- spsm
+    (choose (eqb c (code "J")) (Command.Opening (Opening.RejectAllPending n))  -- link
+    (choose (eqb c (code "Z")) (Command.Opening (Opening.DropPending n))  -- slot
+    (choose (eqb c (code "G")) (Command.Opening (Opening.GiveUp n))  -- slot
+    (choose (eqb c (code "H")) (Command.Closing (Closing.IncRef n))  -- slot
+    (choose (eqb c (code "L")) (Command.Closing (Closing.DecRef n))  -- slot
+    (choose (eqb c (code "D")) (Command.Closing (Closing.Disconnect n))  -- slot
+    (choose (eqb c (code "E")) (Command.Closing (Closing.DisconnectByCid n))  -- cid
+    (choose (eqb c (code "W")) (Command.Closing (Closing.Disconnected n))  -- link
+    (choose (eqb c (code "U")) (Command.Queries n)  -- slot
+    (choose (eqb c (code "M")) (Command.Room n)  -- slot
     Command.Bad))))))))))
 
 unfoldable pub twoWords : (c : ℕ) (a : List ℕ) → Command
@@ -41,15 +44,15 @@ twoWords c a = choose (isNumber a) (withNumber c (numberOf a)) Command.Bad
 
 unfoldable pub withNumbers : (c n m : ℕ) → Command
 withNumbers c n m =
-    choose (eqb c 88) (Command.RejectPending n m)  -- X slot result
-    (choose (eqb c 66) (Command.Receive n m)  -- B slot size
-    (choose (eqb c 121) (Command.SendConnParamUpdateRes n m)  -- y link result
+    choose (eqb c (code "X")) (Command.Opening (Opening.RejectPending n m))  -- slot result
+    (choose (eqb c (code "B")) (Command.Receive n m)  -- slot size
+    (choose (eqb c (code "y")) (Command.Closing (Closing.SendConnParamUpdateRes n m))  -- link result
     Command.Bad))
 
 unfoldable pub threeWords : (c : ℕ) (a b : List ℕ) (last : Word) → Command
 threeWords c a b last =
     choose (isNumber a)
-    (choose (eqb c 80) (choose (isFlag b) (Command.NextPending (numberOf a) (flagOf b)) Command.Bad)  -- P link up
-    (choose (eqb c 75) (choose (isHexWord b) (Command.Send (numberOf a) last) Command.Bad)  -- K slot hex
+    (choose (eqb c (code "P")) (choose (isFlag b) (Command.Opening (Opening.NextPending (numberOf a) (flagOf b))) Command.Bad)  -- link up
+    (choose (eqb c (code "K")) (choose (isHexWord b) (Command.Send (numberOf a) last) Command.Bad)  -- slot hex
     (choose (isNumber b) (withNumbers c (numberOf a) (numberOf b)) Command.Bad)))
     Command.Bad

@@ -1,6 +1,7 @@
 -- The table of calls of four words and more (docs/CHANRUN.md), as commands' Commands has those of fewer.
 use mathlib.Core.Bool.{_&&_}
 use mathlib.Core.List.{List}
+use Prim.Native.Char.{code}
 use Prim.Native.Nat.{ℕ}
 use lib.Dec.{eqb}
 use Rattle.lists.specs.Choose.{choose}
@@ -10,30 +11,32 @@ use Rattle.script_fields_plain.specs.PlainFields.{isNumber, numberOf, isFlag, f
 use Rattle.script_fields_config.specs.Configs.{isConfig, configOf}
 use Rattle.script_commands.specs.declared.Command.{Command}
 use Rattle.script_commands.specs.declared.Command.the-variants as Command
+use Rattle.script_commands.specs.declared.Opening.the-variants as Opening
+use Rattle.script_commands.specs.declared.Closing.the-variants as Closing
 
 unfoldable pub fourWords : (c : ℕ) (a b d : List ℕ) (last : Word) → Command
 fourWords c a b d last =
     choose (isNumber a && isNumber b)
-    (choose (eqb c 84) (choose (isNumber d) (Command.Make (numberOf a) (numberOf b) (numberOf d)) Command.Bad)  -- T n d m
-    (choose (eqb c 79) (choose (isFlag d) (Command.Opened (numberOf a) (numberOf b) (flagOf d)) Command.Bad)  -- O slot link up
-    (choose (eqb c 70) (choose (isHexWord d) (Command.Dispatch (numberOf a) (numberOf b) last) Command.Bad)  -- F link cid hex
+    (choose (eqb c (code "T")) (choose (isNumber d) (Command.Make (numberOf a) (numberOf b) (numberOf d)) Command.Bad)  -- n d m
+    (choose (eqb c (code "O")) (choose (isFlag d) (Command.Opened (numberOf a) (numberOf b) (flagOf d)) Command.Bad)  -- slot link up
+    (choose (eqb c (code "F")) (choose (isHexWord d) (Command.Dispatch (numberOf a) (numberOf b) last) Command.Bad)  -- link cid hex
     Command.Bad)))
     Command.Bad
 
 -- S link listening role hex
 unfoldable pub fiveWords : (c : ℕ) (a b d e : List ℕ) (last : Word) → Command
 fiveWords c a b d e last =
-    choose (eqb c 83 && isNumber a && isFlag b && isRole d && isHexWord e)
+    choose (eqb c (code "S") && isNumber a && isFlag b && isRole d && isHexWord e)
     (Command.Signal (numberOf a) (flagOf b) (centralOf d) last)
     Command.Bad
 
 unfoldable pub sixWords : (c : ℕ) (a b d e f : List ℕ) → Command
 sixWords c a b d e f =
     choose (isNumber a)
-    (choose (eqb c 65) (choose (isConfig b d e f) (Command.AcceptPending (numberOf a) (configOf b d e f)) Command.Bad)  -- A slot mtu mps policy credits
-    (choose (eqb c 89)
+    (choose (eqb c (code "A")) (choose (isConfig b d e f) (Command.Opening (Opening.AcceptPending (numberOf a) (configOf b d e f))) Command.Bad)  -- slot mtu mps policy credits
+    (choose (eqb c (code "Y"))
     (choose (isNumber b && isNumber d && isNumber e && isNumber f)
-    (Command.SendConnParamUpdateReq (numberOf a) (numberOf b) (numberOf d) (numberOf e) (numberOf f))  -- Y link min max latency timeout
+    (Command.Closing (Closing.SendConnParamUpdateReq (numberOf a) (numberOf b) (numberOf d) (numberOf e) (numberOf f)))  -- link min max latency timeout
     Command.Bad)
     Command.Bad))
     Command.Bad
@@ -41,4 +44,4 @@ sixWords c a b d e f =
 -- C link spsm mtu mps policy credits
 unfoldable pub sevenWords : (c : ℕ) (a b d e f g : List ℕ) → Command
 sevenWords c a b d e f g =
-    choose (eqb c 67 && isNumber a && isNumber b && isConfig d e f g) (Command.Create (numberOf a) (numberOf b) (configOf d e f g)) Command.Bad
+    choose (eqb c (code "C") && isNumber a && isNumber b && isConfig d e f g) (Command.Opening (Opening.Create (numberOf a) (numberOf b) (configOf d e f g))) Command.Bad

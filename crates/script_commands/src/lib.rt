@@ -15,25 +15,10 @@ use text_words::Word;
 ghost use mathlib.Core.Path.{_≡_};
 ghost use Rattle.script_commands.specs.Commands.{slotNumber, oneWord, withNumber, twoWords, withNumbers, threeWords};
 
-// A call, with the words of its line as values. Octets are left where they stand: as the place of their word in the line.
-pub enum Command {
-    // A line that asks for nothing: `? -`.
-    Bad,
-    // T
-    Make {
-        n: u16,
-        d: u16,
-        m: u16,
-    },
+// The calls of pending connections and of attempts, and the registering of an SPSM.
+pub enum Opening {
     // R
     RegisterSpsm(u16),
-    // S
-    Signal {
-        link: u16,
-        listening: bool,
-        central: bool,
-        pdu: Word,
-    },
     // P
     NextPending {
         link: u16,
@@ -59,14 +44,12 @@ pub enum Command {
         spsm: u16,
         config: L2capChannelConfig,
     },
-    // O
-    Opened {
-        slot: u16,
-        link: u16,
-        up: bool,
-    },
     // G
     GiveUp(u16),
+}
+
+// The calls of holds and disconnects, the attention set, and the parameter signals.
+pub enum Closing {
     // H
     IncRef(u16),
     // L
@@ -79,6 +62,49 @@ pub enum Command {
     Disconnected(u16),
     // Q
     NextDisconnect,
+    // I
+    Attention,
+    // Y
+    SendConnParamUpdateReq {
+        link: u16,
+        min: u16,
+        max: u16,
+        latency: u16,
+        timeout: u16,
+    },
+    // y
+    SendConnParamUpdateRes {
+        link: u16,
+        result: u16,
+    },
+}
+
+// A command, with the words of its line as values. Octets are left where they stand: as the place of their word in the line.
+pub enum Command {
+    // A line that asks for nothing: `? -`.
+    Bad,
+    // The calls that are lent the room, a signal buffer, both or neither, and whose row is their answer with what they wrote.
+    Opening(Opening),
+    Closing(Closing),
+    // T
+    Make {
+        n: u16,
+        d: u16,
+        m: u16,
+    },
+    // S
+    Signal {
+        link: u16,
+        listening: bool,
+        central: bool,
+        pdu: Word,
+    },
+    // O
+    Opened {
+        slot: u16,
+        link: u16,
+        up: bool,
+    },
     // F
     Dispatch {
         link: u16,
@@ -95,23 +121,8 @@ pub enum Command {
         slot: u16,
         size: u16,
     },
-    // I
-    Attention,
     // U
     Queries(u16),
-    // Y
-    SendConnParamUpdateReq {
-        link: u16,
-        min: u16,
-        max: u16,
-        latency: u16,
-        timeout: u16,
-    },
-    // y
-    SendConnParamUpdateRes {
-        link: u16,
-        result: u16,
-    },
     // V
     View,
     // M
@@ -128,13 +139,13 @@ pub fn slot_of(n: u16) -> ChannelIndex
 pub fn one_word(c: u8) -> Command
     ensures { λ r. ⌜ r ≡ oneWord c ⌝ }
 {
-    if c == 81 {
-        return Command::NextDisconnect;
+    if c == b'Q' {
+        return Command::Closing(Closing::NextDisconnect);
     }
-    if c == 73 {
-        return Command::Attention;
+    if c == b'I' {
+        return Command::Closing(Closing::Attention);
     }
-    if c == 86 {
+    if c == b'V' {
         return Command::View;
     }
     Command::Bad
@@ -144,37 +155,37 @@ pub fn one_word(c: u8) -> Command
 fn with_number(c: u8, n: u16) -> Command
     ensures { λ r. ⌜ r ≡ withNumber c n ⌝ }
 {
-    if c == 82 {
-        return Command::RegisterSpsm(n);
+    if c == b'R' {
+        return Command::Opening(Opening::RegisterSpsm(n));
     }
-    if c == 74 {
-        return Command::RejectAllPending(n);
+    if c == b'J' {
+        return Command::Opening(Opening::RejectAllPending(n));
     }
-    if c == 90 {
-        return Command::DropPending(n);
+    if c == b'Z' {
+        return Command::Opening(Opening::DropPending(n));
     }
-    if c == 71 {
-        return Command::GiveUp(n);
+    if c == b'G' {
+        return Command::Opening(Opening::GiveUp(n));
     }
-    if c == 72 {
-        return Command::IncRef(n);
+    if c == b'H' {
+        return Command::Closing(Closing::IncRef(n));
     }
-    if c == 76 {
-        return Command::DecRef(n);
+    if c == b'L' {
+        return Command::Closing(Closing::DecRef(n));
     }
-    if c == 68 {
-        return Command::Disconnect(n);
+    if c == b'D' {
+        return Command::Closing(Closing::Disconnect(n));
     }
-    if c == 69 {
-        return Command::DisconnectByCid(n);
+    if c == b'E' {
+        return Command::Closing(Closing::DisconnectByCid(n));
     }
-    if c == 87 {
-        return Command::Disconnected(n);
+    if c == b'W' {
+        return Command::Closing(Closing::Disconnected(n));
     }
-    if c == 85 {
+    if c == b'U' {
         return Command::Queries(n);
     }
-    if c == 77 {
+    if c == b'M' {
         return Command::Room(n);
     }
     Command::Bad
@@ -193,14 +204,14 @@ pub fn two_words(c: u8, a: &[u8]) -> Command
 fn with_numbers(c: u8, n: u16, m: u16) -> Command
     ensures { λ r. ⌜ r ≡ withNumbers c n m ⌝ }
 {
-    if c == 88 {
-        return Command::RejectPending { slot: n, result: m };
+    if c == b'X' {
+        return Command::Opening(Opening::RejectPending { slot: n, result: m });
     }
-    if c == 66 {
+    if c == b'B' {
         return Command::Receive { slot: n, size: m };
     }
-    if c == 121 {
-        return Command::SendConnParamUpdateRes { link: n, result: m };
+    if c == b'y' {
+        return Command::Closing(Closing::SendConnParamUpdateRes { link: n, result: m });
     }
     Command::Bad
 }
@@ -212,16 +223,16 @@ pub fn three_words(c: u8, a: &[u8], b: &[u8], last: Word) -> Command
         return Command::Bad;
     }
     let n = number_of(a);
-    if c == 80 {
+    if c == b'P' {
         if is_flag(b) {
-            return Command::NextPending {
+            return Command::Opening(Opening::NextPending {
                 link: n,
                 up: flag_of(b),
-            };
+            });
         }
         return Command::Bad;
     }
-    if c == 75 {
+    if c == b'K' {
         if hex_ok(b) {
             return Command::Send { slot: n, job: last };
         }

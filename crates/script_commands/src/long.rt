@@ -1,6 +1,8 @@
 // The calls of a script (docs/CHANRUN.md) whose line has four words or more, by their number; the shorter ones are in `script_commands`. The table of these
 // calls is specs/LongCommands.antt, which every function here follows test by test. It rests on `script_commands`, `script_fields_plain`, `script_fields` and `text_hex_words`.
+use crate::Closing;
 use crate::Command;
+use crate::Opening;
 use script_fields_config::config_of;
 use script_fields_config::is_config;
 use script_fields_plain::central_of;
@@ -22,7 +24,7 @@ pub fn four_words(c: u8, a: &[u8], b: &[u8], d: &[u8], last: Word) -> Command
     }
     let n = number_of(a);
     let m = number_of(b);
-    if c == 84 {
+    if c == b'T' {
         if is_number(d) {
             return Command::Make {
                 n,
@@ -32,7 +34,7 @@ pub fn four_words(c: u8, a: &[u8], b: &[u8], d: &[u8], last: Word) -> Command
         }
         return Command::Bad;
     }
-    if c == 79 {
+    if c == b'O' {
         if is_flag(d) {
             return Command::Opened {
                 slot: n,
@@ -42,7 +44,7 @@ pub fn four_words(c: u8, a: &[u8], b: &[u8], d: &[u8], last: Word) -> Command
         }
         return Command::Bad;
     }
-    if c == 70 {
+    if c == b'F' {
         if hex_ok(d) {
             return Command::Dispatch {
                 link: n,
@@ -58,7 +60,7 @@ pub fn four_words(c: u8, a: &[u8], b: &[u8], d: &[u8], last: Word) -> Command
 pub fn five_words(c: u8, a: &[u8], b: &[u8], d: &[u8], e: &[u8], last: Word) -> Command
     ensures { λ r. ⌜ r ≡ fiveWords c (now (a .entry)) (now (b .entry)) (now (d .entry)) (now (e .entry)) last ⌝ }
 {
-    if (c == 83) & is_number(a) & is_flag(b) & is_role(d) & hex_ok(e) {
+    if (c == b'S') & is_number(a) & is_flag(b) & is_role(d) & hex_ok(e) {
         return Command::Signal {
             link: number_of(a),
             listening: flag_of(b),
@@ -76,22 +78,22 @@ pub fn six_words(c: u8, a: &[u8], b: &[u8], d: &[u8], e: &[u8], f: &[u8]) -> Com
         return Command::Bad;
     }
     let n = number_of(a);
-    if c == 65 {
+    if c == b'A' {
         if is_config(b, d, e, f) {
             let config = config_of(b, d, e, f);
-            return Command::AcceptPending { slot: n, config };
+            return Command::Opening(Opening::AcceptPending { slot: n, config });
         }
         return Command::Bad;
     }
-    if c == 89 {
+    if c == b'Y' {
         if is_number(b) & is_number(d) & is_number(e) & is_number(f) {
-            return Command::SendConnParamUpdateReq {
+            return Command::Closing(Closing::SendConnParamUpdateReq {
                 link: n,
                 min: number_of(b),
                 max: number_of(d),
                 latency: number_of(e),
                 timeout: number_of(f),
-            };
+            });
         }
         return Command::Bad;
     }
@@ -101,13 +103,13 @@ pub fn six_words(c: u8, a: &[u8], b: &[u8], d: &[u8], e: &[u8], f: &[u8]) -> Com
 pub fn seven_words(c: u8, a: &[u8], b: &[u8], d: &[u8], e: &[u8], f: &[u8], g: &[u8]) -> Command
     ensures { λ r. ⌜ r ≡ sevenWords c (now (a .entry)) (now (b .entry)) (now (d .entry)) (now (e .entry)) (now (f .entry)) (now (g .entry)) ⌝ }
 {
-    if (c == 67) & is_number(a) & is_number(b) & is_config(d, e, f, g) {
+    if (c == b'C') & is_number(a) & is_number(b) & is_config(d, e, f, g) {
         let config = config_of(d, e, f, g);
-        return Command::Create {
+        return Command::Opening(Opening::Create {
             link: number_of(a),
             spsm: number_of(b),
             config,
-        };
+        });
     }
     Command::Bad
 }

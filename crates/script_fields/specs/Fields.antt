@@ -1,6 +1,7 @@
 -- What the words of a configuration say (docs/CHANRUN.md), each kind with its test.
 use mathlib.Core.Bool.{Bool, true, _&&_, _||_}
 use mathlib.Core.List.{List}
+use Prim.Native.Char.{code}
 use Prim.Native.Nat.{ℕ}
 use lib.Dec.{eqb}
 use lib.ListN.{getD, drop}
@@ -13,16 +14,16 @@ use Rattle.script_fields_plain.specs.PlainFields.{isNumber, numberOf, isOne}
 
 -- a number, or "`-` is the default"
 abbrev pub isSetting : List ℕ → Bool
-isSetting w = isOne 45 w || isNumber w
+isSetting w = isOne (code "-") w || isNumber w
 
 unfoldable pub settingOf : List ℕ → Setting
-settingOf w = choose (isOne 45 w) Setting.Default (Setting.Is (numberOf w))
+settingOf w = choose (isOne (code "-") w) Setting.Default (Setting.Is (numberOf w))
 
 -- "policy `eK` is Every(K), `mT` MinThreshold(T)"; the default is Every(1), as in the original
 unfoldable pub isPolicy : List ℕ → Bool
-isPolicy w = choose (isOne 45 w) true ((eqb (getD w 0 0) 101 || eqb (getD w 0 0) 109) && isNumber (drop 1 w))
+isPolicy w = choose (isOne (code "-") w) true ((eqb (getD w 0 0) (code "e") || eqb (getD w 0 0) (code "m")) && isNumber (drop 1 w))
 
 unfoldable pub policyOf : List ℕ → CreditFlowPolicy
 policyOf w =
-    choose (isOne 45 w) (CreditFlowPolicy.Every 1)
-    (choose (eqb (getD w 0 0) 101) (CreditFlowPolicy.Every (numberOf (drop 1 w))) (CreditFlowPolicy.MinThreshold (numberOf (drop 1 w))))
+    choose (isOne (code "-") w) (CreditFlowPolicy.Every 1)
+    (choose (eqb (getD w 0 0) (code "e")) (CreditFlowPolicy.Every (numberOf (drop 1 w))) (CreditFlowPolicy.MinThreshold (numberOf (drop 1 w))))

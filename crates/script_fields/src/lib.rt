@@ -12,13 +12,13 @@ ghost use Rattle.script_fields.specs.Fields.{isSetting, settingOf, isPol
 pub fn is_setting(word: &[u8]) -> bool
     ensures { λ r. ⌜ r ≡ isSetting (now (word .entry)) ⌝ }
 {
-    is_one(word, 45) | is_number(word)
+    is_one(word, b'-') | is_number(word)
 }
 
 pub fn setting_of(word: &[u8]) -> Setting
     ensures { λ r. ⌜ r ≡ settingOf (now (word .entry)) ⌝ }
 {
-    if is_one(word, 45) {
+    if is_one(word, b'-') {
         return Setting::Default;
     }
     Setting::Is(number_of(word))
@@ -34,21 +34,21 @@ fn behind_first(word: &[u8]) -> &[u8]
 pub fn is_policy(word: &[u8]) -> bool
     ensures { λ r. ⌜ r ≡ isPolicy (now (word .entry)) ⌝ }
 {
-    if is_one(word, 45) {
+    if is_one(word, b'-') {
         return true;
     }
     let c = octets::octet(word, 0);
-    ((c == 101) | (c == 109)) & is_number(behind_first(word))
+    ((c == b'e') | (c == b'm')) & is_number(behind_first(word))
 }
 
 pub fn policy_of(word: &[u8]) -> CreditFlowPolicy
     ensures { λ r. ⌜ r ≡ policyOf (now (word .entry)) ⌝ }
 {
-    if is_one(word, 45) {
+    if is_one(word, b'-') {
         return CreditFlowPolicy::Every(1);
     }
     let n = number_of(behind_first(word));
-    if octets::octet(word, 0) == 101 {
+    if octets::octet(word, 0) == b'e' {
         return CreditFlowPolicy::Every(n);
     }
     CreditFlowPolicy::MinThreshold(n)

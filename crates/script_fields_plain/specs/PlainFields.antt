@@ -1,6 +1,7 @@
 -- What the plain words of a call say (docs/CHANRUN.md), each kind with its test.
 use mathlib.Core.Bool.{Bool, true, false, _&&_, _||_}
 use mathlib.Core.List.{List}
+use Prim.Native.Char.{code}
 use Prim.Native.Nat.{ℕ}
 use lib.Dec.{eqb, leb}
 use lib.ListN.{length, getD}
@@ -36,7 +37,7 @@ flagOf w = eqb (numberOf w) 1
 
 -- "role `c` (Central) or `p`"
 abbrev pub isRole : List ℕ → Bool
-isRole w = isOne 99 w || isOne 112 w
+isRole w = isOne (code "c") w || isOne (code "p") w
 
 abbrev pub centralOf : List ℕ → Bool
-centralOf w = isOne 99 w
+centralOf w = isOne (code "c") w

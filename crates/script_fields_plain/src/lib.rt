@@ -45,12 +45,12 @@ pub fn flag_of(word: &[u8]) -> bool
 pub fn is_role(word: &[u8]) -> bool
     ensures { λ r. ⌜ r ≡ isRole (now (word .entry)) ⌝ }
 {
-    is_one(word, 99) | is_one(word, 112)
+    is_one(word, b'c') | is_one(word, b'p')
 }
 
 // Whether the role is Central.
 pub fn central_of(word: &[u8]) -> bool
     ensures { λ r. ⌜ r ≡ centralOf (now (word .entry)) ⌝ }
 {
-    is_one(word, 99)
+    is_one(word, b'c')
 }

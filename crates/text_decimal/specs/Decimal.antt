@@ -1,6 +1,7 @@
 -- Decimal numbers (docs/CHANRUN.md): "1 to 5 digits, at most 65,535". Zeros in front are digits as any other (`007` is 7).
 use mathlib.Core.Bool.{Bool, _&&_}
 use mathlib.Core.List.{List, [], _∷_}
+use Prim.Native.Char.{code}
 use Prim.Native.Nat.{ℕ, _+_, _-_, _*_}
 use lib.Dec.{leb, ltb}
 use lib.ListN.{length}
@@ -11,12 +12,12 @@ use Rattle.text_decimal.specs.declared.NumberRead.the-variants as Number
 
 -- `0` to `9`
 abbrev pub isDigit : ℕ → Bool
-isDigit c = leb 48 c && leb c 57
+isDigit c = leb (code "0") c && leb c (code "9")
 
 -- what digits spell behind the number n, the highest first
 unfoldable pub spelt : ℕ → List ℕ → ℕ
 spelt n [] = n
-spelt n (c ∷ cs) = spelt (10 * n + (c - 48)) cs
+spelt n (c ∷ cs) = spelt (10 * n + (c - code "0")) cs
 
 unfoldable pub numberRead : List ℕ → NumberRead
 numberRead w =

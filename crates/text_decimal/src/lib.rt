@@ -15,7 +15,7 @@ pub enum NumberRead {
 fn is_digit(c: u8) -> bool
     ensures { λ r. ⌜ r ≡ isDigit c ⌝ }
 {
-    (48 <= c) & (c <= 57)
+    (b'0' <= c) & (c <= b'9')
 }
 
 // Reads a word of 1 to 5 digits.
@@ -35,7 +35,7 @@ pub fn read_number(word: &[u8]) -> NumberRead
         if !is_digit(c) {
             return NumberRead::Bad;
         }
-        n = 10 * n + ((c - 48) as u32);
+        n = 10 * n + ((c - b'0') as u32);
         i += 1;
     }
     if 65535 < n {

@@ -19,7 +19,7 @@ fn nibble(c: u8) -> u8
     requires { ⌜ isHex c ≡ true ⌝ }
     ensures { λ r. ⌜ r ≡ nibbleOf c ⌝ }
 {
-    if c < 58 { c - 48 } else { c - 87 }
+    if c < 58 { c - b'0' } else { c - 87 }
 }
 
 // Reads a word's octets into the start of `out`, as far as it reaches, and says how many the word has. A bad word writes nothing.

@@ -5,7 +5,7 @@ ghost use Rattle.text_hex_words.specs.HexWords.{isHex, isHexWord};
 fn is_hex(c: u8) -> bool
     ensures { λ r. ⌜ r ≡ isHex c ⌝ }
 {
-    ((48 <= c) & (c <= 57)) | ((97 <= c) & (c <= 102))
+    ((b'0' <= c) & (c <= b'9')) | ((b'a' <= c) & (c <= b'f'))
 }
 
 // Whether a word spells octets: `-` alone for none, or an even number of lower-case digits.
@@ -19,7 +19,7 @@ pub fn hex_ok(word: &[u8]) -> bool
         return false;
     }
     if word.len() == 1 {
-        return word[0] == 45;
+        return word[0] == b'-';
     }
     if word.len() % 2 == 1 {
         return false;

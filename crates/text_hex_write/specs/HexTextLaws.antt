@@ -6,6 +6,7 @@ use native.Mathlib.Numerals.{add-one}
 use native.Mathlib.Omega.{arith}
 use lib.ListN.{length, take, getD}
 use lib.Seq.{take-suc}
+use Rattle.text_write.specs.Text.{text}
 use Rattle.text_hex_write.specs.HexText.{digitOf, hexDigits, hexText}
 
 digits-append : (xs ys : List ℕ) → hexDigits (xs ++ ys) ≡ hexDigits xs ++ hexDigits ys
@@ -19,7 +20,7 @@ unfolding hexDigits
 digits-more xs i h =
     rw (add-one i, take-suc xs i 0 h) (digits-append (take i xs) (getD xs i 0 ∷ []) ∙ sym (append-assoc (hexDigits (take i xs)) (digitOf (getD xs i 0 / 16) ∷ []) (digitOf (getD xs i 0 % 16) ∷ [])))
 
-pub text-none : (xs : List ℕ) → length xs ≡ 0 → hexText xs ≡ 45 ∷ []
+pub text-none : (xs : List ℕ) → length xs ≡ 0 → hexText xs ≡ text "-"
 unfolding hexText
 text-none [] h = refl
 text-none (x ∷ xs) h = absurd (omega arith)

@@ -11,7 +11,7 @@ fn digit(n: u8) -> u8
     requires { ⌜ n < 16 ⌝ }
     ensures { λ r. ⌜ r ≡ digitOf n ⌝ }
 {
-    if n < 10 { 48 + n } else { 87 + n }
+    if n < 10 { b'0' + n } else { 87 + n }
 }
 
 // Writes octets at `at`, `-` for none, and gives the place behind them.
@@ -19,7 +19,7 @@ pub fn write_hex(out: &mut [u8], at: usize, octets: &[u8]) -> usize
     ensures { λ r. ⌜ Writes (now (out .entry)) at (hexText (now (octets .entry))) r (now (out .exit)) ⌝ }
 {
     if octets.len() == 0 {
-        return write_character(out, at, 45);
+        return write_character(out, at, b'-');
     }
     let mut next = least(at, out.len());
     let mut i: usize = 0;

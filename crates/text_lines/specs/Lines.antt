@@ -1,6 +1,7 @@
 -- What comes of the octets that a buffer holds: the first newline ends a line.
 use mathlib.Core.Bool.{Bool, true, false}
 use mathlib.Core.List.{List}
+use Prim.Native.Char.{code}
 use Prim.Native.Nat.{ℕ, _+_, _-_, min}
 use lib.Dec.{ltb}
 use lib.ListN.{length}
@@ -14,6 +15,9 @@ use Rattle.text_lines.specs.declared.Found.{Found}
 use Rattle.text_lines.specs.declared.Found.the-variants as Found
 use Rattle.text_lines.specs.declared.Next.{Next}
 
+abbrev pub isNewline : ℕ → Bool
+isNewline = is (code "\n")
+
 abbrev pub held : (start end : ℕ) → Bool → Held
 held start end skipping = record { start = start; end = end; skipping = skipping }
 
@@ -26,7 +30,7 @@ textIn buf h = part buf (h .start) (h .end - h .start)
 
 -- where their first newline stands, or where they end
 abbrev pub newlineIn : List ℕ → Held → ℕ
-newlineIn buf h = h .start + first (is 10) (textIn buf h)
+newlineIn buf h = h .start + first isNewline (textIn buf h)
 
 unfoldable pub nextOf : List ℕ → Held → Next
 nextOf buf h =

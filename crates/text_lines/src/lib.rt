@@ -55,7 +55,7 @@ pub fn next_line(buf: &[u8], h: Held) -> Next
     let start = h.start;
     let end = h.end;
     let skipping = h.skipping;
-    let at = text_cut::find(buf, start, end, 10);
+    let at = text_cut::find(buf, start, end, b'\n');
     if at < least(end, buf.len()) {
         let held = Held {
             start: at + 1,

@@ -13,7 +13,7 @@ use borrow.Author.Tests.{ltb-true, ltb-false}
 use Rattle.lists.specs.Choose.{choose}
 use Rattle.lists.specs.First.{first}
 use Rattle.octets.specs.Octets.{part}
-use Rattle.text_cut.specs.Cut.{is}
+use Rattle.text_lines.specs.Lines.{isNewline}
 use Rattle.text_words.specs.Words.{textOf}
 use Rattle.text_lines.specs.declared.Held.{Held}
 use Rattle.text_lines.specs.declared.Found.{Found}
@@ -30,15 +30,15 @@ toldBy buf Found.More = []
 unfoldable pub readingOf : Bool → Reading
 readingOf skipping = choose skipping passing (within [])
 
-le-step : (x : ℕ) (xs : List ℕ) (b : Bool) → is 10 x ≡ b → first (is 10) xs ≤ length xs → first (is 10) (x ∷ xs) ≤ suc (length xs)
+le-step : (x : ℕ) (xs : List ℕ) (b : Bool) → isNewline x ≡ b → first isNewline xs ≤ length xs → first isNewline (x ∷ xs) ≤ suc (length xs)
 unfolding first choose
 le-step x xs true e h = rw e (omega arith)
 le-step x xs false e h = rw e (omega arith)
 
-first-le : (xs : List ℕ) → first (is 10) xs ≤ length xs
+first-le : (xs : List ℕ) → first isNewline xs ≤ length xs
 unfolding first
 first-le [] = omega arith
-first-le (x ∷ xs) = le-step x xs (is 10 x) refl (first-le xs)
+first-le (x ∷ xs) = le-step x xs (isNewline x) refl (first-le xs)
 
 drop-take : (k n : ℕ) (xs : List ℕ) → drop k (take n xs) ≡ take (n - k) (drop k xs)
 drop-take zero n xs = simp unary-clauses
@@ -51,7 +51,7 @@ module _ (buf : List ℕ) (start end : ℕ) (ordered : start ≤ end) (inside : 
   text = part buf start (end - start)
 
   abbrev i : ℕ
-  i = first (is 10) text
+  i = first isNewline text
 
   long-text : length text ≡ end - start
   long-text = length-take (end - start) (drop start buf) ∙ omega (arith, length-drop start buf)

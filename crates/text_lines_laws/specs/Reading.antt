@@ -12,7 +12,7 @@ use lib.ListN.{length, length-append, take, drop}
 use borrow.Author.Tests.{lt-ltb, ltb-true, ltb-false}
 use Rattle.lists.specs.Choose.{choose}
 use Rattle.lists.specs.First.{first}
-use Rattle.text_cut.specs.Cut.{is}
+use Rattle.text_lines.specs.Lines.{isNewline}
 
 pub data Event : Type 0 where
   line : List ℕ → Event
@@ -25,12 +25,12 @@ pub data Reading : Type 0 where
 
 -- what one octet tells, and what is read behind it
 unfoldable pub tells : ℕ → Reading → ℕ → List Event
-tells most (within xs) x = choose (is 10 x) (line xs ∷ []) (choose (ltb (suc (length xs)) most) [] (long ∷ []))
+tells most (within xs) x = choose (isNewline x) (line xs ∷ []) (choose (ltb (suc (length xs)) most) [] (long ∷ []))
 tells most passing x = []
 
 unfoldable pub reads : ℕ → Reading → ℕ → Reading
-reads most (within xs) x = choose (is 10 x) (within []) (choose (ltb (suc (length xs)) most) (within (xs ++ x ∷ [])) passing)
-reads most passing x = choose (is 10 x) (within []) passing
+reads most (within xs) x = choose (isNewline x) (within []) (choose (ltb (suc (length xs)) most) (within (xs ++ x ∷ [])) passing)
+reads most passing x = choose (isNewline x) (within []) passing
 
 unfoldable pub told : ℕ → Reading → List ℕ → List Event
 told most r [] = []
@@ -57,55 +57,55 @@ after-pieces most r (x ∷ xs) ys = after-pieces most (reads most r x) xs ys
 -- ---- what a run of octets tells, by where its first newline stands
 
 -- a newline within the buffer ends a line
-line-step : (most : ℕ) (h : List ℕ) (x : ℕ) (xs : List ℕ) (b : Bool) → is 10 x ≡ b
-    → (first (is 10) xs < length xs → length (h ++ x ∷ []) + first (is 10) xs < most
-    → told most (within (h ++ x ∷ [])) xs ≡ line ((h ++ x ∷ []) ++ take (first (is 10) xs) xs) ∷ told most (within []) (drop (suc (first (is 10) xs)) xs))
-    → first (is 10) (x ∷ xs) < length (x ∷ xs) → length h + first (is 10) (x ∷ xs) < most
-    → told most (within h) (x ∷ xs) ≡ line (h ++ take (first (is 10) (x ∷ xs)) (x ∷ xs)) ∷ told most (within []) (drop (suc (first (is 10) (x ∷ xs))) (x ∷ xs))
+line-step : (most : ℕ) (h : List ℕ) (x : ℕ) (xs : List ℕ) (b : Bool) → isNewline x ≡ b
+    → (first isNewline xs < length xs → length (h ++ x ∷ []) + first isNewline xs < most
+    → told most (within (h ++ x ∷ [])) xs ≡ line ((h ++ x ∷ []) ++ take (first isNewline xs) xs) ∷ told most (within []) (drop (suc (first isNewline xs)) xs))
+    → first isNewline (x ∷ xs) < length (x ∷ xs) → length h + first isNewline (x ∷ xs) < most
+    → told most (within h) (x ∷ xs) ≡ line (h ++ take (first isNewline (x ∷ xs)) (x ∷ xs)) ∷ told most (within []) (drop (suc (first isNewline (x ∷ xs))) (x ∷ xs))
 unfolding told tells reads first choose
 line-step most h x xs true e more l k = rw (e, append-nil h)
 line-step most h x xs false e more l k =
-    let l′ : suc (first (is 10) xs) < suc (length xs) = rw e at l in
-    let k′ : length h + suc (first (is 10) xs) < most = rw e at k in
+    let l′ : suc (first isNewline xs) < suc (length xs) = rw e at l in
+    let k′ : length h + suc (first isNewline xs) < most = rw e at k in
     let n : length (h ++ x ∷ []) ≡ suc (length h) = length-append h (x ∷ []) ∙ omega arith in
     rw (e, lt-ltb (suc (length h)) most (omega arith))
-    (more (omega arith) (omega arith) ∙ rw (append-assoc h (x ∷ []) (take (first (is 10) xs) xs)))
+    (more (omega arith) (omega arith) ∙ rw (append-assoc h (x ∷ []) (take (first isNewline xs) xs)))
 
-pub told-line : (most : ℕ) (h xs : List ℕ) → first (is 10) xs < length xs → length h + first (is 10) xs < most
-    → told most (within h) xs ≡ line (h ++ take (first (is 10) xs) xs) ∷ told most (within []) (drop (suc (first (is 10) xs)) xs)
+pub told-line : (most : ℕ) (h xs : List ℕ) → first isNewline xs < length xs → length h + first isNewline xs < most
+    → told most (within h) xs ≡ line (h ++ take (first isNewline xs) xs) ∷ told most (within []) (drop (suc (first isNewline xs)) xs)
 told-line most h [] l k = absurd (not-suc-le-zero l)
-told-line most h (x ∷ xs) l k = line-step most h x xs (is 10 x) refl (told-line most (h ++ x ∷ []) xs) l k
+told-line most h (x ∷ xs) l k = line-step most h x xs (isNewline x) refl (told-line most (h ++ x ∷ []) xs) l k
 
 -- no newline, and place for more
-more-step : (most : ℕ) (h : List ℕ) (x : ℕ) (xs : List ℕ) (b : Bool) → is 10 x ≡ b
-    → (first (is 10) xs ≡ length xs → length (h ++ x ∷ []) + length xs < most → told most (within (h ++ x ∷ [])) xs ≡ [])
-    → first (is 10) (x ∷ xs) ≡ length (x ∷ xs) → length h + length (x ∷ xs) < most → told most (within h) (x ∷ xs) ≡ []
+more-step : (most : ℕ) (h : List ℕ) (x : ℕ) (xs : List ℕ) (b : Bool) → isNewline x ≡ b
+    → (first isNewline xs ≡ length xs → length (h ++ x ∷ []) + length xs < most → told most (within (h ++ x ∷ [])) xs ≡ [])
+    → first isNewline (x ∷ xs) ≡ length (x ∷ xs) → length h + length (x ∷ xs) < most → told most (within h) (x ∷ xs) ≡ []
 unfolding told tells reads first choose
 more-step most h x xs true e more l k = let l′ : 0 ≡ suc (length xs) = rw e at l in absurd (omega arith)
 more-step most h x xs false e more l k =
-    let l′ : suc (first (is 10) xs) ≡ suc (length xs) = rw e at l in
+    let l′ : suc (first isNewline xs) ≡ suc (length xs) = rw e at l in
     let n : length (h ++ x ∷ []) ≡ suc (length h) = length-append h (x ∷ []) ∙ omega arith in
     rw (e, lt-ltb (suc (length h)) most (omega arith)) (more (omega arith) (omega arith))
 
-pub told-more : (most : ℕ) (h xs : List ℕ) → first (is 10) xs ≡ length xs → length h + length xs < most → told most (within h) xs ≡ []
+pub told-more : (most : ℕ) (h xs : List ℕ) → first isNewline xs ≡ length xs → length h + length xs < most → told most (within h) xs ≡ []
 unfolding told
 told-more most h [] l k = refl
-told-more most h (x ∷ xs) l k = more-step most h x xs (is 10 x) refl (told-more most (h ++ x ∷ []) xs) l k
+told-more most h (x ∷ xs) l k = more-step most h x xs (isNewline x) refl (told-more most (h ++ x ∷ []) xs) l k
 
-after-step : (most : ℕ) (h : List ℕ) (x : ℕ) (xs : List ℕ) (b : Bool) → is 10 x ≡ b
-    → (first (is 10) xs ≡ length xs → length (h ++ x ∷ []) + length xs < most → after most (within (h ++ x ∷ [])) xs ≡ within ((h ++ x ∷ []) ++ xs))
-    → first (is 10) (x ∷ xs) ≡ length (x ∷ xs) → length h + length (x ∷ xs) < most → after most (within h) (x ∷ xs) ≡ within (h ++ x ∷ xs)
+after-step : (most : ℕ) (h : List ℕ) (x : ℕ) (xs : List ℕ) (b : Bool) → isNewline x ≡ b
+    → (first isNewline xs ≡ length xs → length (h ++ x ∷ []) + length xs < most → after most (within (h ++ x ∷ [])) xs ≡ within ((h ++ x ∷ []) ++ xs))
+    → first isNewline (x ∷ xs) ≡ length (x ∷ xs) → length h + length (x ∷ xs) < most → after most (within h) (x ∷ xs) ≡ within (h ++ x ∷ xs)
 unfolding after reads first choose
 after-step most h x xs true e more l k = let l′ : 0 ≡ suc (length xs) = rw e at l in absurd (omega arith)
 after-step most h x xs false e more l k =
-    let l′ : suc (first (is 10) xs) ≡ suc (length xs) = rw e at l in
+    let l′ : suc (first isNewline xs) ≡ suc (length xs) = rw e at l in
     let n : length (h ++ x ∷ []) ≡ suc (length h) = length-append h (x ∷ []) ∙ omega arith in
     rw (e, lt-ltb (suc (length h)) most (omega arith)) (more (omega arith) (omega arith) ∙ ap within (append-assoc h (x ∷ []) xs))
 
-pub after-more : (most : ℕ) (h xs : List ℕ) → first (is 10) xs ≡ length xs → length h + length xs < most → after most (within h) xs ≡ within (h ++ xs)
+pub after-more : (most : ℕ) (h xs : List ℕ) → first isNewline xs ≡ length xs → length h + length xs < most → after most (within h) xs ≡ within (h ++ xs)
 unfolding after
 after-more most h [] l k = ap within (sym (append-nil h))
-after-more most h (x ∷ xs) l k = after-step most h x xs (is 10 x) refl (after-more most (h ++ x ∷ []) xs) l k
+after-more most h (x ∷ xs) l k = after-step most h x xs (isNewline x) refl (after-more most (h ++ x ∷ []) xs) l k
 
 -- no newline in a full buffer: the line is too long
 none-left : (most : ℕ) (ys : List ℕ) → length ys ≡ 0 → told most passing ys ≡ []
@@ -113,13 +113,13 @@ unfolding told
 none-left most [] z = refl
 none-left most (y ∷ ys) z = absurd (omega arith)
 
-long-step : (most : ℕ) (h : List ℕ) (x : ℕ) (xs : List ℕ) (b c : Bool) → is 10 x ≡ b → ltb (suc (length h)) most ≡ c
-    → (first (is 10) xs ≡ length xs → length (h ++ x ∷ []) < most → length (h ++ x ∷ []) + length xs ≡ most → told most (within (h ++ x ∷ [])) xs ≡ long ∷ [])
-    → first (is 10) (x ∷ xs) ≡ length (x ∷ xs) → length h + length (x ∷ xs) ≡ most → told most (within h) (x ∷ xs) ≡ long ∷ []
+long-step : (most : ℕ) (h : List ℕ) (x : ℕ) (xs : List ℕ) (b c : Bool) → isNewline x ≡ b → ltb (suc (length h)) most ≡ c
+    → (first isNewline xs ≡ length xs → length (h ++ x ∷ []) < most → length (h ++ x ∷ []) + length xs ≡ most → told most (within (h ++ x ∷ [])) xs ≡ long ∷ [])
+    → first isNewline (x ∷ xs) ≡ length (x ∷ xs) → length h + length (x ∷ xs) ≡ most → told most (within h) (x ∷ xs) ≡ long ∷ []
 unfolding told tells reads first choose
 long-step most h x xs true c e t more l k = let l′ : 0 ≡ suc (length xs) = rw e at l in absurd (omega arith)
 long-step most h x xs false true e t more l k =
-    let l′ : suc (first (is 10) xs) ≡ suc (length xs) = rw e at l in
+    let l′ : suc (first isNewline xs) ≡ suc (length xs) = rw e at l in
     let n : length (h ++ x ∷ []) ≡ suc (length h) = length-append h (x ∷ []) ∙ omega arith in
     let s : suc (length h) < most = ltb-true (suc (length h)) most t in
     rw (e, t) (more (omega arith) (omega arith) (omega arith))
@@ -128,29 +128,29 @@ long-step most h x xs false false e t more l k =
     let z : length xs ≡ 0 = omega arith in
     rw (e, t) (ap (λ (r : List Event). long ∷ r) (none-left most xs z))
 
-pub told-long : (most : ℕ) (h xs : List ℕ) → first (is 10) xs ≡ length xs → length h < most → length h + length xs ≡ most → told most (within h) xs ≡ long ∷ []
+pub told-long : (most : ℕ) (h xs : List ℕ) → first isNewline xs ≡ length xs → length h < most → length h + length xs ≡ most → told most (within h) xs ≡ long ∷ []
 told-long most h [] l m k = absurd (omega arith)
-told-long most h (x ∷ xs) l m k = long-step most h x xs (is 10 x) (ltb (suc (length h)) most) refl refl (told-long most (h ++ x ∷ []) xs) l k
+told-long most h (x ∷ xs) l m k = long-step most h x xs (isNewline x) (ltb (suc (length h)) most) refl refl (told-long most (h ++ x ∷ []) xs) l k
 
 -- what is passed over ends with its newline
-passed-step : (most x : ℕ) (xs : List ℕ) (b : Bool) → is 10 x ≡ b
-    → (first (is 10) xs < length xs → told most passing xs ≡ told most (within []) (drop (suc (first (is 10) xs)) xs))
-    → first (is 10) (x ∷ xs) < length (x ∷ xs) → told most passing (x ∷ xs) ≡ told most (within []) (drop (suc (first (is 10) (x ∷ xs))) (x ∷ xs))
+passed-step : (most x : ℕ) (xs : List ℕ) (b : Bool) → isNewline x ≡ b
+    → (first isNewline xs < length xs → told most passing xs ≡ told most (within []) (drop (suc (first isNewline xs)) xs))
+    → first isNewline (x ∷ xs) < length (x ∷ xs) → told most passing (x ∷ xs) ≡ told most (within []) (drop (suc (first isNewline (x ∷ xs))) (x ∷ xs))
 unfolding told tells reads first choose
 passed-step most x xs true e more l = rw e
-passed-step most x xs false e more l = let l′ : suc (first (is 10) xs) < suc (length xs) = rw e at l in rw e (more (omega arith))
+passed-step most x xs false e more l = let l′ : suc (first isNewline xs) < suc (length xs) = rw e at l in rw e (more (omega arith))
 
-pub told-passed : (most : ℕ) (xs : List ℕ) → first (is 10) xs < length xs → told most passing xs ≡ told most (within []) (drop (suc (first (is 10) xs)) xs)
+pub told-passed : (most : ℕ) (xs : List ℕ) → first isNewline xs < length xs → told most passing xs ≡ told most (within []) (drop (suc (first isNewline xs)) xs)
 told-passed most [] l = absurd (not-suc-le-zero l)
-told-passed most (x ∷ xs) l = passed-step most x xs (is 10 x) refl (told-passed most xs) l
+told-passed most (x ∷ xs) l = passed-step most x xs (isNewline x) refl (told-passed most xs) l
 
-passing-step : (most x : ℕ) (xs : List ℕ) (b : Bool) → is 10 x ≡ b → (first (is 10) xs ≡ length xs → told most passing xs ≡ [])
-    → first (is 10) (x ∷ xs) ≡ length (x ∷ xs) → told most passing (x ∷ xs) ≡ []
+passing-step : (most x : ℕ) (xs : List ℕ) (b : Bool) → isNewline x ≡ b → (first isNewline xs ≡ length xs → told most passing xs ≡ [])
+    → first isNewline (x ∷ xs) ≡ length (x ∷ xs) → told most passing (x ∷ xs) ≡ []
 unfolding told tells reads first choose
 passing-step most x xs true e more l = let l′ : 0 ≡ suc (length xs) = rw e at l in absurd (omega arith)
-passing-step most x xs false e more l = let l′ : suc (first (is 10) xs) ≡ suc (length xs) = rw e at l in rw e (more (omega arith))
+passing-step most x xs false e more l = let l′ : suc (first isNewline xs) ≡ suc (length xs) = rw e at l in rw e (more (omega arith))
 
-pub told-passing : (most : ℕ) (xs : List ℕ) → first (is 10) xs ≡ length xs → told most passing xs ≡ []
+pub told-passing : (most : ℕ) (xs : List ℕ) → first isNewline xs ≡ length xs → told most passing xs ≡ []
 unfolding told
 told-passing most [] l = refl
-told-passing most (x ∷ xs) l = passing-step most x xs (is 10 x) refl (told-passing most xs) l
+told-passing most (x ∷ xs) l = passing-step most x xs (isNewline x) refl (told-passing most xs) l

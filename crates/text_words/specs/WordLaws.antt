@@ -2,6 +2,7 @@
 use mathlib.Core.Path.{_≡_, refl, sym, ap, _∙_}
 use mathlib.Core.Bool.{Bool, true, false}
 use mathlib.Core.List.{List, []}
+use Prim.Native.Char.{code}
 use Prim.Native.Nat.{ℕ, zero, suc, _+_, _-_, _≤_}
 use native.Mathlib.Nat.{add-zero}
 use native.Mathlib.Numerals.{add-one}
@@ -13,19 +14,18 @@ use lib.Seq.{drop-drop, drop-length, getD-drop}
 use Rattle.lists.specs.Choose.{choose}
 use Rattle.lists.specs.First.{first}
 use Rattle.octets.specs.Sets.{tail-part}
-use Rattle.text_cut.specs.Cut.{is}
 use Rattle.text_cut.specs.CutLaws.{cut-first}
-use Rattle.text_words.specs.Words.{wordsOf, word, textOf, wordAt, wordAfter, place}
+use Rattle.text_words.specs.Words.{isSpace, wordsOf, word, textOf, wordAt, wordAfter, place}
 use Rattle.text_words.specs.declared.Word.{Word}
 
 -- w stands where the words from k on begin, or at the line's end where there is none
 data Stands (line : List ℕ) (k : ℕ) (w : Word) : Type 0 where
-  here : w .start ≤ length line → w .end ≡ w .start + first (is 32) (drop (w .start) line) → drop k (wordsOf line) ≡ wordsOf (drop (w .start) line) → Stands line k w
+  here : w .start ≤ length line → w .end ≡ w .start + first isSpace (drop (w .start) line) → drop k (wordsOf line) ≡ wordsOf (drop (w .start) line) → Stands line k w
   past : w .start ≡ length line → w .end ≡ length line → drop k (wordsOf line) ≡ [] → Stands line k w
 
 module _ (line : List ℕ) where
-  end-at : (at : ℕ) → wordAt line at .end ≡ at + first (is 32) (drop at line)
-  end-at at = ap (λ l. at + first (is 32) l) (tail-part at line)
+  end-at : (at : ℕ) → wordAt line at .end ≡ at + first isSpace (drop at line)
+  end-at at = ap (λ l. at + first isSpace l) (tail-part at line)
 
   end-last : wordAt line (length line) .end ≡ length line
   unfolding first
@@ -47,10 +47,10 @@ module _ (line : List ℕ) where
       rest = drop (w .start) line
 
       n : ℕ
-      n = first (is 32) rest
+      n = first isSpace rest
 
       tail : drop (suc k) (wordsOf line) ≡ choose (ltb n (length rest)) (wordsOf (drop (suc n) rest)) []
-      tail = next-tail k (wordsOf line) (wordsOf rest) d ∙ ap (drop 1) (cut-first 32 rest)
+      tail = next-tail k (wordsOf line) (wordsOf rest) d ∙ ap (drop 1) (cut-first (code " ") rest)
 
       go : (b : Bool) → ltb (w .end) (length line) ≡ b → Stands line (suc k) (choose b (wordAt line (w .end + 1)) (wordAt line (length line)))
       go true t =
@@ -76,9 +76,9 @@ module _ (line : List ℕ) where
       rw f (sym (at-k k (wordsOf line) [] d))
   text-of k w (here s e d) =
       let rest = drop (w .start) line in
-      let n = first (is 32) rest in
+      let n = first isSpace rest in
       let f : w .end - w .start ≡ n = omega arith in
-      rw f (sym (at-k k (wordsOf line) (wordsOf rest) d ∙ ap (λ ps. getD ps 0 []) (cut-first 32 rest)))
+      rw f (sym (at-k k (wordsOf line) (wordsOf rest) d ∙ ap (λ ps. getD ps 0 []) (cut-first (code " ") rest)))
 
   pub place-word : (k : ℕ) → textOf line (place line k) ≡ word line k
   place-word k = text-of k (place line k) (stands k)

@@ -18,7 +18,7 @@ pub fn word_at(line: &[u8], at: usize) -> Word
 {
     Word {
         start: at,
-        end: find(line, at, line.len(), 32),
+        end: find(line, at, line.len(), b' '),
     }
 }
 
@@ -41,7 +41,7 @@ pub fn count(line: &[u8]) -> usize
     let mut n: usize = 1;
     let mut i: usize = 0;
     while i < line.len() {
-        if line[i] == 32 {
+        if line[i] == b' ' {
             n += 1;
         }
         i += 1;

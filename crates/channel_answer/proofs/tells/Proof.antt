@@ -1,5 +1,4 @@
 -- `channel_answer::tells` meets its contract: in each arm what the match told is the definition's case.
-use Rattle.channel_answer.specs.Tells.{tells}
 use borrow.Author.Needs.{needs}
 use Rattle.channel_answer.proofs.tells.Statement.{statement}
 use Rattle.channel_answer.proofs.tells.Tie as tie
@@ -89,47 +88,36 @@ plain-requires-10 : tie.Need-plain-requires-10
 plain-requires-10 c κs = search needs
 
 returns : tie.Need-returns
-unfolding tells
 returns c = rw (c .before .enum-told .given .1) (c .plain .ensures)
 
 returns-2 : tie.Need-returns-2
-unfolding tells
 returns-2 c = rw (c .before .before .a .given .1) (c .refused .ensures)
 
 returns-3 : tie.Need-returns-3
-unfolding tells
 returns-3 c = rw (c .before .before .before .a2 .given .1) (c .plain2 .ensures)
 
 returns-4 : tie.Need-returns-4
-unfolding tells
 returns-4 c = rw (c .before .before .a3 .given .1) (c .plain3 .ensures)
 
 returns-5 : tie.Need-returns-5
-unfolding tells
 returns-5 c = rw (c .before .enum-told2 .given .1) (c .plain4 .ensures)
 
 returns-6 : tie.Need-returns-6
-unfolding tells
 returns-6 c = rw (c .before .before .before .a4 .given .1) (c .plain5 .ensures)
 
 returns-7 : tie.Need-returns-7
-unfolding tells
 returns-7 c = rw (c .before .before .before .a5 .given .1, ← c .before .shown .ensures) (c .plain6 .ensures)
 
 returns-8 : tie.Need-returns-8
-unfolding tells
 returns-8 c = rw (c .before .before .before .a6 .given .1, ← c .before .shown2 .ensures) (c .plain7 .ensures)
 
 returns-9 : tie.Need-returns-9
-unfolding tells
 returns-9 c = rw (c .before .before .a7 .given .1) (c .plain8 .ensures)
 
 returns-10 : tie.Need-returns-10
-unfolding tells
 returns-10 c = rw (c .before .before .a8 .given .1) (c .plain9 .ensures)
 
 returns-11 : tie.Need-returns-11
-unfolding tells
 returns-11 c = rw (c .before .before .a9 .given .1) (c .plain10 .ensures)
 
 pub tells-spec : {M : Type 1} → statement M

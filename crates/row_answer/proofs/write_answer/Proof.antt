@@ -7,8 +7,11 @@ use borrow.Author.Needs.{needs}
 use Rattle.row_answer.proofs.write_answer.Statement.{statement}
 use Rattle.row_answer.proofs.write_answer.Tie as tie
 
-answer-number-requires : tie.Need-answer-number-requires
-answer-number-requires c κs = search needs
+tells-requires : tie.Need-tells-requires
+tells-requires c κs = search needs
+
+cast-write-number : tie.Need-cast-write-number
+cast-write-number c = search needs
 
 write-number-requires : tie.Need-write-number-requires
 write-number-requires c κs = search needs
@@ -39,16 +42,21 @@ same-length c = search needs
 returns : tie.Need-returns
 unfolding answerText
 returns c =
-    rw (← c .before .before .before .before .before .before .before .before .before .before .before .before .before .before .before .before .before .before .answer-number .ensures, ← c .before .before .before .before .before .before .columns-of .ensures .are)
+    let columns = c .before .before .before .before .before .before in
+    let hex = columns .before .before .before in
+    let space = hex .before .before .before .before in
+    let number = space .before .before .before .before in
+    rw (← number .before .before .before .tells .ensures, ← columns .columns-of .ensures .are)
     (writes-append
-    (writes-append (writes-append (c .before .before .before .before .before .before .before .before .before .before .before .before .before .before .before .before .before .write-number .ensures) (c .before .before .before .before .before .before .before .before .before .before .before .before .before .write-character .ensures)) (c .before .before .before .before .before .before .before .before .before .write-hex .ensures))
+    (writes-append (writes-append (number .write-number .ensures) (space .write-character .ensures)) (hex .write-hex .ensures))
     (c .before .before .write-columns .ensures))
 
 pub write-answer-spec : {M : Type 1} → statement M
 write-answer-spec =
     tie.close
     (tie.spec
-    answer-number-requires
+    tells-requires
+    cast-write-number
     write-number-requires
     write-character-requires
     write-hex-requires

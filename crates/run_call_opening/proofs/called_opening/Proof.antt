@@ -1,53 +1,10 @@
 -- `run_call_opening::called_opening` meets its contract: in each arm what the match told is the definition's case, and the call's own contract is its
 -- end.
-use mathlib.Core.Path.{_≡_, refl, ap}
-use mathlib.Core.Bool.{false}
-use mathlib.Core.List.{List, [], _∷_}
-use Prim.Native.Nat.{ℕ}
-use denote.Enum.Declared.{tagOf}
-use types.Run.{OneOf, miss}
-use Rattle.lists.specs.Choose.{choose}
-use Rattle.script_commands.proofs.Command.{the-type}
-use Rattle.script_commands.specs.declared.Command.{Command}
-use Rattle.script_commands.specs.declared.Command.the-variants as Command
-use Rattle.run_call_opening.specs.Called.{isOpening, lentRoom, lentSignal, lentNothing, endCalled}
+use mathlib.Core.Path.{ap}
+use Rattle.run_call_opening.specs.Called.{lentRoom, lentSignal, lentNothing, endOpening}
 use borrow.Author.Needs.{needs}
 use Rattle.run_call_opening.proofs.called_opening.Statement.{statement}
 use Rattle.run_call_opening.proofs.called_opening.Tie as tie
-
--- the arm of every other command, by their places in `Command`
-abbrev others : List ℕ
-others = 0 ∷ 1 ∷ 3 ∷ 12 ∷ 13 ∷ 14 ∷ 15 ∷ 16 ∷ 17 ∷ 18 ∷ 19 ∷ 20 ∷ 21 ∷ 22 ∷ 23 ∷ 24 ∷ 25 ∷ 26 ∷ []
-
-other : (c : Command) → OneOf others (tagOf the-type c) → isOpening c ≡ false
-unfolding isOpening
-other Command.Bad h = refl
-other (Command.Make n d m) h = refl
-other (Command.RegisterSpsm spsm) h = absurd (miss others 2 tt h)
-other (Command.Signal link listening central pdu) h = refl
-other (Command.NextPending link up) h = absurd (miss others 4 tt h)
-other (Command.RejectAllPending link) h = absurd (miss others 5 tt h)
-other (Command.AcceptPending slot config) h = absurd (miss others 6 tt h)
-other (Command.RejectPending slot result) h = absurd (miss others 7 tt h)
-other (Command.DropPending slot) h = absurd (miss others 8 tt h)
-other (Command.Create link spsm config) h = absurd (miss others 9 tt h)
-other (Command.Opened slot link up) h = absurd (miss others 10 tt h)
-other (Command.GiveUp slot) h = absurd (miss others 11 tt h)
-other (Command.IncRef slot) h = refl
-other (Command.DecRef slot) h = refl
-other (Command.Disconnect slot) h = refl
-other (Command.DisconnectByCid cid) h = refl
-other (Command.Disconnected link) h = refl
-other Command.NextDisconnect h = refl
-other (Command.Dispatch link cid payload) h = refl
-other (Command.Send slot job) h = refl
-other (Command.Receive slot size) h = refl
-other Command.Attention h = refl
-other (Command.Queries slot) h = refl
-other (Command.SendConnParamUpdateReq link least most latency timeout) h = refl
-other (Command.SendConnParamUpdateRes link result) h = refl
-other Command.View h = refl
-other (Command.Room slot) h = refl
 
 enum-known-c : tie.Need-enum-known-c
 enum-known-c c = search needs
@@ -106,27 +63,15 @@ enum-known-c-8 c = search needs
 slot-of-requires-4 : tie.Need-slot-of-requires-4
 slot-of-requires-4 c κs = search needs
 
-opened-requires : tie.Need-opened-requires
-opened-requires c κs = search needs
-
-enum-known-c-9 : tie.Need-enum-known-c-9
-enum-known-c-9 c = search needs
-
-slot-of-requires-5 : tie.Need-slot-of-requires-5
-slot-of-requires-5 c κs = search needs
-
 give-up-requires : tie.Need-give-up-requires
 give-up-requires c κs = search needs
 
-done-requires : tie.Need-done-requires
-done-requires c κs = search needs
-
 returns : tie.Need-returns
-unfolding endCalled isOpening choose
+unfolding endOpening
 returns c = rw (c .before .before .c .given .1) (ap (lentNothing _ _) (c .register-spsm .ensures))
 
 returns-2 : tie.Need-returns-2
-unfolding endCalled isOpening choose
+unfolding endOpening
 returns-2 c = rw (c .before .before .c2 .given .1) (ap (lentNothing _ _) (c .next-pending .ensures))
 
 same-length : tie.Need-same-length
@@ -136,14 +81,14 @@ same-length-2 : tie.Need-same-length-2
 same-length-2 c = search needs
 
 returns-3 : tie.Need-returns-3
-unfolding endCalled isOpening choose
+unfolding endOpening
 returns-3 c = rw (c .before .before .before .before .before .before .before .before .c3 .given .1) (c .before .before .before .before .reject-all-pending .ensures)
 
 same-length-3 : tie.Need-same-length-3
 same-length-3 c = search needs
 
 returns-4 : tie.Need-returns-4
-unfolding endCalled isOpening choose
+unfolding endOpening
 returns-4 c = rw (c .before .before .before .before .before .before .c4 .given .1, ← c .before .before .before .slot-of .ensures) (ap (lentSignal _) (c .before .before .accept-pending .ensures))
 
 same-length-4 : tie.Need-same-length-4
@@ -153,40 +98,29 @@ same-length-5 : tie.Need-same-length-5
 same-length-5 c = search needs
 
 returns-5 : tie.Need-returns-5
-unfolding endCalled isOpening choose
+unfolding endOpening
 returns-5 c = rw (c .before .before .before .before .before .before .before .before .before .c5 .given .1, ← c .before .before .before .before .before .slot-of2 .ensures) (c .before .before .before .before .reject-pending .ensures)
 
 same-length-6 : tie.Need-same-length-6
 same-length-6 c = search needs
 
 returns-6 : tie.Need-returns-6
-unfolding endCalled isOpening choose
+unfolding endOpening
 returns-6 c = rw (c .before .before .before .before .before .before .c6 .given .1, ← c .before .before .before .slot-of3 .ensures) (ap (lentRoom _) (c .before .before .drop-pending .ensures))
 
 same-length-7 : tie.Need-same-length-7
 same-length-7 c = search needs
 
 returns-7 : tie.Need-returns-7
-unfolding endCalled isOpening choose
+unfolding endOpening
 returns-7 c = rw (c .before .before .before .before .before .c7 .given .1) (ap (lentSignal _) (c .before .before .create .ensures))
 
 same-length-8 : tie.Need-same-length-8
 same-length-8 c = search needs
 
 returns-8 : tie.Need-returns-8
-unfolding endCalled isOpening choose
-returns-8 c = rw (c .before .before .before .before .before .before .c8 .given .1, ← c .before .before .before .slot-of4 .ensures) (ap (lentRoom _) (c .before .before .opened .ensures))
-
-same-length-9 : tie.Need-same-length-9
-same-length-9 c = search needs
-
-returns-9 : tie.Need-returns-9
-unfolding endCalled isOpening choose
-returns-9 c = rw (c .before .before .before .before .before .before .c9 .given .1, ← c .before .before .before .slot-of5 .ensures) (ap (lentRoom _) (c .before .before .give-up .ensures))
-
-returns-10 : tie.Need-returns-10
-unfolding choose
-returns-10 c = rw (other _ (c .before .match .keys10)) (ap (lentNothing _ _) (c .done .ensures))
+unfolding endOpening
+returns-8 c = rw (c .before .before .before .before .before .before .c8 .given .1, ← c .before .before .before .slot-of4 .ensures) (ap (lentRoom _) (c .before .before .give-up .ensures))
 
 pub called-opening-spec : {M : Type 1} → statement M
 called-opening-spec =
@@ -211,11 +145,7 @@ called-opening-spec =
     create-requires
     enum-known-c-8
     slot-of-requires-4
-    opened-requires
-    enum-known-c-9
-    slot-of-requires-5
     give-up-requires
-    done-requires
     returns
     returns-2
     same-length
@@ -231,7 +161,4 @@ called-opening-spec =
     same-length-7
     returns-7
     same-length-8
-    returns-8
-    same-length-9
-    returns-9
-    returns-10)
+    returns-8)

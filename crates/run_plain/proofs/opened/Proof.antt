@@ -6,14 +6,14 @@ use borrow.Author.Needs.{needs}
 use Rattle.run_plain.proofs.opened.Statement.{statement}
 use Rattle.run_plain.proofs.opened.Tie as tie
 
-slice-aggregate-called : tie.Need-slice-aggregate-called
-slice-aggregate-called c = search needs
-
-called-requires : tie.Need-called-requires
-called-requires c κs = search needs
+slot-of-requires : tie.Need-slot-of-requires
+slot-of-requires c κs = search needs
 
 opened-requires : tie.Need-opened-requires
 opened-requires c κs = search needs
+
+opened-requires-2 : tie.Need-opened-requires-2
+opened-requires-2 c κs = search needs
 
 same-length : tie.Need-same-length
 same-length c = search needs
@@ -22,15 +22,11 @@ same-length-2 : tie.Need-same-length-2
 same-length-2 c = search needs
 
 returns : tie.Need-returns
-returns c = by-end asOpened (c .before .before .before .before .before .before .before .before .called .ensures) (record { table = refl; room = refl; text = c .before .before .before .opened .ensures })
+returns c =
+    rw (← c .before .before .before .before .before .before .before .before .slot-of .ensures)
+    (by-end asOpened (c .before .before .before .before .before .before .before .opened .ensures) (record { table = refl; room = refl; text = c .before .before .before .opened2 .ensures }))
 
 pub opened-spec : {M : Type 1} → statement M
 opened-spec =
     tie.close
-    (tie.spec
-    slice-aggregate-called
-    called-requires
-    opened-requires
-    same-length
-    same-length-2
-    returns)
+    (tie.spec slot-of-requires opened-requires opened-requires-2 same-length same-length-2 returns)

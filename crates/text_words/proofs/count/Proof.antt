@@ -6,13 +6,14 @@ use mathlib.Core.Logic.{⊎-elim}
 use borrow.Author.Tests.{eq-eqb, ne-eqb}
 use borrow.Author.Needs.{needs}
 use lib.ListN.{length}
-use Rattle.text_cut.specs.Cut.{is}
+use Prim.Native.Char.{code}
+use Rattle.text_words.specs.Words.{isSpace}
 use Rattle.text_cut.specs.CutLaws.{cut-count, Counted, counted-none, counted-hit, counted-pass, counted-all}
 use Rattle.text_words.proofs.count.Statement.{statement}
 use Rattle.text_words.proofs.count.Tie as tie
 
 abbrev Inv-loop : tie.InvT-loop
-Inv-loop line n₀ i₀ n i = (i ≤ length line) × Counted (is 32) line i n
+Inv-loop line n₀ i₀ n i = (i ≤ length line) × Counted isSpace line i n
 
 abbrev μ-loop : tie.MeasureT-loop
 μ-loop line n₀ i₀ n i = length line - i
@@ -37,11 +38,11 @@ loop-again c =
     let l = c .before .before .before .loop in
     let h : l .i < length (c .before .before .before .before .args .line .now) = omega arith in (
       omega arith,
-      ⊎-elim (λ w. rw (w .1) (counted-hit (l .inv .1) 0 (eq-eqb _ 32 (w .0 .taken)) h)) (λ w. rw (w .1) (counted-pass (l .inv .1) 0 (ne-eqb _ 32 (w .0 .left)) h)) (c .if1 .came),
+      ⊎-elim (λ w. rw (w .1) (counted-hit (l .inv .1) 0 (eq-eqb _ _ (w .0 .taken)) h)) (λ w. rw (w .1) (counted-pass (l .inv .1) 0 (ne-eqb _ _ (w .0 .left)) h)) (c .if1 .came),
     )
 
 returns : tie.Need-returns Inv-loop μ-loop
-returns c = counted-all (c .before .loop .inv .1) (omega arith) ∙ sym (cut-count 32 (c .before .before .args .line .now))
+returns c = counted-all (c .before .loop .inv .1) (omega arith) ∙ sym (cut-count (code " ") (c .before .before .args .line .now))
 
 pub count-spec : {M : Type 1} → statement M
 count-spec =

@@ -1,53 +1,10 @@
--- `run_call::called` meets its contract: in each arm what the match told is the definition's case, and the call's own contract is its end.
-use mathlib.Core.Path.{_≡_, refl, ap, _∙_}
-use mathlib.Core.List.{List, [], _∷_}
-use Prim.Native.Nat.{ℕ}
-use denote.Enum.Declared.{tagOf}
-use types.Run.{OneOf, miss}
-use Rattle.lists.specs.Choose.{choose}
-use Rattle.channel.specs.declared.Table.{Table}
-use Rattle.script_commands.proofs.Command.{the-type}
-use Rattle.script_commands.specs.declared.Command.{Command}
-use Rattle.script_commands.specs.declared.Command.the-variants as Command
-use Rattle.run_call_opening.specs.Called.{isOpening, endOpening, lentRoom, lentSignal, lentNothing, endCalled}
+-- `run_call::called_closing` meets its contract: in each arm what the match told is the definition's case, and the call's own contract is its end.
+use mathlib.Core.Path.{ap}
+use Rattle.run_call_opening.specs.Called.{lentRoom, lentSignal, lentNothing}
+use Rattle.run_call.specs.Called.{endClosing}
 use borrow.Author.Needs.{needs}
-use Rattle.run_call.proofs.called.Statement.{statement}
-use Rattle.run_call.proofs.called.Tie as tie
-
--- the arm of every other command, by their places in `Command`
-abbrev others : List ℕ
-others = 0 ∷ 1 ∷ 2 ∷ 3 ∷ 4 ∷ 5 ∷ 6 ∷ 7 ∷ 8 ∷ 9 ∷ 10 ∷ 11 ∷ 18 ∷ 19 ∷ 20 ∷ 22 ∷ 25 ∷ 26 ∷ []
-
-module _ (t : Table) (room signal : List ℕ) where
-  other : (c : Command) → OneOf others (tagOf the-type c) → endOpening t room signal c ≡ endCalled t room signal c
-  unfolding endCalled isOpening choose
-  other Command.Bad h = refl
-  other (Command.Make n d m) h = refl
-  other (Command.RegisterSpsm spsm) h = refl
-  other (Command.Signal link listening central pdu) h = refl
-  other (Command.NextPending link up) h = refl
-  other (Command.RejectAllPending link) h = refl
-  other (Command.AcceptPending slot config) h = refl
-  other (Command.RejectPending slot result) h = refl
-  other (Command.DropPending slot) h = refl
-  other (Command.Create link spsm config) h = refl
-  other (Command.Opened slot link up) h = refl
-  other (Command.GiveUp slot) h = refl
-  other (Command.IncRef slot) h = absurd (miss others 12 tt h)
-  other (Command.DecRef slot) h = absurd (miss others 13 tt h)
-  other (Command.Disconnect slot) h = absurd (miss others 14 tt h)
-  other (Command.DisconnectByCid cid) h = absurd (miss others 15 tt h)
-  other (Command.Disconnected link) h = absurd (miss others 16 tt h)
-  other Command.NextDisconnect h = absurd (miss others 17 tt h)
-  other (Command.Dispatch link cid payload) h = refl
-  other (Command.Send slot job) h = refl
-  other (Command.Receive slot size) h = refl
-  other Command.Attention h = absurd (miss others 21 tt h)
-  other (Command.Queries slot) h = refl
-  other (Command.SendConnParamUpdateReq link least most latency timeout) h = absurd (miss others 23 tt h)
-  other (Command.SendConnParamUpdateRes link result) h = absurd (miss others 24 tt h)
-  other Command.View h = refl
-  other (Command.Room slot) h = refl
+use Rattle.run_call.proofs.called_closing.Statement.{statement}
+use Rattle.run_call.proofs.called_closing.Tie as tie
 
 enum-known-c : tie.Need-enum-known-c
 enum-known-c c = search needs
@@ -112,39 +69,36 @@ enum-known-c-7 c = search needs
 send-conn-param-update-res-requires : tie.Need-send-conn-param-update-res-requires
 send-conn-param-update-res-requires c κs = search needs
 
-called-opening-requires : tie.Need-called-opening-requires
-called-opening-requires c κs = search needs
-
 returns : tie.Need-returns
-unfolding endCalled
+unfolding endClosing
 returns c = rw (c .before .before .before .c .given .1, ← c .before .slot-of .ensures) (ap (lentNothing _ _) (c .inc-ref .ensures))
 
 same-length : tie.Need-same-length
 same-length c = search needs
 
 returns-2 : tie.Need-returns-2
-unfolding endCalled
+unfolding endClosing
 returns-2 c = rw (c .before .before .before .before .before .before .c2 .given .1, ← c .before .before .before .slot-of2 .ensures) (ap (lentRoom _) (c .before .before .dec-ref .ensures))
 
 same-length-2 : tie.Need-same-length-2
 same-length-2 c = search needs
 
 returns-3 : tie.Need-returns-3
-unfolding endCalled
+unfolding endClosing
 returns-3 c = rw (c .before .before .before .before .before .before .c3 .given .1, ← c .before .before .before .slot-of3 .ensures) (ap (lentRoom _) (c .before .before .disconnect .ensures))
 
 same-length-3 : tie.Need-same-length-3
 same-length-3 c = search needs
 
 returns-4 : tie.Need-returns-4
-unfolding endCalled
+unfolding endClosing
 returns-4 c = rw (c .before .before .before .before .before .c4 .given .1) (ap (lentRoom _) (c .before .before .disconnect-by-cid .ensures))
 
 same-length-4 : tie.Need-same-length-4
 same-length-4 c = search needs
 
 returns-5 : tie.Need-returns-5
-unfolding endCalled
+unfolding endClosing
 returns-5 c = rw (c .before .before .before .before .before .c5 .given .1) (ap (lentRoom _) (c .before .before .disconnected .ensures))
 
 same-length-5 : tie.Need-same-length-5
@@ -154,38 +108,29 @@ same-length-6 : tie.Need-same-length-6
 same-length-6 c = search needs
 
 returns-6 : tie.Need-returns-6
-unfolding endCalled
+unfolding endClosing
 returns-6 c = rw (c .before .before .before .before .before .before .before .enum-told .given .1) (c .before .before .before .before .next-disconnect .ensures)
 
 returns-7 : tie.Need-returns-7
-unfolding endCalled
+unfolding endClosing
 returns-7 c = rw (c .before .enum-told2 .given .1) (ap (lentNothing _ _) (c .attention .ensures))
 
 same-length-7 : tie.Need-same-length-7
 same-length-7 c = search needs
 
 returns-8 : tie.Need-returns-8
-unfolding endCalled
+unfolding endClosing
 returns-8 c = rw (c .before .before .before .before .before .c6 .given .1) (ap (lentSignal _) (c .before .before .send-conn-param-update-req .ensures))
 
 same-length-8 : tie.Need-same-length-8
 same-length-8 c = search needs
 
 returns-9 : tie.Need-returns-9
-unfolding endCalled
+unfolding endClosing
 returns-9 c = rw (c .before .before .before .before .before .c7 .given .1) (ap (lentSignal _) (c .before .before .send-conn-param-update-res .ensures))
 
-same-length-9 : tie.Need-same-length-9
-same-length-9 c = search needs
-
-same-length-10 : tie.Need-same-length-10
-same-length-10 c = search needs
-
-returns-10 : tie.Need-returns-10
-returns-10 c = (c .before .before .before .before .called-opening .ensures) ∙ other _ _ _ _ (c .before .before .before .before .before .before .before .match .keys10)
-
-pub called-spec : {M : Type 1} → statement M
-called-spec =
+pub called-closing-spec : {M : Type 1} → statement M
+called-closing-spec =
     tie.close
     (tie.spec
     enum-known-c
@@ -209,7 +154,6 @@ called-spec =
     send-conn-param-update-req-requires
     enum-known-c-7
     send-conn-param-update-res-requires
-    called-opening-requires
     returns
     same-length
     returns-2
@@ -226,7 +170,4 @@ called-spec =
     same-length-7
     returns-8
     same-length-8
-    returns-9
-    same-length-9
-    same-length-10
-    returns-10)
+    returns-9)

@@ -1,5 +1,5 @@
 -- The law of a send: the octets of the definition's frames, given the job's, are those that `sar_cut` writes. It rests on the frames
--- of a job taken one by one (crate framing: framed-start, framed-turn, count-first).
+-- of a job taken one by one (crate sar_frames: framed-start, framed-turn, count-first).
 use mathlib.Core.Path.{_≡_, refl, sym, _∙_}
 use mathlib.Core.List.{List, []}
 use Prim.Native.Nat.{ℕ, zero, suc, _+_, _-_, _*_, _≤_, _<_, min}

@@ -1,5 +1,5 @@
--- What an answer tells, in numbers: its kind, its refusal's number, and what it carries. Octets (answer_octets), rows (answer_columns, answers,
--- printed) and the promises of the definition have an answer's number and values from here.
+-- What an answer tells, in numbers: its kind, its refusal's number, and what it carries. Octets (edge_answer), rows (row_answer,
+-- row_call) and the promises of the definition have an answer's number and values from here.
 use Prim.Native.Nat.{ℕ, min}
 use Rattle.codes.specs.Codes.{refusalNumber, resultIn}
 use Rattle.channel.specs.declared.Answer.{Answer}

@@ -35,7 +35,7 @@ use Rattle.definition.specs.Outcome.{Outcome, change, handout, refuse, d
 
 -- ---- frame in
 
--- One more job waits. (It stands at `queueAt`, crate sar: behind the assembly place and the jobs that wait.)
+-- One more job waits. (It stands at `queueAt`, crate sar_join: behind the assembly place and the jobs that wait.)
 abbrev pub queued : ℕ → Queue → Queue
 queued len q = record { count = q .count + 1; lens = set (q .lens) (q .count) len }
 

@@ -1,4 +1,4 @@
--- The eight bodies of a signal as crates bodies and le_credit_bodies read them, in one shape: the body, or that it is bad. So a signal's rule
+-- The eight bodies of a signal as crate signal_bodies reads them, in one shape: the body, or that it is bad. So a signal's rule
 -- (Signals.antt) is written for a body that was read.
 use Rattle.signal_forms.specs.declared.CommandRejectRes.{CommandRejectRes}
 use Rattle.signal_forms.specs.declared.DisconnectionReq.{DisconnectionReq}

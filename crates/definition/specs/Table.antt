@@ -13,6 +13,7 @@ use Rattle.credit.specs.Account.{newAccount, creditSum}
 use Rattle.sar_join.specs.Joining.{idle}
 use Rattle.channel.specs.Limits.{slotsMost, depthMost, packetLeast, packetMost, frameHead, jobHead, cidBase, identifierMost, spsmMost, creditsMost}
 use Rattle.channel.specs.declared.ChannelIndex.{ChannelIndex}
+use Rattle.channel.specs.declared.Cid.{Cid}
 use Rattle.channel.specs.declared.ChannelState.the-variants.{Disconnected}
 use Rattle.channel.specs.declared.Queue.{Queue}
 use Rattle.channel.specs.declared.Slot.{Slot}
@@ -144,15 +145,22 @@ putSlot t s x = withSlots t (set (t .slots) s x)
 abbrev pub index : ℕ → ChannelIndex
 index s = record { 0 = s }
 
+abbrev pub cidAt : ChannelIndex → Cid
+cidAt i = record { 0 = cidBase + i .0 }
+
+abbrev pub indexAt : Cid → ChannelIndex
+indexAt cid = record { 0 = cid .0 - cidBase }
+
+-- The same by their numbers, as signals and calls carry them.
 abbrev pub cidOf : ℕ → ℕ
-cidOf s = cidBase + s
+cidOf s = cidAt (index s) .0
+
+abbrev pub slotOf : ℕ → ℕ
+slotOf cid = indexAt (record { 0 = cid }) .0
 
 -- Does the CID name a slot?
 abbrev pub isCid : Table → ℕ → Bool
-isCid t cid = leb cidBase cid && ltb (cid - cidBase) (t .n)
-
-abbrev pub slotOf : ℕ → ℕ
-slotOf cid = cid - cidBase
+isCid t cid = leb cidBase cid && ltb (slotOf cid) (t .n)
 
 -- ---- "Identifiers run 1 to 255, then 1."
 

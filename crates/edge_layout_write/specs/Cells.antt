@@ -1,4 +1,4 @@
--- What stands in each row once octets are written into one (layout_local's Puts). The laws rest on those of one store (lib.Seq).
+-- What stands in each row once octets are written into one (Puts). The laws rest on those of one store (lib.Seq).
 use mathlib.Core.Path.{_≡_, refl, sym, ap, _∙_}
 use mathlib.Core.List.{List, [], _∷_, map}
 use Prim.Native.Nat.{ℕ, zero, suc, _+_, _*_, _≤_, _<_}

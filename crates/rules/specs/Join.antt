@@ -1,4 +1,4 @@
--- All that the rules need to know of crates sar and cutting: what the join step and the plan of a send may come to. The only file that names the
+-- All that the rules need to know of crates sar_join and sar_cut: what the join step and the plan of a send may come to. The only file that names the
 -- variants of their answers; it rests on `joinStep` and `planSend` alone.
 use mathlib.Core.Path.{_≡_, refl, sym, ap, _∙_}
 use mathlib.Core.Bool.{true, false}

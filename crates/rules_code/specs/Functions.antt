@@ -23,7 +23,7 @@ use Rattle.definition.specs.Opening.{create, opened, giveUp}
 use Rattle.definition.specs.Closing.{incRef, decRef, disconnect, disconnectByCid, disconnected, nextDisconnect}
 use Rattle.definition.specs.Signals.{signalled}
 use Rattle.definition.specs.Frames.{send, receive}
-use Rattle.definition.specs.Asking.{registerSpsm, attention, query, spsm, mtu, mps, peerMtu, peerMps, sendConnParamUpdateReq, sendConnParamUpdateRes}
+use Rattle.definition.specs.Asking.{registerSpsm, attention, spsm, mtu, mps, peerMtu, peerMps, sendConnParamUpdateReq, sendConnParamUpdateRes}
 use Rattle.definition.specs.Calls.{Window, frame, sends, down, plain, Request, register, signals, pends, rejectsAll, accepts, rejects, drops, creates, opens, gives, holds, releases, leaves, leavesCid, announces, takes, attends, asks, sendsSignal, writes, jobs, bare, frameIn, serve, decide}
 use Rattle.definition.specs.Ending.{itself, end, endOf, servedOf, gave, end-given, roomAfter}
 use Rattle.definition.specs.Run.{State, lent, nowhere}
@@ -82,10 +82,6 @@ module _ (s : State) (r : Served) where
   pub register-spsm-called : (n : ℕ) → r ≡ servedOf (registerSpsm (s .table) n) → Called s (plain (register n) nowhere nowhere) r (left r (s .room) (s .memory))
   unfolding serve
   register-spsm-called n h = asked s (register n) r refl h
-
-  pub told-called : (n slot : ℕ) → r ≡ servedOf (query (λ _. n) (s .table) slot) → Called s (plain (asks (λ _. n) slot) nowhere nowhere) r (left r (s .room) (s .memory))
-  unfolding serve
-  told-called n slot h = asked s (asks (λ _. n) slot) r refl h
 
   pub spsm-called : (slot : ℕ) → r ≡ servedOf (spsm (s .table) slot) → Called s (plain (asks (λ x. x .spsm) slot) nowhere nowhere) r (left r (s .room) (s .memory))
   unfolding serve

@@ -10,7 +10,7 @@ use Rattle.script_commands.specs.declared.Opening.{Opening}
 use Rattle.script_commands.specs.declared.Closing.{Closing}
 use Rattle.script_commands.specs.Commands.{slotNumber}
 use Rattle.run_call_opening.specs.Called.{endOpening}
-use Rattle.run_call.specs.Called.{endClosing}
+use Rattle.run_call_closing.specs.Called.{endClosing}
 use Rattle.run_play.specs.Plays.{Play, lentSignal, withOctets, asOpened}
 
 -- `R`, `P`, `J`, `A`, `X`, `Z`, `C` and `G`

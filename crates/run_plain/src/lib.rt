@@ -1,4 +1,4 @@
-// The calls of `run_call_opening` and `called`, and the opened query, each with its row (docs/CHANRUN.md): the call is made on the table and the lent
+// The calls of `run_call_opening` and `run_call_closing`, and the opened query, each with its row (docs/CHANRUN.md): the call is made on the table and the lent
 // room, and its row is written at the start of a lent `row`. What each comes to is defined in specs/Played.antt. Signals, frames and jobs are in
 // `run_frames`.
 ghost use mathlib.Core.Path.{_≡_};
@@ -11,7 +11,7 @@ use channel::SIGNAL_MOST;
 use channel::Served;
 use channel::Table;
 use row_call::first;
-use run_call::called_closing;
+use run_call_closing::called_closing;
 use run_call_opening::called_opening;
 use run_play::Played;
 use script_commands::Closing;

@@ -1,4 +1,4 @@
--- Which call a line asks for: its first word is the letter, and its number of words says which calls it can be (commands' Commands, long_commands' LongCommands).
+-- Which call a line asks for: its first word is the letter, and its number of words says which calls it can be (script_commands: Commands, LongCommands).
 use mathlib.Core.List.{List}
 use Prim.Native.Nat.{ℕ}
 use lib.Dec.{eqb}

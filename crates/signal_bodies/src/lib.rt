@@ -1,4 +1,4 @@
-// The bodies of the signals, read, but those of LE credit based connections (le_credit_bodies): the length first, then fields of two octets.
+// The bodies of the signals, read, but those of LE credit based connections (`le_credit`): the length first, then fields of two octets.
 // A body of another length is Decode (refusal 15).
 pub mod le_credit;
 

@@ -1,5 +1,5 @@
 // The headers of the signals in a PDU (Core Vol 3 Part A 4): the check of every one, and what stands after the first signal, whose header and
-// body first_signal reads.
+// body `first` reads.
 pub mod first;
 
 pub use first::body;

@@ -1,4 +1,4 @@
-// What a call gives back. The crate `table` has the table's slots, and the crate `table_identifiers` the numbers that name them.
+// What a call gives back. Module `slots` has the table's slots, and the crate `table_identifiers` the numbers that name them.
 // Each contract is the equation with the function of that name in the crate `definition`.
 mod slots;
 

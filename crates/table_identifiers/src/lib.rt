@@ -1,7 +1,7 @@
 // The identifiers of signals and of channels. Each contract is the equation with the function of that name in the crate `definition`.
 ghost use mathlib.Core.Path.{_≡_};
 ghost use Prim.Native.Nat.{_<_};
-ghost use Rattle.definition.specs.Table.{index, cidOf, isCid, slotOf, nextId, idAfter, spent};
+ghost use Rattle.definition.specs.Table.{index, isCid, nextId, idAfter, spent, cidAt, indexAt};
 use channel::CID_BASE;
 use channel::ChannelIndex;
 use channel::Cid;
@@ -49,7 +49,7 @@ pub fn index_at(s: usize) -> ChannelIndex
 
 // The CID of a slot, and the slot that a CID names: every other crate asks these two.
 pub fn cid_of(i: ChannelIndex) -> Cid
-    ensures { λ r. ⌜ r .0 ≡ cidOf (i .0) ⌝ }
+    ensures { λ r. ⌜ r ≡ cidAt i ⌝ }
 {
     Cid(CID_BASE + i.0 as u16)
 }
@@ -66,8 +66,8 @@ pub fn is_cid(t: Table, cid: Cid) -> bool
 
 // The slot that the CID names.
 pub fn slot_of(cid: Cid) -> ChannelIndex
-    requires { ⌜ slotOf (cid .0) < 256 ⌝ }
-    ensures { λ r. ⌜ r ≡ index (slotOf (cid .0)) ⌝ }
+    requires { ⌜ indexAt cid .0 < 256 ⌝ }
+    ensures { λ r. ⌜ r ≡ indexAt cid ⌝ }
 {
     if cid.0 < CID_BASE {
         return ChannelIndex(0);

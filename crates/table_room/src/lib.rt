@@ -1,4 +1,4 @@
-// The room: the parts of all slots that are searched for, wiped. The crate `parts` has one slot's part.
+// The room: the parts of all slots that are searched for, wiped. One slot's part is in `parts`.
 mod parts;
 
 ghost use mathlib.Core.Path.{_≡_};

@@ -1,10 +1,10 @@
--- `run_call::called_closing` meets its contract: in each arm what the match told is the definition's case, and the call's own contract is its end.
+-- `run_call_closing::called_closing` meets its contract: in each arm what the match told is the definition's case, and the call's own contract is its end.
 use mathlib.Core.Path.{ap}
 use Rattle.run_call_opening.specs.Called.{lentRoom, lentSignal, lentNothing}
-use Rattle.run_call.specs.Called.{endClosing}
+use Rattle.run_call_closing.specs.Called.{endClosing}
 use borrow.Author.Needs.{needs}
-use Rattle.run_call.proofs.called_closing.Statement.{statement}
-use Rattle.run_call.proofs.called_closing.Tie as tie
+use Rattle.run_call_closing.proofs.called_closing.Statement.{statement}
+use Rattle.run_call_closing.proofs.called_closing.Tie as tie
 
 enum-known-c : tie.Need-enum-known-c
 enum-known-c c = search needs

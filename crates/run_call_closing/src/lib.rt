@@ -3,7 +3,7 @@
 ghost use mathlib.Core.Path.{_≡_};
 ghost use mathlib.Core.List.{[]};
 ghost use Rattle.definition.specs.Ending.{end};
-ghost use Rattle.run_call.specs.Called.{endClosing};
+ghost use Rattle.run_call_closing.specs.Called.{endClosing};
 use call_send_parameters::send_conn_param_update_req;
 use channel::Cid;
 use channel::Served;

@@ -1,11 +1,13 @@
 // The line of one slot in a view (docs/CHANRUN.md, `V`): its state, our side of the channel, and what `row_view_peer` shows. It is defined in
 // specs/SlotLine.antt; it rests on `row_view_names`, `row_view_peer`, `row_columns` and `text_write`.
+use channel::ChannelIndex;
 use channel::ChannelState;
 use channel::Slot;
 use row_columns::write_columns;
 use row_view_names::write_policy;
 use row_view_names::write_state;
 use row_view_peer::write_peer;
+use table_identifiers::cid_of;
 use text_write::write_character;
 ghost use Rattle.text_write.specs.Rows.{Writes};
 ghost use Rattle.row_view_slot.specs.SlotLine.{headText, localText, slotText};
@@ -24,7 +26,8 @@ fn write_head(out: &mut [u8], at: usize, s: u8, state: ChannelState) -> usize
 fn write_local(out: &mut [u8], at: usize, s: u8, x: Slot) -> usize
     ensures { λ r. ⌜ Writes (now (out .entry)) at (localText s x) r (now (out .exit)) ⌝ }
 {
-    let numbers = write_columns(out, at, &[x.link, 64 + (s as u16), x.spsm, x.mps, x.mtu]);
+    let cid = cid_of(ChannelIndex(s));
+    let numbers = write_columns(out, at, &[x.link, cid.0, x.spsm, x.mps, x.mtu]);
     let space = write_character(out, numbers, b' ');
     let account = x.account;
     let policy = account.policy;

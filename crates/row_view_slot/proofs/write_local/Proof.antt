@@ -1,12 +1,12 @@
--- `row_view_slot::write_local` meets its contract: its pieces follow one another (writes-append).
+-- `row_view_slot::write_local` meets its contract: its pieces follow one another (writes-append), and the CID is the definition's by the one function that gives it.
 use Rattle.text_write.specs.Rows.{writes-append}
 use Rattle.row_view_slot.specs.SlotLine.{localText}
 use borrow.Author.Needs.{needs}
 use Rattle.row_view_slot.proofs.write_local.Statement.{statement}
 use Rattle.row_view_slot.proofs.write_local.Tie as tie
 
-add-t14 : tie.Need-add-t14
-add-t14 c = search needs
+cid-of-requires : tie.Need-cid-of-requires
+cid-of-requires c κs = search needs
 
 slice-aggregate-write-columns : tie.Need-slice-aggregate-write-columns
 slice-aggregate-write-columns c = search needs
@@ -31,13 +31,18 @@ same-length c = search needs
 
 returns : tie.Need-returns
 unfolding localText
-returns c = writes-append (writes-append (writes-append (c .before .before .before .before .before .before .before .before .before .before .before .before .before .before .before .before .write-columns .ensures) (c .before .before .before .before .before .before .before .before .before .before .before .before .write-character .ensures)) (c .before .before .before .before .before .before .before .write-policy .ensures)) (c .before .before .write-columns2 .ensures)
+returns c =
+    let policy = c .before .before .before .before .before .before .before in
+    let space = policy .before .before .before .before .before in
+    let numbers = space .before .before .before .before in
+    let named = numbers .before .before .before in
+    writes-append (writes-append (writes-append (rw (named .cid-of .ensures) at (numbers .write-columns .ensures)) (space .write-character .ensures)) (policy .write-policy .ensures)) (c .before .before .write-columns2 .ensures)
 
 pub write-local-spec : {M : Type 1} → statement M
 write-local-spec =
     tie.close
     (tie.spec
-    add-t14
+    cid-of-requires
     slice-aggregate-write-columns
     write-columns-requires
     write-character-requires

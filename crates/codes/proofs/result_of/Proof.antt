@@ -1,5 +1,5 @@
 -- `codes::result_of` meets its contract: code and definition make the same tests in the same order.
-use Rattle.codes.proofs.Rules.{tests}
+use Rattle.lists.proofs.Rules.{tests}
 use Rattle.codes.specs.Codes.{resultOf}
 use Rattle.codes.proofs.result_of.Statement.{statement}
 use Rattle.codes.proofs.result_of.Tie as tie

@@ -6,6 +6,7 @@ use native.Mathlib.Omega.{arith}
 use lib.ListN.{length, getD, drop}
 use lib.Seq.{sets}
 use Rattle.octets.specs.Octets.{part}
+use Rattle.sar_join.specs.Joining.{place}
 use Rattle.channel.specs.declared.Answer.the-variants.{Job}
 use Rattle.channel.specs.declared.Served.{Served}
 use Rattle.channel.specs.declared.Slot.{Slot}
@@ -38,7 +39,7 @@ module _ (t u : Table) (s : ℕ) (x : Slot) (out : List ℕ) {octets : ℕ} {roo
   hands : (signal : List Fill) {out′ : List ℕ} → octets ≡ sizes signal → out′ ≡ written itself [] room signal out
       → end r room′ out′ job′ ≡ endOf t [] room out job (handing u s x (length job) signal)
   unfolding endOf written fills fill
-  hands signal n o = rw (h .served, h .moved, h .told, n, o, e, append-nil (part room (s * width t + placeOf u) (copied x (length job))))
+  hands signal n o = rw (h .served, h .moved, h .told, n, o, e, append-nil (part room (s * width t + place (placeOf u) 1) (copied x (length job))))
 
   pub hands-still : octets ≡ 0 → end r room′ out job′ ≡ endOf t [] room out job (handing u s x (length job) [])
   unfolding sizes

@@ -13,7 +13,7 @@ use Rattle.credit.specs.Account.{received, granted, grantOf}
 use Rattle.sar_join.specs.declared.Assembly.{Assembly}
 use Rattle.sar_join.specs.declared.Joined.{Joined}
 use Rattle.sar_join.specs.declared.Joined.the-variants as Joined
-use Rattle.sar_join.specs.Joining.{isIdle, idle, assembled, queueAt, joinStep}
+use Rattle.sar_join.specs.Joining.{isIdle, idle, assembled, place, queueAt, joinStep}
 use Rattle.sar_cut.specs.declared.Plan.{Plan}
 use Rattle.sar_cut.specs.declared.Plan.the-variants as Plan
 use Rattle.sar_cut.specs.Cutting.{planSend}
@@ -41,17 +41,17 @@ queued len q = record { count = q .count + 1; lens = set (q .lens) (q .count) le
 
 -- In a slot's part, of places of that size, with that assembly and `queued` jobs waiting: a finished job at its place's start, what stood in
 -- the assembly place, then this frame's octets. The assembly place of a joined job is zeroed; a first frame that is complete never touches it.
-abbrev pub finishMoves : (place : ℕ) → Assembly → (queued count : ℕ) → List Move
-finishMoves place a queued count =
-    if isIdle a then put (queueAt place queued) (job 0 count) ∷ []
-    else put (queueAt place queued) (held 0 (a .have)) ∷ put (queueAt place queued + a .have) (job 0 count) ∷ unassembled place ∷ []
+abbrev pub finishMoves : (size : ℕ) → Assembly → (queued count : ℕ) → List Move
+finishMoves size a queued count =
+    if isIdle a then put (queueAt size queued) (job 0 count) ∷ []
+    else put (queueAt size queued) (held 0 (a .have)) ∷ put (queueAt size queued + a .have) (job 0 count) ∷ unassembled size ∷ []
 
 -- What the join step (crate sar_join) moves there. (A refusal moves nothing by itself: the slot leaves Connected, which zeroes the assembly place.)
-abbrev pub joinMoves : (place : ℕ) → Assembly → (queued count : ℕ) → Joined → List Move
-joinMoves place a queued count (Joined.Refused r) = []
-joinMoves place a queued count (Joined.Assembling b) = put (assembled a) (job 0 count) ∷ []
-joinMoves place a queued count (Joined.Finished len) = finishMoves place a queued count
-joinMoves place a queued count Joined.Dropped = unassembled place ∷ []
+abbrev pub joinMoves : (size : ℕ) → Assembly → (queued count : ℕ) → Joined → List Move
+joinMoves size a queued count (Joined.Refused r) = []
+joinMoves size a queued count (Joined.Assembling b) = put (assembled a) (job 0 count) ∷ []
+joinMoves size a queued count (Joined.Finished len) = finishMoves size a queued count
+joinMoves size a queued count Joined.Dropped = unassembled size ∷ []
 
 abbrev pub moved : Table → Slot → (count : ℕ) → Joined → List Move
 moved t x count j = joinMoves (placeOf t) (x .assembly) (x .queue .count) count j
@@ -136,17 +136,16 @@ send t s l out = gate t Nothing Nothing Nothing (Is s) (sentOn t s l out)
 abbrev pub shifted : Queue → Queue
 shifted q = record { count = q .count - 1; lens = drop 1 (q .lens) ++ (0 ∷ []) }
 
--- Later places move up, and the last that was occupied is zeroed: in the part of a slot with so many jobs, in places of p octets, of which place k
--- begins at k * p (the assembly place is 0, the oldest job's 1).
-abbrev pub upwards : (p count : ℕ) → List Move
-upwards p count = put p (held (2 * p) ((count - 1) * p)) ∷ put (count * p) (zeros p) ∷ []
+-- Later places move up, and the last that was occupied is zeroed: in the part of a slot with so many jobs, in places of that size.
+abbrev pub upwards : (size count : ℕ) → List Move
+upwards size count = put (place size 1) (held (place size 2) ((count - 1) * size)) ∷ put (place size count) (zeros size) ∷ []
 
 abbrev pub movingUp : Table → Slot → List Move
 movingUp t x = upwards (placeOf t) (x .queue .count)
 
--- Where slot s's oldest job stands in the room: in the place behind that for assembly.
+-- Where slot s's oldest job stands in the room: in its place 1.
 abbrev pub oldestAt : Table → (slot : ℕ) → ℕ
-oldestAt t s = s * width t + placeOf t
+oldestAt t s = s * width t + place (placeOf t) 1
 
 -- The octets of a slot's oldest job, and how many of them are copied: "min(job, buffer) octets".
 abbrev pub oldest : Slot → ℕ

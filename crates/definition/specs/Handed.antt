@@ -50,7 +50,7 @@ use Rattle.definition.specs.Pending.{nextPending, rejectAllPending, acce
 use Rattle.definition.specs.Opening.{create, opened, giveUp}
 use Rattle.definition.specs.Closing.{incRef, decRef, disconnecting, disconnect, disconnectByCid, disconnected, nextDisconnect}
 use Rattle.definition.specs.Signals.{onReject, onDisconnectionReq, onDisconnectionRes, onParameters, onParameterResponse, onConnReq, onConnRes, onCredits, handled, checked, signalled}
-use Rattle.definition.specs.Frames.{joined, dispatch, planned, send, handing, taken, receive, laterFrames, frames, grantIn}
+use Rattle.definition.specs.Frames.{joined, dispatch, planned, send, handing, taken, receive, laterFrames, frames, grantIn, oldestAt}
 use Rattle.definition.specs.Asking.{registerSpsm, attention, query, sendSignal}
 use Rattle.definition.specs.Calls.{Call, frame, sends, down, plain, Request, register, signals, pends, rejectsAll, accepts, rejects, drops, creates, opens, gives, holds, releases, leaves, leavesCid, announces, takes, attends, asks, sendsSignal, writes, bare, Holder, nobody, holder, carrier, serve, decide, takenFrom, framesOut, jobOut}
 use Rattle.definition.specs.Mem.{Fill, zeros, given, job, held}
@@ -323,7 +323,7 @@ module _ (t : Table) where
       let p : ℕ = placeOf t in
       let len : ℕ = getD (x .queue .lens) 0 0 in
       let room : p + len ≤ width t = omega (arith, fits, suc-mul (t .d) p, mul-le-mul-right p one, one-mul p) in
-      let part : OwnPart t (holder (slotAt t s)) (s * width t + p) (min len size) =
+      let part : OwnPart t (holder (slotAt t s)) (oldestAt t s) (min len size) =
       record { slot = s; within = lt; whose = refl; low = omega arith; high = omega (arith, room) } in
       record { out = quiet-fills signal q; tray = rw (ed, em) (more (stored part) none) }
 

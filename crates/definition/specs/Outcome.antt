@@ -75,9 +75,9 @@ done t = still t Done []
 abbrev pub freeing : Table → ℕ → Slot → Answer → List Fill → Outcome
 freeing t s x a out = change t s (freed x) (wipe ∷ []) a out
 
--- The assembly place, a part's first, zeroed.
-abbrev pub unassembled : (place : ℕ) → Move
-unassembled place = put 0 (zeros place)
+-- The assembly place, place 0 of a part, zeroed.
+abbrev pub unassembled : (size : ℕ) → Move
+unassembled size = put 0 (zeros size)
 
 -- Slot s, as x, leaves Connected: "leaving Connected [zeroes] the assembly place".
 abbrev pub leaving : Table → ℕ → Slot → ChannelState → Answer → Outcome

@@ -4,7 +4,7 @@ use mathlib.Core.Path.{_≡_, refl, sym, ap, _∙_, subst}
 use mathlib.Core.Bool.{Bool, true, false}
 use mathlib.Core.List.{List, [], _∷_}
 use Prim.Native.Nat.{ℕ, zero, suc, _+_, _-_, _*_, _≤_, _<_}
-use native.Mathlib.Nat.{suc-mul, mul-le-mul-right}
+use native.Mathlib.Nat.{suc-mul, mul-le-mul-right, one-mul}
 use native.Mathlib.Omega.{arith}
 use lib.Dec.{eqb, ltb}
 use lib.ListN.{length, getD, take, drop, replicate, length-take, length-drop, length-replicate, getD-replicate, List·getD-append}
@@ -226,4 +226,4 @@ module _ (t : Table) (k : ℕ) (x : Slot) (js part : List ℕ) (h : Holding (t .
   clean-jobs (finish {len} b e w f) =
       if-cases (λ (ms : List Move). Clean p idle (queued len (x .queue)) (moves (λ x. x) js part ms)) (isIdle (x .assembly))
       (λ z. clean-whole len (eqb-true (x .assembly .want) 0 z) e w f) (λ _. clean-joined len e w f)
-  clean-jobs (hand b some) = clean-hand some
+  clean-jobs (hand b some) = rw (one-mul p) (clean-hand some)

@@ -4,7 +4,7 @@ use mathlib.Core.Path.{_≡_, refl, sym, ap, _∙_, subst}
 use mathlib.Core.Bool.{true, not}
 use mathlib.Core.List.{List, [], _∷_, append-nil}
 use Prim.Native.Nat.{ℕ, suc, _+_, _-_, _*_, _≤_, _<_, min}
-use native.Mathlib.Nat.{suc-mul, mul-le-mul-right}
+use native.Mathlib.Nat.{suc-mul, one-mul, mul-le-mul-right}
 use native.Mathlib.Omega.{arith}
 use lib.ListN.{length, getD, take, drop, set, length-take}
 use lib.Seq.{ext-getD, take-take, take-all}
@@ -26,7 +26,7 @@ use Rattle.definition.specs.Table.{placeOf, width, roomSize, slotAt, wellFormed
 use Rattle.definition.specs.Outcome.{Outcome, only, verdict}
 use Rattle.definition.specs.Calls.{Window, Call, plain, takes, jobs, bare, decide, serve}
 use Rattle.definition.specs.Run.{State, lent, jobWindow, outcome, after}
-use Rattle.definition.specs.Frames.{shifted, movingUp, grantIn, taken, receive}
+use Rattle.definition.specs.Frames.{shifted, movingUp, grantIn, taken, receive, oldestAt}
 use Rattle.rules.specs.Run.{Reached}
 use Rattle.rules.specs.Tests.{begun, begun-takes, connected-begun}
 use Rattle.rules.specs.Sound.{Sound}
@@ -71,7 +71,7 @@ record Hands (t : Table) (i : ℕ) (x : Slot) (size : ℕ) (o : Outcome) : Type 
   slots : o .table .slots ≡ set (t .slots) i slot
   parts : o .parts ≡ only i (movingUp t x)
   answer : o .answer ≡ Job (x .link) (min (getD (x .queue .lens) 0 0) size) (getD (x .queue .lens) 0 0)
-  job : o .job ≡ held (i * width t + placeOf t) (min (getD (x .queue .lens) 0 0) size) ∷ []
+  job : o .job ≡ held (oldestAt t i) (min (getD (x .queue .lens) 0 0) size) ∷ []
 
 hands : (t : Table) (i : ℕ) (x : Slot) (size : ℕ) (g : Grant) → Hands t i x size (taken t i x size g)
 unfolding taken
@@ -112,7 +112,7 @@ takes-oldest s g i h b c w v l =
     let q = ap (λ (y : Slot). y .queue) (n .slot) ∙ z .queue in
     record {
       answer = z .answer ∙ rw long refl;
-      octets = ap (λ (fs : List Fill). fills (λ x. x) (jobs t (taking i w v)) (s .room) fs) (z .job) ∙ append-nil _ ∙ take-both size len (drop (i * width t + p) (s .room)) ∙ ap (take size) (sym whole);
+      octets = ap (λ (fs : List Fill). fills (λ x. x) (jobs t (taking i w v)) (s .room) fs) (z .job ∙ ap (λ (n : ℕ). held (i * width t + n) (min len size) ∷ []) (one-mul p)) ∙ append-nil _ ∙ take-both size len (drop (i * width t + p) (s .room)) ∙ ap (take size) (sym whole);
       count = ap (λ (r : Queue). r .count) q;
       others = λ k m.
           let js = jobs t (taking i w v) in

@@ -4,7 +4,7 @@ use mathlib.Core.Path.{_≡_, refl, sym, ap, _∙_, subst}
 use mathlib.Core.Bool.{true}
 use mathlib.Core.List.{List, [], _∷_, _++_}
 use Prim.Native.Nat.{ℕ, zero, suc, _+_, _-_, _*_, _≤_, _<_}
-use native.Mathlib.Nat.{suc-mul, mul-le-mul-right}
+use native.Mathlib.Nat.{suc-mul, one-mul, mul-le-mul-right}
 use native.Mathlib.Omega.{arith}
 use lib.Dec.{leb}
 use lib.ListN.{length, getD, take, drop, set, replicate, length-take, length-drop, length-replicate, List·getD-append}
@@ -130,7 +130,7 @@ module _ (t : Table) (x : Slot) (xs : List ℕ) (h : Holding (t .d) (placeOf t) 
   pub moved-up : (js : List ℕ) (k : ℕ) → suc k < x .queue .count
       → jobOf (placeOf t) (shifted (x .queue)) (moves (λ y. y) js xs (movingUp t x)) k ≡ jobOf (placeOf t) (x .queue) xs (suc k)
   unfolding moves move fill
-  moved-up js k l = ap (λ (r : ℕ). part new (suc k * p) r) lens ∙ ext-getD 0 _ _ (here ∙ sym there) (λ i m. octet i (rw here at m))
+  moved-up js k l = rw (one-mul (placeOf t)) (ap (λ (r : ℕ). part new (suc k * p) r) lens ∙ ext-getD 0 _ _ (here ∙ sym there) (λ i m. octet i (rw here at m)))
     where
       p : ℕ
       p = placeOf t

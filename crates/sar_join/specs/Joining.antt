@@ -39,9 +39,13 @@ firstStep mtu d queued n said =
 unfoldable pub joinStep : ℕ → ℕ → ℕ → Assembly → ℕ → ℕ → ℕ → Joined
 joinStep mtu mps d a queued n said = choose (isIdle a) (firstStep mtu d queued n said) (reached d queued (a .want) (a .have + n))
 
--- where the next finished job goes in a slot's part of the room, of places of that size: behind the place for assembly and the jobs that wait
-abbrev pub queueAt : (place queued : ℕ) → ℕ
-queueAt place queued = suc queued * place
+-- Where place k of a slot's part of the room begins, of places of that size: place 0 is the one for assembly, place 1 the oldest job's.
+abbrev pub place : (size k : ℕ) → ℕ
+place size k = k * size
+
+-- where the next finished job goes: behind the place for assembly and the jobs that wait
+abbrev pub queueAt : (size queued : ℕ) → ℕ
+queueAt size queued = place size (suc queued)
 
 -- the paper's number for the answer: 0, or the refusal's
 unfoldable pub joinedNumber : Joined → ℕ

@@ -1,5 +1,6 @@
 -- `call_receive_hand::shift::hand_out` meets its contract: the job is copied before the part is lent (parts-lent) and its jobs move up.
-use Rattle.definition.specs.Table.{partWidth}
+use native.Mathlib.Nat.{one-mul}
+use Rattle.definition.specs.Table.{placeSize, partWidth}
 use Rattle.table_room.specs.Parts.{parts-lent}
 use borrow.Author.Needs.{needs}
 use Rattle.call_receive_hand.proofs.shift.hand_out.Statement.{statement}
@@ -48,7 +49,7 @@ returns c =
     let a = p .before .before .before .before .before .args in
     let e = rw (p .part-at .ensures, p .before .part-size .ensures, p .before .before .place-size .ensures) at (m .move-up .ensures) in (
       rw (p .part-at .ensures, p .before .part-size .ensures) (parts-lent _ _ (partWidth (a .d) (a .m)) (a .s) _ (a .room .now) _ e),
-      rw (p .part-at .ensures, p .before .before .place-size .ensures) at (m .before .before .before .before .copy-to .ensures),
+      rw (one-mul (placeSize (a .m))) (rw (p .part-at .ensures, p .before .before .place-size .ensures) at (m .before .before .before .before .copy-to .ensures)),
     )
 
 pub hand-out-spec : {M : Type 1} → statement M

@@ -1,4 +1,5 @@
 -- `call_receive_hand::shift::move_up` meets its contract: the two moves, one after the other; both products are small (mul-le-mul).
+use native.Mathlib.Nat.{one-mul}
 use Prim.Native.Nat.{_-_}
 use native.Mathlib.Nat.{mul-le-mul}
 use native.Mathlib.Omega.{arith}
@@ -36,7 +37,9 @@ same-length c = search needs
 
 returns : tie.Need-returns
 unfolding moves move fill
-returns c = rw (c .before .before .before .before .before .before .shift-down .ensures) at (c .before .before .zero .ensures)
+returns c =
+    let a = c .before .before .before .before .before .before .before .before .before .args in
+    rw (one-mul (a .place)) (rw (c .before .before .before .before .before .before .shift-down .ensures) at (c .before .before .zero .ensures))
 
 pub move-up-spec : {M : Type 1} → statement M
 move-up-spec =

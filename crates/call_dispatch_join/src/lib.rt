@@ -1,5 +1,5 @@
-// A frame of a slot whose credit is used: joined in the slot's part of the room, and what the slot becomes by it. The crate
-// `call_dispatch::behind` asks first whose frame it is.
+// A frame of a slot whose credit is used: joined in the slot's part of the room, and what the slot becomes by it. What
+// stands behind the gate of `call_dispatch` asks first whose frame it is.
 mod part;
 
 ghost use mathlib.Core.Path.{_≡_};

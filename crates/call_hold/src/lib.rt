@@ -1,4 +1,4 @@
-// A hold on a slot (`inc_ref` in the original). The contract is the equation with the definition of that call.
+// A hold on a slot (`inc_ref` in the original); `release` gives one back. The contract is the equation with the definition of that call.
 mod release;
 
 pub use release::dec_ref;

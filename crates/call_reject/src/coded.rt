@@ -1,4 +1,4 @@
-// A pending connection rejected (the original's name). The contract is the equation with the definition of that call, for the answer, the
+// A pending connection rejected by a result code (the original's name). The contract is the equation with the definition of that call, for the answer, the
 // table and every lent slice.
 ghost use mathlib.Core.Path.{_≡_};
 ghost use mathlib.Core.List.{[]};

@@ -1,4 +1,4 @@
-// Octets in lent slices: zeroed and moved down here; copied (copying), and read and written as numbers of two octets (numbers), which are
+// Octets in lent slices: zeroed and moved down here; copied (`octets_copy`), and read and written as numbers of two octets (`octets_numbers`), which are
 // passed on. Every function is total: a place past the end reads as 0 and takes no store, as in the list terms of the contracts.
 pub use octets_copy::copy_to;
 pub use octets_numbers::least;

@@ -1,5 +1,5 @@
 // The row of a call (docs/CHANRUN.md): the answer's number, the octets, and the columns that the answer tells. Each writer adds its piece to a
-// lent buffer (rows' Writes). What is written is defined in specs/Answers.antt; it rests on `text_write`, `text_decimal::write`, `text_hex_write`, `channel_answer`
+// lent buffer (`Writes` of `text_write`). What is written is defined in specs/Answers.antt; it rests on `text_write`, `text_decimal::write`, `text_hex_write`, `channel_answer`
 // and `columns`.
 mod columns;
 

@@ -1,4 +1,4 @@
-// Columns of a row: numbers, a space before each, written into a lent buffer (rows' Writes). What is written is defined in
+// Columns of a row: numbers, a space before each, written into a lent buffer (`Writes` of `text_write`). What is written is defined in
 // specs/Columns.antt; it rests on `text_write` and `text_decimal::write`.
 use octets::least;
 use text_decimal::write_number;

@@ -1,5 +1,5 @@
 // Cutting a job into K-frames (Core Vol 3 Part A 3.4): how many frames, and what is planned for a send. What is right stands in
-// specs/Cutting.antt, for the frames written (framing) too.
+// specs/Cutting.antt, for the frames written (`sar_frames`) too.
 use codes::Refusal;
 ghost use mathlib.Core.Path.{_≡_};
 ghost use Rattle.sar_cut.specs.Cutting.{frameCount, planSend};

@@ -1,5 +1,5 @@
 -- THE ROUND TRIP: the payloads of a job that was cut, joined from idle under an MTU that admits it and with a queue place free, are that job.
--- It rests on the stretches taken one by one (cutting) and on the cases of the step (sar).
+-- It rests on the stretches taken one by one (sar_cut) and on the cases of the step (sar_join).
 use mathlib.Core.Path.{_≡_, refl, sym, ap, _∙_}
 use mathlib.Core.List.{List, [], _∷_, _++_, map}
 use Prim.Native.Nat.{ℕ, zero, suc, _+_, _-_, _*_, _≤_, _<_}

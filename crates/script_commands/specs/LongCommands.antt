@@ -1,4 +1,4 @@
--- The table of calls of four words and more (docs/CHANRUN.md), as commands' Commands has those of fewer.
+-- The table of calls of four words and more (docs/CHANRUN.md), as Commands.antt has those of fewer.
 use mathlib.Core.Bool.{_&&_}
 use mathlib.Core.List.{List}
 use Prim.Native.Char.{code}

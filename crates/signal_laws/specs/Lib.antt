@@ -1,4 +1,4 @@
--- What the definitions of headers, signal and writer say together.
+-- What the definitions of signal_headers, signal_bodies and signal_write say together.
 pub mod Fields
 pub mod RoundTrip
 pub mod Headers

@@ -1,1 +1,1 @@
-// Only theorems on signals, over the definitions of headers, signal and writer: see specs/.
+// Only theorems on signals, over the definitions of `signal_headers`, `signal_bodies` and `signal_write`: see specs/.

@@ -1,4 +1,4 @@
-// Replays the vectors of the file stdin over headers, signal and writer: a line is a PDU in hex, '=', and what is to come of it; a line
+// Replays the vectors of the file stdin over `signal_headers`, `signal_read` and `signal_write`: a line is a PDU in hex, '=', and what is to come of it; a line
 // without '=' says what follows. Each line that differs is written, and at the end how many there are.
 use octets::least;
 use octets::put;

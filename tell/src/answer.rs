@@ -34,16 +34,17 @@ fn said(call: &Call, row: &Row, columns: &[u64], before: &Seen) -> Option<String
         (Call::Signal { .. }, [min, max, latency, timeout]) => {
             let narrow = |number: &u64| u16::try_from(*number).ok();
             let told = parameters(narrow(min)?, narrow(max)?, narrow(latency)?, narrow(timeout)?);
-            format!("these parameters are good, and ours to decide: {told}")
+            format!("ours to decide on {told}")
         }
-        (Call::NextPending { .. }, [slot]) => format!("slot {slot} waits"),
-        (Call::NextPending { .. } | Call::RejectStep { .. }, []) => "nobody waits".to_string(),
-        (Call::RejectStep { .. }, [slot]) => format!("slot {slot} is rejected"),
-        (Call::Create { .. }, [slot]) => format!("slot {slot}"),
-        (Call::Opened { .. }, [0]) => "nothing yet".to_string(),
-        (Call::Opened { .. }, [1]) => "it is open, and a hold is taken".to_string(),
-        (Call::NextDisconnect, []) => "none is due".to_string(),
-        (Call::NextDisconnect, [link, slot]) => format!("of slot {slot}, for link {link}"),
+        (Call::NextPending { .. }, [slot]) => format!("yes, at slot {slot}"),
+        (Call::NextPending { .. }, []) => "no".to_string(),
+        (Call::RejectStep { .. }, []) => "none waits".to_string(),
+        (Call::RejectStep { .. }, [slot]) => format!("the one at slot {slot}"),
+        (Call::Create { .. }, [slot]) => format!("at slot {slot}"),
+        (Call::Opened { .. }, [0]) => "not yet".to_string(),
+        (Call::Opened { .. }, [1]) => "yes".to_string(),
+        (Call::NextDisconnect, []) => "no".to_string(),
+        (Call::NextDisconnect, [link, slot]) => format!("yes, of slot {slot}, for link {link}"),
         (Call::Send { .. }, [frames]) => format!("sent in {}", count(usize::try_from(*frames).ok()?, "frame")),
         (Call::Take { .. }, []) => "no job waits".to_string(),
         (Call::Take { .. }, [copied, length, ..]) => {
@@ -51,7 +52,7 @@ fn said(call: &Call, row: &Row, columns: &[u64], before: &Seen) -> Option<String
             let copy = short_hex(&row.octets);
             match row.columns.first() == row.columns.get(1) {
                 true => format!("the whole job of {length}: {copy}"),
-                false => format!("the first {copied} of the job's {length}: {copy}"),
+                false => format!("the first {copied} of the job's {length}: {copy}; the rest is lost"),
             }
         }
         (Call::Attention, [set, _, lowest]) => {

@@ -8,40 +8,39 @@ use language::{signals, Call, Config, State};
 
 /// What was asked of the table as it was before the call.
 pub fn asked(call: &Call, before: &Seen) -> String {
-    let at = |slot: &u16| before.slot_and_phone(*slot);
+    let at = |slot: &u16| before.phone_at(*slot);
     let link_is = |up: &bool| if *up { "the link is up" } else { "the link is down" };
     match call {
         Call::Make { n, d, m } => {
-            let waiting = if *d == 1 { "1 job can wait".to_string() } else { format!("{} can wait", count(*d, "job")) };
-            format!("make a table of {}; {waiting} at each, packets have {}", count(*n, "slot"), count(*m, "octet"))
+            format!("make a table: {}, {} can wait at a slot, packets of {}", count(*n, "slot"), count(*d, "job"), count(*m, "octet"))
         }
         Call::Register { spsm } => format!("register SPSM {spsm}, so that phones can ask for it"),
         Call::Signal { link, listening, central, pdu } => {
-            format!("{} signals {}{}", phone(*link), said(pdu, before), circumstances(pdu, *listening, *central))
+            format!("{} sends {}{}", phone(*link), said(pdu, before), circumstances(pdu, *listening, *central))
         }
-        Call::NextPending { link, up } => format!("who waits on link {link}? ({})", link_is(up)),
-        Call::RejectStep { link } => format!("reject one that waits on link {link}"),
-        Call::Accept { slot, config } => format!("accept {}: {}", at(slot), configured(config)),
+        Call::NextPending { link, up } => format!("does {} wait for an answer? ({})", phone(*link), link_is(up)),
+        Call::RejectStep { link } => format!("reject the next request of {} that waits", phone(*link)),
+        Call::Accept { slot, config } => format!("accept {}, with {}", at(slot), configured(config)),
         Call::Reject { slot, result: code } => format!("reject {}: {}", at(slot), result(*code)),
-        Call::DropPending { slot } => format!("drop what waits at {}", at(slot)),
+        Call::DropPending { slot } => format!("drop the request of {}", at(slot)),
         Call::Create { link, spsm, config } => {
-            format!("open a channel to {} for SPSM {spsm}: {}", phone(*link), configured(config))
+            format!("open a channel to {} for SPSM {spsm}, with {}", phone(*link), configured(config))
         }
-        Call::Opened { slot, link, up } => format!("is our channel at slot {slot} to {} open? ({})", phone(*link), link_is(up)),
-        Call::GiveUp { slot } => format!("give up our attempt at {}", at(slot)),
-        Call::AddHold { slot } => format!("add a hold to {}", at(slot)),
-        Call::Release { slot } => format!("release a hold of {}", at(slot)),
-        Call::Disconnect { slot } => format!("close the channel at {}", at(slot)),
+        Call::Opened { slot, link, up } => format!("is our channel to {} (slot {slot}) open? ({})", phone(*link), link_is(up)),
+        Call::GiveUp { slot } => format!("give up our channel to {}", at(slot)),
+        Call::AddHold { slot } => format!("add a hold to slot {slot}"),
+        Call::Release { slot } => format!("release a hold of slot {slot}"),
+        Call::Disconnect { slot } => format!("close the channel to {}", at(slot)),
         Call::DisconnectByCid { cid } => format!("close the channel of our {}", before.cid(*cid)),
-        Call::LinkDown { link } => format!("{} is gone: its link is down", phone(*link)),
+        Call::LinkDown { link } => format!("link {link} is down: its phone is gone"),
         Call::NextDisconnect => "is a disconnect due?".to_string(),
         Call::Frame { link, cid, payload } => {
-            format!("{} sends a frame to our {}: {}", phone(*link), before.cid(*cid), brought(*cid, payload, before))
+            format!("{} sends a frame to {}: {}", phone(*link), before.cid(*cid), brought(*cid, payload, before))
         }
-        Call::Send { slot, sdu } => format!("send a job of {} from {}", count(sdu.len(), "octet"), at(slot)),
-        Call::Take { slot, size } => format!("take the oldest job of {}, into {}", at(slot), count(*size, "octet")),
+        Call::Send { slot, sdu } => format!("send a job of {} to {}", count(sdu.len(), "octet"), at(slot)),
+        Call::Take { slot, size } => format!("take the oldest job of {} into a buffer of {}", at(slot), count(*size, "octet")),
         Call::Attention => "which slots call for attention?".to_string(),
-        Call::Queries { slot } => format!("the numbers of {}", at(slot)),
+        Call::Queries { slot } => format!("the numbers of slot {slot}"),
         Call::ParameterRequest { link, min, max, latency, timeout } => {
             format!("ask {} for {}", phone(*link), parameters(*min, *max, *latency, *timeout))
         }
@@ -49,7 +48,7 @@ pub fn asked(call: &Call, before: &Seen) -> String {
             format!("answer the parameter request of {}: {}", phone(*link), parameters_result(*result))
         }
         Call::View => "show the table".to_string(),
-        Call::Room { slot } => format!("show the room of {}", at(slot)),
+        Call::Room { slot } => format!("show the room of slot {slot}"),
         Call::Unread(_) => "nothing that can be read".to_string(),
     }
 }
@@ -57,8 +56,8 @@ pub fn asked(call: &Call, before: &Seen) -> String {
 /// The signal of a PDU that has one, or what is wrong with its headers.
 fn said(pdu: &[u8], before: &Seen) -> String {
     match signals(pdu) {
-        Some(parts) => parts.first().map_or("nothing".to_string(), |first| signal(first, From::Phone, before)),
-        None => format!("{} in which a header is cut short or promises more than follows", count(pdu.len(), "octet")),
+        Some(parts) => parts.first().map_or("a PDU of no signals".to_string(), |first| signal(first, From::Phone, before)),
+        None => format!("signals of {} in which a header is cut short or promises more than follows", count(pdu.len(), "octet")),
     }
 }
 
@@ -76,8 +75,8 @@ fn configured(config: &Config) -> String {
     let given = [
         config.mtu.map(|mtu| format!("jobs up to {}", count(mtu, "octet"))),
         config.mps.map(|mps| format!("frames up to {}", count(mps, "octet"))),
-        config.policy.map(policy),
         config.credits.map(|credits| count(credits, "credit")),
+        config.policy.map(policy),
     ];
     let given: Vec<String> = given.into_iter().flatten().collect();
     match given.len() {
@@ -104,8 +103,8 @@ fn brought(cid: u16, payload: &[u8], before: &Seen) -> String {
     if first.len() == usize::from(length) {
         format!("a whole job of {}", count(length, "octet"))
     } else if first.len() < usize::from(length) {
-        format!("a job of {} begins, with {}", count(length, "octet"), count(first.len(), "octet"))
+        format!("the first {} of a job of {}", first.len(), count(length, "octet"))
     } else {
-        format!("a job of {} is said to begin, with {}", count(length, "octet"), count(first.len(), "octet"))
+        format!("{} for a job of {}", count(first.len(), "octet"), length)
     }
 }

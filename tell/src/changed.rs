@@ -9,7 +9,7 @@ use language::{Answer, Call, Row, SlotView, State};
 pub fn changed(call: &Call, row: &Row, before: &Seen, after: &Seen) -> Vec<String> {
     let mut lines = match call {
         Call::Make { .. } => vec![made(before, after)],
-        Call::Register { spsm } if row.answer == Answer::Number(0) => vec![format!("phones can ask for SPSM {spsm}")],
+        Call::Register { spsm } if row.answer == Answer::Number(0) => vec![format!("SPSM {spsm} is registered")],
         _ => Vec::new(),
     };
     if !matches!(call, Call::Make { .. }) {
@@ -19,9 +19,9 @@ pub fn changed(call: &Call, row: &Row, before: &Seen, after: &Seen) -> Vec<Strin
             lines.extend(step.lines());
         }
         let (old, new) = (before.view.next_identifier, after.view.next_identifier);
-        let told = !row.octets.is_empty() || matches!(call, Call::Take { .. });
-        if old != new && !told {
-            lines.push(format!("an identifier is used: {new} is the next, {old} was"));
+        // A signal that goes out shows its identifier, and a slot that changed beside it says enough.
+        if old != new && (lines.is_empty() || row.answer != Answer::Number(0)) {
+            lines.push(format!("our next identifier {old} → {new}"));
         }
     }
     if lines.is_empty() {
@@ -41,7 +41,7 @@ fn made(before: &Seen, after: &Seen) -> String {
     let octets: usize = after.rooms.iter().map(Vec::len).sum();
     let set: usize = (0..slots).map(|slot| after.left_behind(slot)).sum();
     let zeros = if set == 0 { "all zero".to_string() } else { format!("{} not zero", count(set, "octet")) };
-    format!("{}, free; the room has {octets} octets, {zeros}{gone}", count(slots, "slot"))
+    format!("{}, free; a room of {octets} octets, {zeros}{gone}", count(slots, "slot"))
 }
 
 /// One slot before and after a call.
@@ -92,15 +92,12 @@ impl Step<'_> {
         if old.want == 0 || new.want > 0 || self.finished() {
             return None;
         }
-        let phone = phone(old.link);
         let how = match (new.state, self.call) {
-            (State::PeerDisconnecting(_), _) => format!("{phone} closed in mid-job"),
-            (State::Disconnected, Call::LinkDown { .. }) => format!("{phone} went away in mid-job"),
-            (State::Connected, _) => "the job that was arriving is dropped".to_string(),
-            (_, Call::Release { .. } | Call::Disconnect { .. } | Call::DisconnectByCid { .. }) => {
-                format!("we closed to {phone} in mid-job")
-            }
-            _ => format!("the job that was arriving from {phone} is broken off"),
+            (State::PeerDisconnecting(_), _) => format!("phone on link {} closed in mid-job", old.link),
+            (State::Disconnected, Call::LinkDown { .. }) => format!("phone on link {} left in mid-job", old.link),
+            (State::Connected, _) => "the job is dropped".to_string(),
+            (_, Call::Release { .. } | Call::Disconnect { .. } | Call::DisconnectByCid { .. }) => "we close in mid-job".to_string(),
+            _ => "the job is broken off".to_string(),
         };
         let wiped = self.wiped(&[Held { place: 0, octets: old.have }]);
         Some(format!("{how}: {} of {} were here, {wiped}", old.have, count(old.want, "octet")))
@@ -121,13 +118,13 @@ impl Step<'_> {
         if old.state == new.state {
             return None;
         }
-        let from = if old.free() { "free".to_string() } else { name(old.state).to_string() };
+        let from = if name(old.state) == name(new.state) { String::new() } else { format!("{} → ", name(old.state)) };
         let of = if old.free() { format!(", {}", phone(new.link)) } else { String::new() };
         let still = match new.hold {
-            hold if hold > 0 && new.free() => format!(", still {}: nobody gets the slot before that is released", holds(hold)),
+            hold if hold > 0 && new.free() => format!(" but {}, so no phone gets it yet", holds(hold)),
             _ => String::new(),
         };
-        Some(format!("{from} → {}{of}{still}", state(new)))
+        Some(format!("{from}{}{of}{still}", state(new)))
     }
 
     fn arrival(&self) -> Option<String> {
@@ -152,7 +149,7 @@ impl Step<'_> {
         if old.state != State::Connected || new.free() || old.credits == new.credits {
             return None;
         }
-        Some(format!("the phone has {}, {} before", count(new.credits, "credit"), old.credits))
+        Some(format!("the phone's credits {} → {}", old.credits, new.credits))
     }
 
     /// The credits that we have to send frames to the phone.
@@ -161,7 +158,7 @@ impl Step<'_> {
         if old.state != State::Connected || new.free() || old.peer_credits == new.peer_credits {
             return None;
         }
-        Some(format!("we have {}, {} before", count(new.peer_credits, "credit"), old.peer_credits))
+        Some(format!("our credits {} → {}", old.peer_credits, new.peer_credits))
     }
 
     fn holds(&self) -> Option<String> {

@@ -2,7 +2,7 @@
 
 use crate::seen::{held, Held, Seen};
 use crate::words::{count, holds, phone, policy, short_hex, sizes, state};
-use language::{SlotView, State, View};
+use language::{Policy, SlotView, State, View};
 
 /// A line for each slot; free slots beside one another have one line.
 pub fn table(view: &View) -> Vec<String> {
@@ -25,25 +25,19 @@ pub fn table(view: &View) -> Vec<String> {
 }
 
 fn in_full(slot: usize, record: &SlotView) -> String {
-    let mut facts = vec![state(record)];
-    if record.hold > 0 {
-        facts.push(holds(record.hold));
-    }
+    let hold = if record.hold > 0 { format!(", {}", holds(record.hold)) } else { String::new() };
+    let mut facts = vec![state(record) + &hold];
     if !record.free() {
         let cid = usize::from(language::BASE_ID) + slot;
-        facts.insert(1, format!("{}, our CID {cid}, its CID {}, SPSM {}", phone(record.link), record.peer_cid, record.spsm));
+        facts.push(format!("{}, SPSM {}, our CID {cid}, its CID {}", phone(record.link), record.spsm, record.peer_cid));
         let ours = !matches!(record.state, State::PeerConnecting(_));
         let its = !matches!(record.state, State::Connecting(_) | State::ConnectFailed(_));
         if ours {
-            let left = format!("{} left to the phone", count(record.credits, "credit"));
-            facts.push(format!("we take {}, {left}, {}", sizes(record.mtu, record.mps), policy(record.policy)));
+            let back = if record.policy == Policy::Every(1) { String::new() } else { format!(", {}", policy(record.policy)) };
+            facts.push(format!("to us {}, {} left{back}", sizes(record.mtu, record.mps), count(record.credits, "credit")));
         }
         if its {
-            facts.push(format!(
-                "the phone takes {}, {} left to us",
-                sizes(record.peer_mtu, record.peer_mps),
-                count(record.peer_credits, "credit")
-            ));
+            facts.push(format!("to it {}, {} left", sizes(record.peer_mtu, record.peer_mps), count(record.peer_credits, "credit")));
         }
     }
     if record.want > 0 {

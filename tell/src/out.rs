@@ -48,12 +48,12 @@ fn frames(octets: &[u8]) -> String {
     let job = count(u16::from_le_bytes([*low, *high]), "octet");
     let lengths: Vec<String> = payloads.iter().map(|payload| payload.len().to_string()).collect();
     let of = match &lengths[..] {
-        [one] => format!("1 frame of {one}"),
-        few if few.len() <= 4 => format!("{} frames of {}", few.len(), list(few)),
-        [first, .., last] => format!("{} frames of {first}, the last of {last}", lengths.len()),
+        [one] => format!("1 frame of {one} octets"),
+        few if few.len() <= 4 => format!("{} frames of {} octets", few.len(), list(few)),
+        [first, .., last] => format!("{} frames of {first} octets, the last of {last}", lengths.len()),
         [] => String::new(),
     };
-    format!("a job of {job} for its CID {cid}, in {of} octets with the job's length")
+    format!("{of} to its CID {cid}: a job of {job}, and its length")
 }
 
 #[cfg(test)]
@@ -63,10 +63,10 @@ mod tests {
     #[test]
     fn frames_are_counted() {
         let told = |word: &str| frames(&unhex(word).unwrap());
-        assert_eq!(told("030060000100ff"), "a job of 1 octet for its CID 96, in 1 frame of 3 octets with the job's length");
+        assert_eq!(told("030060000100ff"), "1 frame of 3 octets to its CID 96: a job of 1 octet, and its length");
         let one = "0400600002000102";
-        assert_eq!(told(&format!("{one}{one}")), "a job of 2 octets for its CID 96, in 2 frames of 4 and 4 octets with the job's length");
-        let five = "a job of 2 octets for its CID 96, in 5 frames of 4, the last of 4 octets with the job's length";
+        assert_eq!(told(&format!("{one}{one}")), "2 frames of 4 and 4 octets to its CID 96: a job of 2 octets, and its length");
+        let five = "5 frames of 4 octets, the last of 4 to its CID 96: a job of 2 octets, and its length";
         assert_eq!(told(&one.repeat(5)), five);
         assert_eq!(told("0100600002"), "5 octets that are no frames: 0100600002");
         assert_eq!(told("04006000020001"), "7 octets that are no frames: 04006000020001");

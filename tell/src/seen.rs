@@ -39,9 +39,9 @@ impl Seen {
         self.slot(slot).filter(|record| !record.free()).map(|record| record.link)
     }
 
-    /// `slot 0`, with its phone where it has one.
-    pub fn slot_and_phone(&self, slot: u16) -> String {
-        self.link_at(slot).map_or(format!("slot {slot}"), |link| format!("slot {slot}, {}", phone(link)))
+    /// The phone that has a slot: `the phone on link 1 (slot 0)`, or the slot alone where nobody has it.
+    pub fn phone_at(&self, slot: u16) -> String {
+        self.link_at(slot).map_or(format!("slot {slot}"), |link| format!("{} (slot {slot})", phone(link)))
     }
 
     /// `CID 64 (slot 0)`, or `CID 63 (no slot's)`.

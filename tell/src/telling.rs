@@ -56,7 +56,7 @@ pub fn tell<W: Write>(script: &str, rows: &mut dyn Iterator<Item = io::Result<St
             Ok(parts) => {
                 let all = parts.len();
                 for (part, at) in parts.into_iter().zip(1..) {
-                    let place = if all > 1 { format!("{at} of {all}: ") } else { String::new() };
+                    let place = if all > 1 { format!("signal {at} of {all}: ") } else { String::new() };
                     seen = played(&part, &place, seen, &mut rows, page)?;
                 }
             }

@@ -46,10 +46,9 @@ pub fn holds(hold: u16) -> String {
 /// What a slot is, by its state.
 pub fn state(slot: &SlotView) -> String {
     match slot.state {
-        State::Disconnected if slot.hold == 0 => "free".to_string(),
-        State::Disconnected => "ended".to_string(),
+        State::Disconnected => "free".to_string(),
         State::Connecting(identifier) => format!("asked for by us (request {identifier})"),
-        State::PeerConnecting(identifier) => format!("pending (the phone's request {identifier})"),
+        State::PeerConnecting(identifier) => format!("pending (request {identifier})"),
         State::Connected => "open".to_string(),
         State::ConnectFailed(code) => format!("refused by the phone ({})", crate::refusals::result(code)),
         State::PeerDisconnecting(identifier) => format!("closed by the phone (request {identifier}), our response is due"),
@@ -58,11 +57,12 @@ pub fn state(slot: &SlotView) -> String {
     }
 }
 
+/// When the phone gets credits back; a take looks for it.
 pub fn policy(policy: Policy) -> String {
     match policy {
-        Policy::Every(0 | 1) => "credits go back with every job taken".to_string(),
-        Policy::Every(frames) => format!("credits go back from {frames} frames on"),
-        Policy::MinThreshold(least) => format!("credits go back when fewer than {least} are left"),
+        Policy::Every(0 | 1) => "more after every frame".to_string(),
+        Policy::Every(frames) => format!("more after every {frames} frames"),
+        Policy::MinThreshold(least) => format!("more when fewer than {least} are left"),
     }
 }
 

@@ -35,7 +35,7 @@ pub fn asked(call: &Call, before: &Seen) -> String {
         Call::LinkDown { link } => format!("link {link} is down: its phone is gone"),
         Call::NextDisconnect => "is a disconnect due?".to_string(),
         Call::Frame { link, cid, payload } => {
-            format!("{} sends a frame to {}: {}", phone(*link), before.cid(*cid), brought(*cid, payload, before))
+            format!("{} sends a frame to {}: {}", phone(*link), before.cid(*cid), brought(*link, *cid, payload, before))
         }
         Call::Send { slot, sdu } => format!("send a job of {} to {}", count(sdu.len(), "octet"), at(slot)),
         Call::Take { slot, size } => format!("take the oldest job of {} into a buffer of {}", at(slot), count(*size, "octet")),
@@ -57,7 +57,7 @@ pub fn asked(call: &Call, before: &Seen) -> String {
 fn said(pdu: &[u8], before: &Seen) -> String {
     match signals(pdu) {
         Some(parts) => parts.first().map_or("a PDU of no signals".to_string(), |first| signal(first, From::Phone, before)),
-        None => format!("signals of {} in which a header is cut short or promises more than follows", count(pdu.len(), "octet")),
+        None => format!("{} that end in the middle of a signal", count(pdu.len(), "octet")),
     }
 }
 
@@ -86,11 +86,11 @@ fn configured(config: &Config) -> String {
     }
 }
 
-/// What a frame brings to the slot that it names.
-fn brought(cid: u16, payload: &[u8], before: &Seen) -> String {
+/// What a frame brings to the slot that it names, where that is open to its phone.
+fn brought(link: u16, cid: u16, payload: &[u8], before: &Seen) -> String {
     let octets = count(payload.len(), "octet");
     let slot = before.view.slot_of(cid).and_then(|slot| before.view.slots.get(slot));
-    let Some(slot) = slot.filter(|slot| slot.state == State::Connected) else {
+    let Some(slot) = slot.filter(|slot| slot.state == State::Connected && slot.link == link) else {
         return octets;
     };
     if slot.want > 0 {
@@ -103,7 +103,7 @@ fn brought(cid: u16, payload: &[u8], before: &Seen) -> String {
     if first.len() == usize::from(length) {
         format!("a whole job of {}", count(length, "octet"))
     } else if first.len() < usize::from(length) {
-        format!("the first {} of a job of {}", first.len(), count(length, "octet"))
+        format!("the first {} of a job's {}", first.len(), count(length, "octet"))
     } else {
         format!("{} for a job of {}", count(first.len(), "octet"), length)
     }

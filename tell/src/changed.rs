@@ -61,7 +61,7 @@ impl Step<'_> {
         let facts = facts.into_iter().flatten().collect::<Vec<_>>().join("; ");
         let told = [self.lost_arrival(), self.lost_jobs(), Some(facts).filter(|facts| !facts.is_empty()), self.left_behind()];
         let mut lines: Vec<String> = told.into_iter().flatten().collect();
-        let room = |seen: &'_ Seen| seen.rooms.get(self.slot).cloned();
+        let room = |seen: &Seen| seen.rooms.get(self.slot).cloned();
         if lines.is_empty() && (self.old != self.new || room(self.before) != room(self.after)) {
             lines.push("its numbers or its room changed in a way that has no words here: see V and M".to_string());
         }
@@ -119,7 +119,7 @@ impl Step<'_> {
             return None;
         }
         let from = if name(old.state) == name(new.state) { String::new() } else { format!("{} → ", name(old.state)) };
-        let of = if old.free() { format!(", {}", phone(new.link)) } else { String::new() };
+        let of = if old.free() { format!(" for {}", phone(new.link)) } else { String::new() };
         let still = match new.hold {
             hold if hold > 0 && new.free() => format!(" but {}, so no phone gets it yet", holds(hold)),
             _ => String::new(),
@@ -175,7 +175,7 @@ impl Step<'_> {
     fn left_behind(&self) -> Option<String> {
         let left = self.after.left_behind(self.slot);
         let more = left > 0 && left != self.before.left_behind(self.slot);
-        more.then(|| format!("{} of no job stand in its room", count(left, "octet")))
+        more.then(|| format!("its room has {} of no job", count(left, "octet")))
     }
 }
 

@@ -16,7 +16,7 @@ mod telling;
 mod words;
 
 pub use page::Page;
-pub use plan::sent;
+pub use plan::{plan, sent, Line, Part};
 pub use program::Program;
 pub use refusals::{Refusal, REFUSALS};
 pub use telling::{tell, Trouble};

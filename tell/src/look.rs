@@ -79,7 +79,7 @@ pub fn room(slot: u16, octets: &[u8], before: &Seen) -> String {
     }
     match shown.left_behind(usize::from(slot)) {
         0 => facts.push("zeros behind".to_string()),
-        left => facts.push(format!("{} of no job stand there", count(left, "octet"))),
+        left => facts.push(format!("{} of no job", count(left, "octet"))),
     }
     facts.join("; ")
 }

@@ -48,12 +48,10 @@ fn frames(octets: &[u8]) -> String {
     let job = count(u16::from_le_bytes([*low, *high]), "octet");
     let lengths: Vec<String> = payloads.iter().map(|payload| payload.len().to_string()).collect();
     let of = match &lengths[..] {
-        [one] => format!("1 frame of {one} octets"),
-        few if few.len() <= 4 => format!("{} frames of {} octets", few.len(), list(few)),
-        [first, .., last] => format!("{} frames of {first} octets, the last of {last}", lengths.len()),
-        [] => String::new(),
+        [first, _, _, _, .., last] => format!("{first} octets, the last of {last}"),
+        few => format!("{} octets", list(few)),
     };
-    format!("{of} to its CID {cid}: a job of {job}, and its length")
+    format!("{} to its CID {cid}, of {of}: a job of {job}, and its length", count(lengths.len(), "frame"))
 }
 
 #[cfg(test)]
@@ -63,10 +61,10 @@ mod tests {
     #[test]
     fn frames_are_counted() {
         let told = |word: &str| frames(&unhex(word).unwrap());
-        assert_eq!(told("030060000100ff"), "1 frame of 3 octets to its CID 96: a job of 1 octet, and its length");
+        assert_eq!(told("030060000100ff"), "1 frame to its CID 96, of 3 octets: a job of 1 octet, and its length");
         let one = "0400600002000102";
-        assert_eq!(told(&format!("{one}{one}")), "2 frames of 4 and 4 octets to its CID 96: a job of 2 octets, and its length");
-        let five = "5 frames of 4 octets, the last of 4 to its CID 96: a job of 2 octets, and its length";
+        assert_eq!(told(&format!("{one}{one}")), "2 frames to its CID 96, of 4 and 4 octets: a job of 2 octets, and its length");
+        let five = "5 frames to its CID 96, of 4 octets, the last of 4: a job of 2 octets, and its length";
         assert_eq!(told(&one.repeat(5)), five);
         assert_eq!(told("0100600002"), "5 octets that are no frames: 0100600002");
         assert_eq!(told("04006000020001"), "7 octets that are no frames: 04006000020001");

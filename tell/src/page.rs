@@ -43,6 +43,11 @@ impl<W: Write> Page<W> {
     pub fn end(&mut self) -> io::Result<()> {
         self.0.flush()
     }
+
+    /// Where the page was written.
+    pub fn into_inner(self) -> W {
+        self.0
+    }
 }
 
 /// A character as it is shown: nothing of a script reaches a terminal as a command.

@@ -7,6 +7,7 @@ use crate::out::out;
 use crate::page::Page;
 use crate::plan::{plan, Line, Part};
 use crate::seen::Seen;
+use crate::words::count;
 use language::{Answer, Call, Row, SlotView, View};
 use std::fmt;
 use std::io::{self, Write};
@@ -95,6 +96,11 @@ fn played<W: Write>(part: &Part, place: &str, before: Seen, rows: &mut Rows<'_>,
     Ok(after)
 }
 
+/// A line of the program as a message shows it: its start, and nothing that a terminal takes for a command.
+fn cut(line: &str) -> String {
+    line.chars().take(60).flat_map(char::escape_debug).collect()
+}
+
 /// The lines that the program prints, and the number of the script's line to which the next ones belong.
 struct Rows<'a> {
     lines: &'a mut dyn Iterator<Item = io::Result<String>>,
@@ -103,7 +109,10 @@ struct Rows<'a> {
 
 impl Rows<'_> {
     fn trouble(&self, why: impl fmt::Display) -> Trouble {
-        Trouble::Rows(format!("line {}: {why}", self.number))
+        match self.number {
+            0 => Trouble::Rows(why.to_string()),
+            number => Trouble::Rows(format!("line {number}: {why}")),
+        }
     }
 
     fn next(&mut self) -> Result<Option<String>, Trouble> {
@@ -113,9 +122,8 @@ impl Rows<'_> {
 
     /// A line that must be there, read by `read`; `what` says what it must be.
     fn read<T>(&mut self, what: &str, read: impl Fn(&str) -> Option<T>) -> Result<T, Trouble> {
-        let line = self.next()?.ok_or_else(|| self.trouble(format!("the rows of the program end before {what}")))?;
-        let shown = || line.chars().take(60).flat_map(char::escape_debug).collect::<String>();
-        read(&line).ok_or_else(|| self.trouble(format!("the program printed `{}` where {what} must stand", shown())))
+        let line = self.next()?.ok_or_else(|| self.trouble(format!("the program printed no more rows before {what}")))?;
+        read(&line).ok_or_else(|| self.trouble(format!("the program printed `{}` where {what} must stand", cut(&line))))
     }
 
     fn begin(&mut self) -> Result<(), Trouble> {
@@ -133,10 +141,14 @@ impl Rows<'_> {
     /// The view that a row begins.
     fn view(&mut self, row: &Row) -> Result<View, Trouble> {
         let numbers: Vec<u16> = row.columns.iter().map_while(|column| column.parse().ok()).collect();
-        let (Answer::Number(0), [n, d, m, identifier]) = (row.answer, &numbers[..]) else {
-            return Err(self.trouble(format!("the program printed `{row}` where a view must stand")));
+        let begun = match (row.answer, &numbers[..]) {
+            (Answer::Number(0), [n, d, m, identifier]) => u8::try_from(*identifier).ok().map(|identifier| (n, d, m, identifier)),
+            _ => None,
         };
-        let mut view = View { d: *d, m: *m, next_identifier: *identifier as u8, ..View::none() };
+        let Some((n, d, m, identifier)) = begun else {
+            return Err(self.trouble(format!("the program printed `{}` where a view must stand", cut(&row.to_string()))));
+        };
+        let mut view = View { d: *d, m: *m, next_identifier: identifier, ..View::none() };
         for slot in 0..usize::from(*n) {
             view.slots.push(self.read(&format!("slot {slot} of a view"), |line| SlotView::parse(line, slot))?);
         }
@@ -148,9 +160,9 @@ impl Rows<'_> {
         let row = self.row()?;
         let mut seen = Seen { view: self.view(&row)?, rooms: Vec::new() };
         if seen.view.n() != slots {
-            return Err(self.trouble(format!("the program shows {} slots, where {slots} must be", seen.view.n())));
+            return Err(self.trouble(format!("the program shows {}, where {slots} must be", count(seen.view.n(), "slot"))));
         }
-        let octets = (usize::from(seen.view.d) + 1) * seen.place();
+        let octets = (usize::from(seen.view.d) + 1).saturating_mul(seen.place());
         for slot in 0..slots {
             let row = self.read(&format!("the room of slot {slot}"), |line| {
                 Row::parse(line).filter(|row| row.answer == Answer::Number(0) && row.octets.len() == octets)

@@ -183,10 +183,10 @@ impl Step<'_> {
 fn name(state: State) -> &'static str {
     match state {
         State::Disconnected => "free",
-        State::Connecting(_) => "asked for by us",
+        State::Connecting(_) => "an attempt of ours",
         State::PeerConnecting(_) => "pending",
         State::Connected => "open",
-        State::ConnectFailed(_) => "refused by the phone",
+        State::ConnectFailed(_) => "failed",
         State::PeerDisconnecting(_) => "closed by the phone",
         State::Disconnecting { .. } => "closing",
     }

@@ -1,5 +1,6 @@
 //! Words that many rows share.
 
+use crate::refusals::result;
 use language::{hex, Policy, SlotView, State};
 
 /// `no jobs`, `1 job`, `2 jobs`.
@@ -46,11 +47,12 @@ pub fn holds(hold: u16) -> String {
 /// What a slot is, by its state.
 pub fn state(slot: &SlotView) -> String {
     match slot.state {
-        State::Disconnected => "free".to_string(),
-        State::Connecting(identifier) => format!("asked for by us (request {identifier})"),
+        State::Disconnected if slot.hold == 0 => "free".to_string(),
+        State::Disconnected => "freed".to_string(),
+        State::Connecting(identifier) => format!("an attempt of ours (request {identifier})"),
         State::PeerConnecting(identifier) => format!("pending (request {identifier})"),
         State::Connected => "open".to_string(),
-        State::ConnectFailed(code) => format!("refused by the phone ({})", crate::refusals::result(code)),
+        State::ConnectFailed(code) => format!("failed ({})", result(code)),
         State::PeerDisconnecting(identifier) => format!("closed by the phone (request {identifier}), our response is due"),
         State::Disconnecting { announced: false } => "closing, our request is due".to_string(),
         State::Disconnecting { announced: true } => "closing, our request is out".to_string(),

@@ -44,6 +44,8 @@ fn the_program_is_given_the_script_with_its_looking_lines() {
     let echo = r#"printf 'answer octets\n'; while read -r line; do case $line in Q) echo "1 -";; V) echo "0 - 0 0 0 1";; *) echo "? -";; esac; done"#;
     assert_eq!(ended(&["-", "sh", "-c", echo], "# a scene\n\nQ\nQ\n"), (Some(0), String::new()));
     assert_eq!(ended(&["-", "sh", "-c", echo], "Q\nx\n"), (Some(1), String::new()));
+    // A program may say by its own status that a line couldn't be read.
+    assert_eq!(ended(&["-", "sh", "-c", &format!("{echo}; exit 1")], "Q\nx\n"), (Some(1), String::new()));
 }
 
 #[test]

@@ -73,7 +73,7 @@ fn a_link_goes_down_with_a_job_arriving_and_one_waiting() {
       answer   0 done
       changed  slot 0: phone on link 1 left in mid-job: 3 of 4 octets were here, 3 octets wiped
                slot 0: 1 job that waited is lost: 2 octets wiped
-               slot 0: open → free but held once, so no phone gets it yet
+               slot 0: open → freed but held once, so no phone gets it yet
 "
     );
 }
@@ -170,26 +170,64 @@ fn a_slot_that_stays_says_so_and_what_has_no_words_too() {
     assert!(text.ends_with(unknown), "{text}");
     let text = step((FREE, [NONE; 2]), ("H 0", "22 -", FREE, [NONE, "01"]));
     assert!(text.ends_with("changed  slot 0: its room has 1 octet of no job\n"), "{text}");
+    let text = step((FREE, [NONE, "01"]), ("H 0", "22 -", FREE, [NONE, "01"]));
+    assert!(text.ends_with("changed  nothing\n"), "{text}");
+}
+
+#[test]
+fn an_attempt_of_ours_is_refused() {
+    let attempt = "connecting:1 1 64 129 25 23 e1 1 0 0 0 0 0 0 0 0 0";
+    let failed = "connect-failed:4 1 64 129 25 23 e1 1 0 0 0 0 0 0 0 0 0";
+    let text = steps(&[
+        ("C 1 129 - - - -", "0 - 0", attempt, [NONE; 2]),
+        ("S 1 1 c 15010a0000000000000000000400", "17 - 4", failed, [NONE; 2]),
+        ("O 0 1 1", "17 - 4", FREE, [NONE; 2]),
+    ]);
+    let changed: Vec<&str> = text.lines().filter(|line| line.contains("changed") || line.contains("answer")).collect();
+    assert_eq!(
+        changed,
+        [
+            "      answer   0 done: at slot 0",
+            "      changed  slot 0: free → an attempt of ours (request 1) for the phone on link 1",
+            "      answer   17 ConnectError: the phone refused the channel, result 4 NoResources",
+            "      changed  slot 0: an attempt of ours → failed (result 4 NoResources)",
+            "      answer   17 ConnectError: the phone refused the channel, result 4 NoResources",
+            "      changed  slot 0: failed → free",
+        ]
+    );
+}
+
+#[test]
+fn a_frame_of_another_phone_says_nothing_of_the_job() {
+    let text = step((HALF, [ARRIVED, NONE]), ("F 2 64 dd", "8 -", HALF, [ARRIVED, NONE]));
+    assert!(text.contains("asked    the phone on link 2 sends a frame to CID 64 (slot 0): 1 octet\n"), "{text}");
+    let text = step((FREE, [NONE; 2]), ("F 2 64 dd", "0 -", FREE, [NONE; 2]));
+    assert!(text.contains("answer   0 done: dropped, since the slot isn't open\n"), "{text}");
 }
 
 #[test]
 fn looking_lines_show_table_and_room() {
     let free = |slot: usize| format!("= {slot} disconnected 0 {} 0 0 0 e1 0 0 0 0 0 0 0 0 0 0\n", 64 + slot);
-    let view = format!("0 - 4 1 29 4\n= 0 {FULL}\n{}{}= 3 connecting:3 2 67 129 25 23 e2 1 0 0 0 0 0 0 0 0 0\n", free(1), free(2));
+    let view = format!(
+        "0 - 5 1 29 4\n= 0 {FULL}\n{}{}= 3 connecting:3 2 67 129 25 23 e2 1 0 0 0 0 0 0 0 0 0\n= 4 {}\n",
+        free(1),
+        free(2),
+        PENDING.replace(" 64 ", " 68 ")
+    );
     let full = room([ARRIVED, WAITING]);
-    let rooms = format!("{full}\n{zeros}\n{zeros}\n{zeros}\n", zeros = room([NONE; 2]));
+    let rooms = format!("{full}\n{zeros}\n{zeros}\n{zeros}\n{zeros}\n", zeros = room([NONE; 2]));
     let looks =
         format!("{full}\n{}\n{}\n6 -\n0 - 0 0 4\n0 - 1 1 0\n0 - 9 2 0\n0 - 128 23 25 100 23\n", room([NONE; 2]), room([NONE, "01"]));
-    let script = "# a scene\n\nT 4 1 29\r\nV\nM 0\nM 1\nM 2\nM 4\nI\nI\nI\nU 0\n#";
+    let script = "# a scene\n\nT 5 1 29\r\nV\nM 0\nM 1\nM 2\nM 5\nI\nI\nI\nU 0\n#";
     let (text, _) = told(script, &format!("answer octets\n0 -\n{view}{rooms}{view}{looks}")).expect("rows that fit");
     assert_eq!(
         text,
         "# a scene
 
-   3  T 4 1 29
-      asked    make a table: 4 slots, 1 job can wait at a slot, packets of 29 octets
+   3  T 5 1 29
+      asked    make a table: 5 slots, 1 job can wait at a slot, packets of 29 octets
       answer   0 done
-      changed  4 slots, free; a room of 184 octets, all zero
+      changed  5 slots, free; a room of 230 octets, all zero
    4  V
       asked    show the table
       answer   0 done
@@ -198,9 +236,11 @@ fn looking_lines_show_table_and_room() {
                in frames up to 23, 5 credits left; 3 of 4 octets of a job are here; a job of 2
                octets waits
                slots 1 to 2: free
-               slot 3: asked for by us (request 3); the phone on link 2, SPSM 129, our CID 67, its
-               CID 0; to us jobs up to 23 octets in frames up to 25, 1 credit left, more after every
-               2 frames
+               slot 3: an attempt of ours (request 3); the phone on link 2, SPSM 129, our CID 67,
+               its CID 0; to us jobs up to 23 octets in frames up to 25, 1 credit left, more after
+               every 2 frames
+               slot 4: pending (request 7), held once; the phone on link 1, SPSM 128, our CID 68,
+               its CID 80; to it jobs up to 100 octets in frames up to 23, 5 credits left
    5  M 0
       asked    show the room of slot 0
       answer   0 done: 3 octets of a job that is arriving: aa00cc; a job of 2 octets waits: 1122;
@@ -211,8 +251,8 @@ fn looking_lines_show_table_and_room() {
    7  M 2
       asked    show the room of slot 2
       answer   0 done: 1 octet of no job
-   8  M 4
-      asked    show the room of slot 4
+   8  M 5
+      asked    show the room of slot 5
       answer   6 BadSlot: the table has no such slot
    9  I
       asked    which slots call for attention?

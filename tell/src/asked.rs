@@ -9,6 +9,7 @@ use language::{signals, Call, Config, State};
 /// What was asked of the table as it was before the call.
 pub fn asked(call: &Call, before: &Seen) -> String {
     let at = |slot: &u16| before.phone_at(*slot);
+    let to = |slot: &u16| before.link_at(*slot).map_or(format!("at slot {slot}"), |link| format!("to {} (slot {slot})", phone(link)));
     let link_is = |up: &bool| if *up { "the link is up" } else { "the link is down" };
     match call {
         Call::Make { n, d, m } => {
@@ -27,17 +28,17 @@ pub fn asked(call: &Call, before: &Seen) -> String {
             format!("open a channel to {} for SPSM {spsm}, with {}", phone(*link), configured(config))
         }
         Call::Opened { slot, link, up } => format!("is our channel to {} (slot {slot}) open? ({})", phone(*link), link_is(up)),
-        Call::GiveUp { slot } => format!("give up our channel to {}", at(slot)),
+        Call::GiveUp { slot } => format!("give up our channel {}", to(slot)),
         Call::AddHold { slot } => format!("add a hold to slot {slot}"),
         Call::Release { slot } => format!("release a hold of slot {slot}"),
-        Call::Disconnect { slot } => format!("close the channel to {}", at(slot)),
+        Call::Disconnect { slot } => format!("close the channel {}", to(slot)),
         Call::DisconnectByCid { cid } => format!("close the channel of our {}", before.cid(*cid)),
         Call::LinkDown { link } => format!("link {link} is down: its phone is gone"),
         Call::NextDisconnect => "is a disconnect due?".to_string(),
         Call::Frame { link, cid, payload } => {
             format!("{} sends a frame to {}: {}", phone(*link), before.cid(*cid), brought(*link, *cid, payload, before))
         }
-        Call::Send { slot, sdu } => format!("send a job of {} to {}", count(sdu.len(), "octet"), at(slot)),
+        Call::Send { slot, sdu } => format!("send a job of {} {}", count(sdu.len(), "octet"), to(slot)),
         Call::Take { slot, size } => format!("take the oldest job of {} into a buffer of {}", at(slot), count(*size, "octet")),
         Call::Attention => "which slots call for attention?".to_string(),
         Call::Queries { slot } => format!("the numbers of slot {slot}"),

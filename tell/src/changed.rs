@@ -165,7 +165,7 @@ impl Step<'_> {
         let (old, new) = (self.old, self.new);
         match new.hold {
             hold if hold == old.hold => None,
-            0 if new.free() => Some("no hold left: free for the next phone".to_string()),
+            0 if old.free() => Some("no hold left: free for the next phone".to_string()),
             0 => Some("no hold left".to_string()),
             hold => Some(holds(hold)),
         }

@@ -43,6 +43,21 @@ fn examples_are_told_as_they_stand() {
     }
 }
 
+/// Every change that the recorded scripts make has words, and leaves no octet behind.
+#[test]
+#[ignore = "needs a program"]
+fn every_change_has_words() {
+    for file in files("oracle/recorded", "script") {
+        let script = text(&file);
+        let mut page = Page::new(Vec::new());
+        tell(&script, &mut program(sent(&script)).rows(), &mut page).expect("rows that fit");
+        let told = String::from_utf8(page.into_inner()).expect("text");
+        let none = ["no words here", "of no job", "here, only", "lost: only", "that are no signal", "that are no frames"];
+        let wordless = told.lines().find(|line| none.iter().any(|words| line.contains(words)));
+        assert_eq!(wordless, None, "{}", file.display());
+    }
+}
+
 /// The rows of a script's own calls, out of what is printed for what was sent.
 fn own(script: &str, printed: Vec<String>) -> Vec<String> {
     let mut printed = printed.into_iter().peekable();

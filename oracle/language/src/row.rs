@@ -149,11 +149,11 @@ pub fn unhex(word: &str) -> Option<Vec<u8>> {
         b'a'..=b'f' => Some(c - b'a' + 10),
         _ => None,
     };
-    let digits = word.as_bytes();
-    if digits.is_empty() || digits.len() % 2 != 0 {
+    let octets = word.as_bytes().chunks_exact(2);
+    if word.is_empty() || !octets.remainder().is_empty() {
         return None;
     }
-    digits.chunks(2).map(|two| Some(digit(two[0])? * 16 + digit(two[1])?)).collect()
+    octets.map(|two| Some(digit(two[0])? * 16 + digit(two[1])?)).collect()
 }
 
 #[cfg(test)]

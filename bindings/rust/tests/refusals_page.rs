@@ -1,4 +1,5 @@
-//! docs/REFUSALS.md: its rows are the refusals, its tables say the same as one another, and a call refuses by what the page lists for it and by nothing else.
+//! docs/REFUSALS.md: its rows are the refusals, its tables say the same as one another, and a call refuses by what the page lists for it, in that order, and by
+//! nothing else. And the names in examples/refusals.script.
 
 mod common;
 
@@ -37,9 +38,18 @@ const REFUSALS: [Refusal; 23] = [
 /// What every call tests first.
 const FIRST: [u8; 5] = [1, 2, 3, 4, 6];
 
+/// A file of the repository.
+fn read(file: &str) -> String {
+    std::fs::read_to_string(Path::new(env!("CARGO_MANIFEST_DIR")).join("../..").join(file)).expect(file)
+}
+
+fn name_of(refusal: Refusal) -> String {
+    format!("{refusal:?}").split('(').next().expect("a name").to_owned()
+}
+
 /// The cells of each row of the table under a heading.
 fn table(heading: &str) -> Vec<Vec<String>> {
-    let page = std::fs::read_to_string(Path::new(env!("CARGO_MANIFEST_DIR")).join("../../docs/REFUSALS.md")).expect("the page");
+    let page = read("docs/REFUSALS.md");
     let section = page.split("\n## ").find_map(|section| section.strip_prefix(heading)).expect(heading);
     let rows = section.lines().filter(|line| line.starts_with("| ")).skip(1);
     rows.map(|row| row.split('|').map(|cell| cell.trim().to_owned()).skip(1).take(row.matches('|').count() - 1).collect()).collect()
@@ -66,7 +76,7 @@ fn its_rows_are_the_refusals() {
     assert_eq!(rows.len(), REFUSALS.len());
     for (row, refusal) in rows.iter().zip(REFUSALS) {
         assert_eq!(row[0], refusal.number().to_string());
-        assert_eq!(row[1], format!("{refusal:?}").split('(').next().expect("a name"));
+        assert_eq!(row[1], name_of(refusal));
         assert!(row.len() == 6 && row.iter().all(|cell| !cell.is_empty()), "{refusal}: a cell is missing");
     }
 }
@@ -123,6 +133,105 @@ fn the_first_tests_are_in_its_order() {
             }
         }
     }
+}
+
+/// Where two refusals of a call are due, it gives the first of them: on the page they stand side by side in this order.
+fn before(name: &str, first: Refusal, second: Refusal, refused: Option<Refusal>) {
+    assert_eq!(refused, Some(first), "{name}: {first} and {second} are due");
+    let (_, _, list) = calls().into_iter().find(|(call, _, _)| call == name).expect(name);
+    assert!(list.windows(2).any(|two| two == [first.number(), second.number()]), "{name}: {second} isn't next to {first}");
+}
+
+#[test]
+fn the_other_tests_are_in_its_order() {
+    use Refusal::*;
+    let refused = ConnectError(LeCreditConnResultCode::NoResources);
+    let usual = L2capChannelConfig::default();
+    let large = L2capChannelConfig { mtu: Some(59), ..usual };
+    let (mut signal, mut out) = (BUFFER, [0; 64]);
+
+    // Nothing is in the slot, and nobody holds it.
+    let mut room = [0; ROOM];
+    let mut channels = made(&mut room);
+    before("accept_pending", InsufficientSpace, NotFound, channels.accept_pending(SLOT, &large, &mut signal).err());
+    before("accept_pending", NotFound, Held, channels.accept_pending(SLOT, &usual, &mut signal).err());
+    before("reject_pending", NotFound, Held, channels.reject_pending(SLOT, LeCreditConnResultCode::NoResources, &mut signal).err());
+    before("opened", Disconnected, NotFound, channels.opened(SLOT, PHONE, true).err());
+    before("send", ChannelClosed, InsufficientSpace, channels.send(SLOT, &[1], &mut out).err());
+    for (first, second, pdu) in [
+        (InvalidValue, NotSupported, "9901000016090500"),
+        (Decode, NotFound, "15010a0050006400170005000300"),
+        (NotFound, refused, "15010a0050006400170005000400"),
+    ] {
+        before("signal", first, second, feed(&mut channels, PHONE, pdu)[0].0.err());
+    }
+
+    // No slot is free.
+    channels.inc_ref(SLOT).expect("held");
+    channels.inc_ref(ChannelIndex(1)).expect("held");
+    before("create", InsufficientSpace, NoChannelAvailable, channels.create(PHONE, SPSM, &large, &mut signal).err());
+
+    // An attempt that failed, on a link that is down, and held.
+    let mut room = [0; ROOM];
+    let mut channels = made(&mut room);
+    for (up, pdu, first, second) in
+        [(false, "15010a0000000000000000000400", Disconnected, refused), (true, "15020a0000000000000000000400", refused, Held)]
+    {
+        channels.create(PHONE, SPSM, &usual, &mut signal).expect("an attempt");
+        assert_eq!(feed(&mut channels, PHONE, pdu)[0].0, Err(refused));
+        if up {
+            channels.inc_ref(SLOT).expect("held");
+        }
+        before("opened", first, second, channels.opened(SLOT, PHONE, up).err());
+    }
+
+    // An open channel, held, without a credit on either side and with an MPS that is too small.
+    let mut room = [0; ROOM];
+    let mut channels = made(&mut room);
+    open(&mut channels, PHONE, &request(0x50, 65535, 22, 0), &L2capChannelConfig { initial_credits: Some(0), ..usual });
+    before("opened", NotFound, Disconnected, channels.opened(SLOT, OTHER, false).err());
+    before("dispatch", NotFound, OutOfMemory, channels.dispatch(OTHER, SLOT.cid(), &[]).err());
+    before("dispatch", OutOfMemory, ShortFrame, channels.dispatch(PHONE, SLOT.cid(), &[]).err());
+    before("send", InsufficientSpace, TooLong, channels.send(SLOT, &vec![1; 65536], &mut out).err());
+    before("send", TooLong, BadMps, channels.send(SLOT, &vec![1; 65534], &mut out).err());
+    before("send", BadMps, Busy, channels.send(SLOT, &[1], &mut out).err());
+
+    // An open channel without a credit for us, in which two jobs wait.
+    let mut room = [0; ROOM];
+    let mut channels = made(&mut room);
+    open(&mut channels, PHONE, &request(0x50, 100, 23, 0), &L2capChannelConfig { initial_credits: Some(9), ..usual });
+    before("send", Busy, NoRoom, channels.send(SLOT, &[1], &mut []).err());
+    for _ in 0..2 {
+        channels.dispatch(PHONE, SLOT.cid(), &[0, 0]).expect("a job");
+    }
+    before("dispatch", InvalidValue, QueueFull, channels.dispatch(PHONE, SLOT.cid(), &[1, 0, 1, 2]).err());
+}
+
+/// A script's comment that begins with a number names that refusal, and the next line's row has it.
+#[test]
+fn the_script_of_refusals_names_them() {
+    let script = read("examples/refusals.script");
+    let rows = read("examples/refusals.rows");
+    // One row a line; of a view, the first alone.
+    let mut rows = rows.lines().skip(1).filter(|row| !row.starts_with('='));
+    let (mut said, mut named) = (None, BTreeSet::new());
+    for line in script.lines().filter(|line| !line.is_empty()) {
+        if let Some(comment) = line.strip_prefix("# ") {
+            let mut words = comment.split([' ', ':', ',']);
+            said = words.next().and_then(|word| word.parse::<usize>().ok());
+            if let Some(number) = said {
+                assert!(words.next().is_some_and(|name| name == name_of(REFUSALS[number - 1])), "{comment}");
+            }
+        } else {
+            let row = rows.next().expect("a row a line");
+            if let Some(number) = said.take() {
+                assert_eq!(row.split(' ').next(), Some(number.to_string().as_str()), "{line}");
+                named.insert(number);
+            }
+        }
+    }
+    // 2 and 3 can't be reached, and 23 needs a long line.
+    assert_eq!(named, (1..=22).filter(|number| ![2, 3].contains(number)).collect());
 }
 
 /// Numbers that look drawn, the same in every run.

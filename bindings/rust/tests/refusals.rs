@@ -56,16 +56,16 @@ fn call(name: &str, channels: &mut ChannelManager<'_>, link: ConnHandle, index: 
         "signal" => channels.signal(link, true, LeConnRole::Central, &[], signal).outcome.err(),
         "send_conn_param_update_req" => channels.send_conn_param_update_req(link, &wish(), signal).err(),
         "send_conn_param_update_res" => channels.send_conn_param_update_res(link, 0, signal).err(),
-        "next_pending" => channels.next_pending(link, true).err(),
+        "next_pending" => channels.next_pending(link, true).map(|hold| hold.map(Hold::into_index)).err(),
         "accept_pending" => channels.accept_pending(index, &usual, signal).err(),
-        "reject_pending" => channels.reject_pending(index, LeCreditConnResultCode::NoResources, signal).err(),
+        "reject_pending" => ended(channels.reject_pending(Hold::of(index), LeCreditConnResultCode::NoResources, signal)).err(),
         "reject_all_pending" => channels.reject_all_pending(link, signal).err(),
-        "drop_pending" => channels.drop_pending(index).err(),
+        "drop_pending" => ended(channels.drop_pending(Hold::of(index))).map(|hold| hold.map(Hold::into_index)).err(),
         "create" => channels.create(link, SPSM, &usual, signal).err(),
-        "opened" => channels.opened(index, link, true).err(),
+        "opened" => channels.opened(index, link, true).map(|hold| hold.map(Hold::into_index)).err(),
         "give_up" => channels.give_up(index).err(),
-        "inc_ref" => channels.inc_ref(index).err(),
-        "dec_ref" => channels.dec_ref(index).err(),
+        "inc_ref" => channels.inc_ref(index).map(Hold::into_index).err(),
+        "dec_ref" => ended(channels.dec_ref(Hold::of(index))).err(),
         "disconnect" => channels.disconnect(index).err(),
         "disconnect_by_cid" => channels.disconnect_by_cid(Cid(0x40)).err(),
         "disconnected" => channels.disconnected(link).err(),
@@ -349,7 +349,7 @@ fn refusal_12_insufficient_space() {
     let mut room = [0; ROOM];
     let mut channels = made(&mut room);
     feed(&mut channels, PHONE, &request(0x50, 100, 23, 5));
-    channels.next_pending(PHONE, true).unwrap();
+    channels.next_pending(PHONE, true).unwrap().map(Hold::into_index);
     let mut signal = BUFFER;
     for (mtu, mps) in [(Some(59), None), (None, Some(61)), (Some(65535), Some(65535))] {
         let asked = config(mtu, mps, None);
@@ -373,7 +373,7 @@ fn refusal_12_insufficient_space() {
 fn refusal_13_no_channel_available() {
     let mut room = [0; ROOM];
     let mut channels = made(&mut room);
-    channels.inc_ref(SLOT).unwrap();
+    let hold = channels.inc_ref(SLOT).unwrap();
     feed(&mut channels, PHONE, &request(0x50, 100, 23, 5));
     let (before, room) = state(&channels);
     let mut signal = BUFFER;
@@ -382,7 +382,7 @@ fn refusal_13_no_channel_available() {
     wanted[5] = 2;
     assert!(channels.table().octets() == &wanted && channels.room() == &room[..]);
     assert_eq!(signal, BUFFER);
-    channels.dec_ref(SLOT).unwrap();
+    channels.dec_ref(hold).unwrap();
     assert_eq!(channels.create(PHONE, SPSM, &L2capChannelConfig::default(), &mut signal).unwrap().index, SLOT);
 }
 
@@ -513,23 +513,23 @@ fn refusal_21_queue_full() {
 fn refusal_22_held() {
     let mut room = [0; ROOM];
     let mut channels = made(&mut room);
-    unchanged(&mut channels, Refusal::Held, |channels| channels.dec_ref(SLOT));
-    unchanged(&mut channels, Refusal::Held, |channels| channels.drop_pending(SLOT));
+    unchanged(&mut channels, Refusal::Held, |channels| ended(channels.dec_ref(Hold::of(SLOT))));
+    unchanged(&mut channels, Refusal::Held, |channels| ended(channels.drop_pending(Hold::of(SLOT))));
     feed(&mut channels, PHONE, &request(0x50, 100, 23, 5));
     let mut signal = BUFFER;
     unchanged(&mut channels, Refusal::Held, |channels| {
         channels.accept_pending(SLOT, &L2capChannelConfig::default(), &mut signal).map(|_| ())
     });
     unchanged(&mut channels, Refusal::Held, |channels| {
-        channels.reject_pending(SLOT, LeCreditConnResultCode::NoResources, &mut signal).map(|_| ())
+        ended(channels.reject_pending(Hold::of(SLOT), LeCreditConnResultCode::NoResources, &mut signal)).map(|_| ())
     });
     assert_eq!(signal, BUFFER);
-    assert_eq!(channels.next_pending(PHONE, true), Ok(Some(SLOT)));
+    assert_eq!(channels.next_pending(PHONE, true).unwrap().map(Hold::into_index), Some(SLOT));
     unchanged(&mut channels, Refusal::Held, |channels| channels.next_pending(PHONE, true));
     channels.accept_pending(SLOT, &L2capChannelConfig::default(), &mut signal).unwrap();
     unchanged(&mut channels, Refusal::Held, |channels| channels.opened(SLOT, PHONE, true));
     for _ in 1..255 {
-        channels.inc_ref(SLOT).unwrap();
+        channels.inc_ref(SLOT).unwrap().into_index();
     }
     assert_eq!(slot(&channels, SLOT).hold, 255);
     unchanged(&mut channels, Refusal::Held, |channels| channels.inc_ref(SLOT));

@@ -48,6 +48,7 @@
 
 mod answer;
 mod codes;
+mod credits;
 mod entries;
 mod hold;
 pub mod life;
@@ -59,6 +60,7 @@ pub use answer::{
     Received, Signalled,
 };
 pub use codes::{ChannelIndex, Cid, ConnHandle, LeConnRole, LeCreditConnResultCode, Refusal, CID_BASE, SLOTS};
+pub use credits::{frames, least_credits, ConfigError};
 pub use hold::{Hold, StillHeld};
 pub use manager::{ChannelManager, SIGNAL_OCTETS};
 pub use table::{room_octets, Slot, Table, TABLE_OCTETS};

@@ -86,7 +86,7 @@ impl From<StillHeld> for Refusal {
 
 impl fmt::Display for StillHeld {
     fn fmt(&self, f: &mut fmt::Formatter<'_>) -> fmt::Result {
-        write!(f, "{}; slot {} is still held", self.refusal, self.hold.index().0)
+        write!(f, "{}; the hold on slot {} came back", self.refusal, self.hold.index().0)
     }
 }
 

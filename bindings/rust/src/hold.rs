@@ -38,11 +38,19 @@ impl Hold {
     }
 }
 
+// Only where a panic unwinds, which firmware's don't: a hold that goes with another panic must not hide it.
+#[cfg(all(debug_assertions, panic = "unwind"))]
+extern crate std;
+
 /// A hold was forgotten. In release builds nothing is left of this.
 #[cfg(debug_assertions)]
 impl Drop for Hold {
     #[allow(clippy::panic)]
     fn drop(&mut self) {
+        #[cfg(panic = "unwind")]
+        if std::thread::panicking() {
+            return;
+        }
         panic!("the hold on slot {} was dropped: dec_ref gives the slot back", self.0 .0);
     }
 }

@@ -239,6 +239,17 @@ mod dropped {
         assert_eq!(message(|| drop(channels.dec_ref(Hold::of(ChannelIndex(3))))), None);
     }
 
+    /// A panic that comes while a hold is there is the one that is told.
+    #[test]
+    fn it_hides_no_other_panic() {
+        let hold = Hold::of(SLOT);
+        let said = message(|| {
+            let _kept = hold;
+            panic!("{}", "another");
+        });
+        assert_eq!(said.as_deref(), Some("another"));
+    }
+
     /// A refusal that is made of a hold which the table still counts.
     #[test]
     fn so_does_one_that_an_error_gave_back() {

@@ -235,13 +235,22 @@ pub fn main() {
     assert_eq!(desk.printed.pop(), Some((cleo, b"ticket 3".to_vec())));
     assert_eq!(desk.codes(cleo), [RESPONSE, CREDITS]);
 
-    // A frame of Cleo's comes cut: her channel is closed, and no other link could have done that.
+    // A frame of Cleo's comes cut: her channel is closed. The same from another link does nothing.
     let cut = &packet(0x41, b"\x08\0ticket 4")[..10];
     assert_eq!(printer.packet(ben, cut, &mut desk), Err(Fault::Length));
     assert_eq!(desk.codes(cleo), []);
     assert_eq!(printer.packet(cleo, cut, &mut desk), Err(Fault::Length));
     assert_eq!(desk.codes(cleo), [DISCONNECT_REQUEST]);
     assert_eq!(printer.packet(cleo, &packet(5, &[0x07, 1, 4, 0, 0x50, 0, 0x41, 0]), &mut desk), Ok(()));
+
+    // Ben's phone comes back and sends more frames than it has credits for: its channel is closed too.
+    assert_eq!(printer.packet(ben, &connect(), &mut desk), Ok(()));
+    assert_eq!(printer.packet(ben, &packet(0x41, b"\x20\0a"), &mut desk), Ok(()));
+    assert_eq!(printer.packet(ben, &packet(0x41, b"b"), &mut desk), Ok(()));
+    assert_eq!(printer.packet(ben, &packet(0x41, b"c"), &mut desk), Ok(()));
+    assert_eq!(printer.packet(ben, &packet(0x41, b"d"), &mut desk), Err(Fault::Refused(Refusal::OutOfMemory)));
+    assert_eq!(desk.codes(ben), [RESPONSE, DISCONNECT_REQUEST]);
+    assert_eq!(printer.packet(ben, &packet(5, &[0x07, 2, 4, 0, 0x50, 0, 0x41, 0]), &mut desk), Ok(()));
 
     // Packets that are too long, too short for a header, another protocol's or nobody's change nothing.
     let long = [connect(), vec![0]].concat();

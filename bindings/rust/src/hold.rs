@@ -11,6 +11,17 @@ use crate::codes::{ChannelIndex, Cid, Refusal};
 ///
 /// A hold that is dropped is one that nobody can give back. Builds with debug assertions panic there, and name the slot; others say nothing, and a
 /// hold costs an octet. Who counts holds himself takes the slot's number out with [`into_index`](Self::into_index).
+///
+/// It can't be copied, so that it can't be given back twice:
+///
+/// ```compile_fail
+/// # use l2cap_channels::*;
+/// # fn twice(channels: &mut ChannelManager<'_>, hold: Hold) -> Result<(), Refusal> {
+/// channels.dec_ref(hold)?;
+/// channels.dec_ref(hold)?;
+/// # Ok(())
+/// # }
+/// ```
 #[must_use = "a slot is held until `dec_ref` gets its hold back"]
 #[derive(Debug, PartialEq, Eq, Hash)]
 pub struct Hold(ChannelIndex);

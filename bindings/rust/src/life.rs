@@ -6,7 +6,8 @@
 //!
 //! After each packet that came in, and after each link that went down, a loop does three things in this order, and forgets nothing:
 //!
-//! 1. jobs: [`receive`] on every slot that [`attention`] names, until none waits; the credits go out;
+//! 1. jobs: [`receive`] on every slot that [`attention`] names, until none waits; the credits go out. (An attempt of ours that failed is named too,
+//!    and refused by 11 here: [`opened`] frees it.)
 //! 2. disconnects: [`next_disconnect`] until none is due; what it writes goes out;
 //! 3. holds: [`dec_ref`] on every slot that [`Table::held`] names.
 //!

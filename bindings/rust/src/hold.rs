@@ -6,8 +6,8 @@ use core::mem::ManuallyDrop;
 
 use crate::codes::{ChannelIndex, Cid, Refusal};
 
-/// One hold on a slot. While a slot is held no other channel gets it, closed or not: [`dec_ref`](crate::ChannelManager::dec_ref) gives it back.
-/// The [`life`](crate::life) of a channel says who has a hold when.
+/// One hold on a slot. While a slot is held no other channel gets it, closed or not: [`dec_ref`](crate::ChannelManager::dec_ref) of the manager that gave
+/// the hold ends it. The [`life`](crate::life) of a channel says who has a hold when.
 ///
 /// A hold that is dropped is one that nobody can give back. Builds with debug assertions panic there, and name the slot; others say nothing, and a
 /// hold costs an octet. Who counts holds himself takes the slot's number out with [`into_index`](Self::into_index).

@@ -16,10 +16,7 @@ fn main() -> ExitCode {
     match &words[..] {
         [word] if word == "--help" => print(USAGE),
         [file, program, words @ ..] if file == "-" || !file.as_encoded_bytes().starts_with(b"-") => told(file, program, words),
-        _ => {
-            eprintln!("{USAGE}");
-            ExitCode::from(2)
-        }
+        _ => said(USAGE),
     }
 }
 
@@ -31,7 +28,12 @@ fn print(text: &str) -> ExitCode {
 }
 
 fn failed(why: &dyn std::fmt::Display) -> ExitCode {
-    eprintln!("tell: {why}");
+    said(&format!("tell: {why}"))
+}
+
+fn said(why: &str) -> ExitCode {
+    // Where standard error takes nothing either, the exit status says it alone.
+    let _ = writeln!(std::io::stderr(), "{why}");
     ExitCode::from(2)
 }
 

@@ -15,12 +15,12 @@ pub struct Program {
 impl Program {
     pub fn start(program: &OsStr, words: &[OsString], script: String) -> Result<Self, Trouble> {
         let name = program.to_string_lossy().into_owned();
-        let start = Command::new(program).args(words).stdin(Stdio::piped()).stdout(Stdio::piped()).spawn();
-        let mut child = start.map_err(|error| Trouble::Program(format!("{name} can't be run: {error}")))?;
+        let fails = |error| Trouble::Program(format!("{name} can't be run: {error}"));
+        let mut child = Command::new(program).args(words).stdin(Stdio::piped()).stdout(Stdio::piped()).spawn().map_err(fails)?;
         let rows = child.stdout.take().map(BufReader::new);
         if let Some(mut input) = child.stdin.take() {
             // Written while rows are read, since either pipe may fill. A program that stops reading has rows missing: that shows it.
-            std::thread::spawn(move || input.write_all(script.as_bytes()));
+            std::thread::Builder::new().spawn(move || input.write_all(script.as_bytes())).map_err(fails)?;
         }
         Ok(Self { name, child, rows })
     }

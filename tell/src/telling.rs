@@ -122,7 +122,7 @@ impl Rows<'_> {
 
     /// A line that must be there, read by `read`; `what` says what it must be.
     fn read<T>(&mut self, what: &str, read: impl Fn(&str) -> Option<T>) -> Result<T, Trouble> {
-        let line = self.next()?.ok_or_else(|| self.trouble(format!("the program printed no more rows before {what}")))?;
+        let line = self.next()?.ok_or_else(|| self.trouble(format!("the program's rows end where {what} must stand")))?;
         read(&line).ok_or_else(|| self.trouble(format!("the program printed `{}` where {what} must stand", cut(&line))))
     }
 

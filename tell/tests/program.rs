@@ -65,12 +65,12 @@ fn what_fails_is_said_in_one_sentence() {
     let cases: [(&[&str], &str, &str); 6] = [
         (&["-", "/nowhere/chanrun"], "Q\n", "tell: /nowhere/chanrun can't be run: "),
         (&["/nowhere/script", "cat"], "", "tell: /nowhere/script: "),
-        (&["-", "false"], "Q\n", "tell: the program printed no more rows before the head line `answer octets`"),
+        (&["-", "false"], "Q\n", "tell: the program's rows end where the head line `answer octets` must stand"),
         (&["-", "cat"], "Q\n", "tell: the program printed `Q` where the head line `answer octets` must stand"),
         (
             &["-", "sh", "-c", "cat > /dev/null; echo answer octets"],
             "Q\n",
-            "tell: line 1: the program printed no more rows before the row of its call",
+            "tell: line 1: the program's rows end where the row of its call must stand",
         ),
         (
             &["-", "sh", "-c", "cat > /dev/null; echo answer octets; exit 3"],
@@ -100,6 +100,9 @@ fn words_are_looked_at_first() {
 #[test]
 fn an_output_that_takes_nothing_is_a_failure() {
     let full = || std::fs::OpenOptions::new().write(true).open("/dev/full").expect("/dev/full");
+    // Where nothing can be said, the status stands.
+    let status = Command::new(TELL).stderr(full()).status().expect("tell runs");
+    assert_eq!(status.code(), Some(2));
     for words in [&["-", "sh", "-c", "cat > /dev/null; echo answer octets"][..], &["--help"]] {
         let mut child =
             Command::new(TELL).args(words).stdin(Stdio::piped()).stdout(full()).stderr(Stdio::piped()).spawn().expect("tell runs");

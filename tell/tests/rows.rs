@@ -327,9 +327,9 @@ fn signals_of_one_pdu_are_told_one_by_one() {
 fn rows_that_are_not_the_scripts_are_refused() {
     let made = format!("answer octets\n0 -\n0 - 1 1 29 1\n= 0 {FREE}\n{}\n", room([NONE; 2]));
     let trouble = |script: &str, rows: &str| told(script, rows).expect_err("rows that don't fit").to_string();
-    assert_eq!(trouble("Q", ""), "the program printed no more rows before the head line `answer octets`");
+    assert_eq!(trouble("Q", ""), "the program's rows end where the head line `answer octets` must stand");
     assert_eq!(trouble("Q", "0 -\n"), "the program printed `0 -` where the head line `answer octets` must stand");
-    assert_eq!(trouble("Q", "answer octets\n"), "line 1: the program printed no more rows before the row of its call");
+    assert_eq!(trouble("Q", "answer octets\n"), "line 1: the program's rows end where the row of its call must stand");
     assert_eq!(trouble("#\nQ", "answer octets\n? -\n"), "line 2: the program printed `? -` where the row of its call must stand");
     assert_eq!(
         trouble("q", "answer octets\n0 -\n"),
@@ -341,6 +341,6 @@ fn rows_that_are_not_the_scripts_are_refused() {
     assert_eq!(trouble("T 2 1 29", &made), "line 1: the program shows 1 slot, where 2 must be");
     assert_eq!(trouble("T 1 1 29", &made.replace("1 1 29", "1 2 29")).split(" where ").last(), Some("the room of slot 0 must stand"));
     assert_eq!(trouble("T 1 1 29", &format!("{made}0 -\n")), "the program printed more rows than the script asks for");
-    assert_eq!(trouble("V", "answer octets\n0 - 1 1 29 1\n"), "line 1: the program printed no more rows before slot 0 of a view");
+    assert_eq!(trouble("V", "answer octets\n0 - 1 1 29 1\n"), "line 1: the program's rows end where slot 0 of a view must stand");
     assert_eq!(trouble("Q", "answer octets\n\u{1b}[2J\n"), "line 1: the program printed `\\u{1b}[2J` where the row of its call must stand");
 }

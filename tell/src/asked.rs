@@ -2,7 +2,7 @@
 
 use crate::refusals::result;
 use crate::seen::Seen;
-use crate::signal::{parameters_result, signal, From};
+use crate::signal::{parameters_result, signal, Writer};
 use crate::words::{count, parameters, phone, policy};
 use language::{signals, Call, Config, State};
 
@@ -57,7 +57,7 @@ pub fn asked(call: &Call, before: &Seen) -> String {
 /// The signal of a PDU that has one, or what is wrong with its headers.
 fn said(pdu: &[u8], before: &Seen) -> String {
     match signals(pdu) {
-        Some(parts) => parts.first().map_or("a PDU of no signals".to_string(), |first| signal(first, From::Phone, before)),
+        Some(parts) => parts.first().map_or("a PDU of no signals".to_string(), |first| signal(first, Writer::Phone, before)),
         None => format!("{} that end in the middle of a signal", count(pdu.len(), "octet")),
     }
 }

@@ -38,10 +38,12 @@ fn made(before: &Seen, after: &Seen) -> String {
         let now = if before.is_made() { "there is no table any more" } else { "there is still no table" };
         return format!("{now}: every call is refused by 1{gone}");
     }
+    let fresh = after.view.slots.iter().filter(|slot| **slot == SlotView::fresh()).count();
+    let free = if fresh == slots { "free".to_string() } else { format!("only {fresh} free") };
     let octets: usize = after.rooms.iter().map(Vec::len).sum();
-    let set: usize = (0..slots).map(|slot| after.left_behind(slot)).sum();
-    let zeros = if set == 0 { "all zero".to_string() } else { format!("{} not zero", count(set, "octet")) };
-    format!("{}, free; a room of {octets} octets, {zeros}{gone}", count(slots, "slot"))
+    let zeros = after.rooms.iter().flatten().filter(|octet| **octet == 0).count();
+    let zeros = if zeros == octets { "all zero".to_string() } else { format!("only {zeros} zero") };
+    format!("{}, {free}; a room of {octets} octets, {zeros}{gone}", count(slots, "slot"))
 }
 
 /// One slot before and after a call.

@@ -6,13 +6,13 @@ use crate::words::{count, parameters, sizes};
 
 /// Who wrote a signal: CIDs and credits are told by whose they are.
 #[derive(Clone, Copy, PartialEq, Eq)]
-pub enum From {
+pub enum Writer {
     Phone,
     Us,
 }
 
 /// A signal with its header: code, identifier, length, body.
-pub fn signal(octets: &[u8], from: From, seen: &Seen) -> String {
+pub fn signal(octets: &[u8], writer: Writer, seen: &Seen) -> String {
     let [code, identifier, _, _, body @ ..] = octets else {
         return format!("{}, too few for a signal", count(octets.len(), "octet"));
     };
@@ -30,20 +30,20 @@ pub fn signal(octets: &[u8], from: From, seen: &Seen) -> String {
     let fields: Vec<u16> = body.chunks_exact(2).map(|two| u16::from_le_bytes([two[0], two[1]])).collect();
     // A reject may say more behind its reason.
     let fits = body.len() == length || *code == 0x01 && body.len() > length;
-    let says = if fits { fields_in_words(*code, &fields, from, seen) } else { None };
+    let says = if fits { fields_in_words(*code, &fields, writer, seen) } else { None };
     match says {
         Some(says) => format!("{name} {identifier}{says}"),
         None => format!("{name} {identifier} with {} in its body, where {length} belong", count(body.len(), "octet")),
     }
 }
 
-fn fields_in_words(code: u8, fields: &[u16], from: From, seen: &Seen) -> Option<String> {
+fn fields_in_words(code: u8, fields: &[u16], writer: Writer, seen: &Seen) -> Option<String> {
     let ours = |cid: u16| format!("our {}", seen.cid(cid));
     let its = |cid: u16| format!("its CID {cid}");
     // What the writer of the signal calls its own.
-    let own = |cid: u16| if from == From::Us { ours(cid) } else { its(cid) };
-    let other = |cid: u16| if from == From::Us { its(cid) } else { ours(cid) };
-    let credits = |number: u16| format!("{} for {}", count(number, "credit"), if from == From::Us { "the phone" } else { "us" });
+    let own = |cid: u16| if writer == Writer::Us { ours(cid) } else { its(cid) };
+    let other = |cid: u16| if writer == Writer::Us { its(cid) } else { ours(cid) };
+    let credits = |number: u16| format!("{} for {}", count(number, "credit"), if writer == Writer::Us { "the phone" } else { "us" });
     Some(match (code, fields) {
         (0x01, [reason, ..]) => format!(": {}", rejected(*reason)),
         (0x06, [destination, source]) => format!(": {}, {}", other(*destination), own(*source)),
@@ -89,7 +89,7 @@ pub fn written(octets: &[u8], seen: &Seen) -> Option<String> {
     };
     let lengths_fit =
         usize::from(u16::from_le_bytes([*low, *high])) == rest.len() && usize::from(u16::from_le_bytes([rest[2], rest[3]])) == body.len();
-    lengths_fit.then(|| signal(rest, From::Us, seen))
+    lengths_fit.then(|| signal(rest, Writer::Us, seen))
 }
 
 #[cfg(test)]
@@ -125,7 +125,7 @@ mod tests {
             ("1609050050000100ff", "credit signal 9 with 5 octets in its body, where 4 belong"),
             ("0105", "2 octets, too few for a signal"),
         ] {
-            assert_eq!(signal(&unhex(octets).unwrap(), From::Phone, &seen()), told);
+            assert_eq!(signal(&unhex(octets).unwrap(), Writer::Phone, &seen()), told);
         }
     }
 

@@ -227,7 +227,7 @@ fn looking_lines_show_table_and_room() {
    3  T 5 1 29
       asked    make a table: 5 slots, 1 job can wait at a slot, packets of 29 octets
       answer   0 done
-      changed  5 slots, free; a room of 230 octets, all zero
+      changed  5 slots, only 2 free; a room of 230 octets, only 226 zero
    4  V
       asked    show the table
       answer   0 done

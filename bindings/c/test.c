@@ -32,6 +32,7 @@ int main(void) {
     static const uint8_t sent[] = {5, 0, 0x50, 0, 3, 0, 1, 2, 3};
     uint8_t before[L2CAP_TABLE_OCTETS];
 
+    check(l2cap_version_1() == 1, "the version is the name's");
     memset(room, 7, sizeof room);
     check(l2cap_make(table, sizeof table, answer, sizeof answer, room, sizeof room, N, D, M) == 0, "make");
     check(zeros(room, sizeof room), "making zeroes the room");

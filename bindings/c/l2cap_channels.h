@@ -34,22 +34,22 @@ uint32_t l2cap_make(uint8_t *table, size_t table_len, uint8_t *answer, size_t an
 uint32_t l2cap_register_spsm(uint8_t *table, size_t table_len, uint8_t *answer, size_t answer_len, uint16_t spsm);
 
 /* A slot's SPSM. */
-uint32_t l2cap_spsm(uint8_t *table, size_t table_len, uint8_t *answer, size_t answer_len, uint8_t slot);
+uint32_t l2cap_spsm(const uint8_t *table, size_t table_len, uint8_t *answer, size_t answer_len, uint8_t slot);
 
 /* A slot's MTU. */
-uint32_t l2cap_mtu(uint8_t *table, size_t table_len, uint8_t *answer, size_t answer_len, uint8_t slot);
+uint32_t l2cap_mtu(const uint8_t *table, size_t table_len, uint8_t *answer, size_t answer_len, uint8_t slot);
 
 /* A slot's MPS. */
-uint32_t l2cap_mps(uint8_t *table, size_t table_len, uint8_t *answer, size_t answer_len, uint8_t slot);
+uint32_t l2cap_mps(const uint8_t *table, size_t table_len, uint8_t *answer, size_t answer_len, uint8_t slot);
 
 /* The MTU of a slot's peer. */
-uint32_t l2cap_peer_mtu(uint8_t *table, size_t table_len, uint8_t *answer, size_t answer_len, uint8_t slot);
+uint32_t l2cap_peer_mtu(const uint8_t *table, size_t table_len, uint8_t *answer, size_t answer_len, uint8_t slot);
 
 /* The MPS of a slot's peer. */
-uint32_t l2cap_peer_mps(uint8_t *table, size_t table_len, uint8_t *answer, size_t answer_len, uint8_t slot);
+uint32_t l2cap_peer_mps(const uint8_t *table, size_t table_len, uint8_t *answer, size_t answer_len, uint8_t slot);
 
 /* The slots that call. */
-uint32_t l2cap_attention(uint8_t *table, size_t table_len, uint8_t *answer, size_t answer_len);
+uint32_t l2cap_attention(const uint8_t *table, size_t table_len, uint8_t *answer, size_t answer_len);
 
 /* The lowest pending of a link; up: is the link up? */
 uint32_t l2cap_next_pending(uint8_t *table, size_t table_len, uint8_t *answer, size_t answer_len, uint16_t link, uint8_t up);
@@ -113,5 +113,8 @@ uint32_t l2cap_receive(uint8_t *table, size_t table_len, uint8_t *answer, size_t
 
 /* How many octets of a PDU stand behind its first signal: its last ones, which l2cap_signal is called with next. */
 size_t l2cap_signal_rest(const uint8_t *pdu, size_t pdu_len);
+
+/* 1, the version of these calls. The number is in the name, so that an archive of another version isn't linked with this header. */
+uint32_t l2cap_version_1(void);
 
 #endif

@@ -30,8 +30,10 @@ int main(void) {
     static const uint8_t response[] = {14, 0, 5, 0, 0x15, 7, 10, 0, 0x40, 0, 58, 0, 60, 0, 2, 0, 0, 0};
     static const uint8_t frame[] = {3, 0, 1, 2, 3};
     static const uint8_t sent[] = {5, 0, 0x50, 0, 3, 0, 1, 2, 3};
+    const uint8_t *asked = table; /* a question is lent the table to read alone */
     uint8_t before[L2CAP_TABLE_OCTETS];
 
+    check(l2cap_version_1() == 1, "the version is the name's");
     memset(room, 7, sizeof room);
     check(l2cap_make(table, sizeof table, answer, sizeof answer, room, sizeof room, N, D, M) == 0, "make");
     check(zeros(room, sizeof room), "making zeroes the room");
@@ -44,10 +46,14 @@ int main(void) {
     check(l2cap_next_pending(table, sizeof table, answer, sizeof answer, 1, 1) == 0 && answer[0] == 2 && number(0) == 0, "slot 0 pends");
     check(l2cap_accept_pending(table, sizeof table, answer, sizeof answer, signal, sizeof signal, 0, 65536, 65536, 0, 1, 65536) == 0 && answer[0] == 3 && number(0) == 1, "accept");
     check(written() == 18 && !memcmp(signal, response, 18), "the response");
-    check(l2cap_peer_mtu(table, sizeof table, answer, sizeof answer, 0) == 0 && answer[0] == 9 && number(0) == 100, "the peer's MTU");
+    check(l2cap_peer_mtu(asked, sizeof table, answer, sizeof answer, 0) == 0 && answer[0] == 9 && number(0) == 100, "the peer's MTU");
+    check(l2cap_spsm(asked, sizeof table, answer, sizeof answer, 0) == 0 && number(0) == 128, "the SPSM");
+    check(l2cap_mtu(asked, sizeof table, answer, sizeof answer, 0) == 0 && number(0) == 58, "our MTU");
+    check(l2cap_mps(asked, sizeof table, answer, sizeof answer, 0) == 0 && number(0) == 60, "our MPS");
+    check(l2cap_peer_mps(asked, sizeof table, answer, sizeof answer, 0) == 0 && number(0) == 23, "the peer's MPS");
 
     check(l2cap_dispatch(table, sizeof table, answer, sizeof answer, room, sizeof room, 1, 0x40, frame, sizeof frame) == 0, "a frame");
-    check(l2cap_attention(table, sizeof table, answer, sizeof answer) == 0 && answer[0] == 8 && number(0) == 1 && number(1) == 1 && number(2) == 0, "slot 0 calls");
+    check(l2cap_attention(asked, sizeof table, answer, sizeof answer) == 0 && answer[0] == 8 && number(0) == 1 && number(1) == 1 && number(2) == 0, "slot 0 calls");
     check(l2cap_receive(table, sizeof table, answer, sizeof answer, room, sizeof room, signal, sizeof signal, job, sizeof job, 0) == 0 && answer[0] == 7, "take");
     check(number(0) == 1 && number(1) == 3 && number(2) == 3 && !memcmp(job, frame + 2, 3), "the job");
     check(zeros(room, sizeof room), "a take leaves nothing");

@@ -140,6 +140,7 @@ static void readers(void) {
     static const uint8_t octets[L2CAP_ANSWER_OCTETS] = {L2CAP_ANSWER_DUE, 2, 0x01, 0x02, 0x03, 0x84, 0x11, 0x12, 0x13, 0x14, 0x15, 0x16, 0x17, 0x98, 0, 0};
     check(l2cap_answer_written(octets) == 0x84030201, "four octets of what was written");
     check(l2cap_answer_number(octets, 0) == 0x1211 && l2cap_answer_number(octets, 3) == 0x9817, "numbers of two octets");
+    check(l2cap_answer_attention_set(octets) == 0x1211, "a set of sixteen slots");
     check(l2cap_answer_slot(octets) == 0x13, "a slot behind its link");
 }
 

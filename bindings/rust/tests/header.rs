@@ -1,5 +1,6 @@
-//! The entries are declared twice, for C and for Rust: the two must say the same.
+//! The entries and the numbers with names are declared twice, for C and for Rust: the two must say the same.
 
+use l2cap_channels::{LeCreditConnResultCode, Refusal, CID_BASE, SIGNAL_OCTETS, TABLE_OCTETS};
 use std::collections::BTreeMap;
 use std::path::Path;
 
@@ -26,14 +27,13 @@ fn in_rust(c: &str) -> String {
 fn header() -> Entries {
     let text = read("../c/l2cap_channels.h");
     let mut entries = Entries::new();
-    for declaration in text.split(';').filter_map(|piece| piece.rsplit("*/").next()) {
-        let (start, parameters) = match declaration.trim().strip_suffix(')').and_then(|line| line.split_once('(')) {
-            Some(parts) => parts,
-            None => continue,
-        };
+    // An entry is declared in one line; what the header defines itself is `static`.
+    for declaration in text.lines().filter(|line| ["uint32_t l2cap_", "size_t l2cap_"].iter().any(|start| line.starts_with(start))) {
+        let (start, parameters) = declaration.strip_suffix(");").and_then(|line| line.split_once('(')).expect(declaration);
         let (result, name) = start.rsplit_once(' ').expect("a result and a name");
         let of = |parameter: &str| parameter.trim().trim_end_matches(|c: char| c.is_ascii_alphanumeric() || c == '_').trim().to_owned();
-        let mut types: Vec<String> = parameters.split(',').map(|parameter| in_rust(&of(parameter))).collect();
+        let mut types: Vec<String> =
+            parameters.split(',').filter(|parameter| *parameter != "void").map(|parameter| in_rust(&of(parameter))).collect();
         types.push(in_rust(result.trim()));
         entries.insert(name.into(), types);
     }
@@ -62,9 +62,96 @@ fn wrapper() -> Entries {
     entries
 }
 
+/// The questions' tables, which C lends to be read and Rust to be written: the archive writes back what stood there.
+fn as_in_c(mut rust: Entries) -> Entries {
+    for question in ["l2cap_spsm", "l2cap_mtu", "l2cap_mps", "l2cap_peer_mtu", "l2cap_peer_mps", "l2cap_attention"] {
+        let types = rust.get_mut(question).expect(question);
+        types[0] = "*const u8".into();
+    }
+    rust
+}
+
 #[test]
 fn both_declare_the_same() {
-    let (c, rust) = (header(), wrapper());
+    let (mut c, rust) = (header(), as_in_c(wrapper()));
+    // The version is an entry of the archive that the crate doesn't call: build.rs looks for its name.
+    assert_eq!(c.remove("l2cap_version_1"), Some(vec!["u32".into()]));
     assert!(!c.is_empty());
     assert_eq!(c, rust);
+}
+
+/// A name of the crate as C writes it: `BadTable` is `BAD_TABLE`.
+fn in_c(prefix: &str, name: &str) -> String {
+    let mut c = prefix.to_owned();
+    for letter in name.chars().take_while(|letter| letter.is_ascii_alphanumeric()) {
+        if letter.is_ascii_uppercase() {
+            c.push('_');
+        }
+        c.push(letter.to_ascii_uppercase());
+    }
+    c
+}
+
+/// The names and numbers of an enum of the header.
+fn named(name: &str) -> BTreeMap<String, u16> {
+    let text = read("../c/l2cap_channels.h");
+    let body = text.split(&format!("\nenum {name} {{\n")).nth(1).and_then(|rest| rest.split("\n};").next()).expect(name);
+    body.lines()
+        .map(|line| {
+            let (name, rest) = line.trim().split_once(" = ").expect(line);
+            (name.to_owned(), rest.split([',', ' ']).next().and_then(|number| number.parse().ok()).expect(line))
+        })
+        .collect()
+}
+
+#[test]
+fn refusals_have_the_same_names_and_numbers() {
+    use Refusal::*;
+    let refusals = [
+        BadTable,
+        BadRoom,
+        NoRoom,
+        BadHandle,
+        BadSpsm,
+        BadSlot,
+        InvalidChannelId,
+        NotFound,
+        InvalidValue,
+        OutOfMemory,
+        ChannelClosed,
+        InsufficientSpace,
+        NoChannelAvailable,
+        Busy,
+        Decode,
+        NotSupported,
+        ConnectError(LeCreditConnResultCode::NoResources),
+        Disconnected,
+        ShortFrame,
+        BadMps,
+        QueueFull,
+        Held,
+        TooLong,
+    ];
+    let rust = refusals.iter().map(|refusal| (in_c("L2CAP", &format!("{refusal:?}")), refusal.number().into())).collect();
+    assert_eq!(named("l2cap_refusal"), rust);
+}
+
+#[test]
+fn results_have_the_same_names_and_numbers() {
+    let rust = (0..100)
+        .filter_map(|number| LeCreditConnResultCode::from_number(number).map(|code| (in_c("L2CAP_RESULT", &format!("{code:?}")), number)))
+        .collect();
+    assert_eq!(named("l2cap_result"), rust);
+}
+
+#[test]
+fn sizes_are_the_same() {
+    let text = read("../c/l2cap_channels.h");
+    let define = |name: &str| {
+        let value = text.split(&format!("#define {name} ")).nth(1).and_then(|rest| rest.split('\n').next()).expect(name);
+        value.strip_prefix("0x").map_or_else(|| value.parse(), |hex| usize::from_str_radix(hex, 16)).expect(value)
+    };
+    assert_eq!(define("L2CAP_TABLE_OCTETS"), TABLE_OCTETS);
+    assert_eq!(define("L2CAP_SIGNAL_OCTETS"), SIGNAL_OCTETS);
+    assert_eq!(define("L2CAP_CID_BASE"), usize::from(CID_BASE));
 }

@@ -86,10 +86,13 @@ fn for_another_machine() {
 fn a_machine_that_cannot_be_told() {
     let mach_o = [b"\xcf\xfa\xed\xfe".as_slice(), NAMES.as_bytes()].concat();
     assert_eq!(judge("lib.a", &archive(&[("o", &mach_o)]), &X86_64), Ok(Machine::Unknown));
-    // BSD's way of long names.
-    let named = [b"__.SYMDEF SORTED\0\0\0\0".as_slice(), b"symbols"].concat();
-    let long = [b"entries.o\0\0\0".as_slice(), &mach_o].concat();
-    assert_eq!(judge("lib.a", &archive(&[("#1/20", &named), ("#1/12", &long)]), &X86_64), Ok(Machine::Unknown));
+}
+
+#[test]
+fn long_names_as_bsd_writes_them() {
+    let symbols = [b"__.SYMDEF SORTED\0\0\0\0".as_slice(), b"symbols"].concat();
+    let long = [b"entries.o\0\0\0".as_slice(), &object(0x3e, NAMES)].concat();
+    assert_eq!(judge("lib.a", &archive(&[("#1/20", &symbols), ("#1/12", &long)]), &X86_64), Ok(Machine::Target));
 }
 
 #[test]

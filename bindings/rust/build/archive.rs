@@ -51,7 +51,7 @@ pub fn judge(name: &str, octets: &[u8], target: &Target) -> Result<Machine, Stri
         Some(_) => Machine::Target,
         None => Machine::Unknown,
     };
-    if !names(octets, b"l2cap_make\0") {
+    if !behind(octets, b"l2cap_make").any(<[u8]>::is_empty) {
         return Err(format!("{name} has no entry l2cap_make: it is another library's archive; {HOW}"));
     }
     let versions = versions(octets);
@@ -66,28 +66,34 @@ pub fn judge(name: &str, octets: &[u8], target: &Target) -> Result<Machine, Stri
     Ok(machine)
 }
 
+/// The member at this place: its name, its octets, and where the next one begins.
+fn member(octets: &[u8], at: usize) -> Option<(String, &[u8], usize)> {
+    let header = octets.get(at..at + MEMBER)?;
+    let start = at + MEMBER;
+    let size: usize = std::str::from_utf8(&header[48..58]).ok()?.trim_end().parse().ok()?;
+    let member = octets.get(start..start.checked_add(size)?)?;
+    // Members begin at even places.
+    let next = start + size + size % 2;
+    let name = std::str::from_utf8(&header[..16]).ok()?.trim_end();
+    // BSD's way: a long name stands before the member's own octets, and its length in the header.
+    match name.strip_prefix("#1/") {
+        Some(length) => {
+            let (name, member) = member.split_at_checked(length.parse().ok()?)?;
+            Some((String::from_utf8_lossy(name).into_owned(), member, next))
+        }
+        None => Some((name.into(), member, next)),
+    }
+}
+
 /// The octets of the first member that is an object: the tables of symbols and of long names come before it.
 fn first_object(octets: &[u8]) -> Option<&[u8]> {
     let mut at = ARCHIVE.len();
     loop {
-        let header = octets.get(at..at + MEMBER)?;
-        let size: usize = std::str::from_utf8(&header[48..58]).ok()?.trim_end().parse().ok()?;
-        let start = at + MEMBER;
-        let member = octets.get(start..start.checked_add(size)?)?;
-        // BSD's way: a long name stands before the member's own octets, and its length in the header.
-        let name = std::str::from_utf8(&header[..16]).ok()?.trim_end();
-        let (name, member) = match name.strip_prefix("#1/") {
-            Some(length) => {
-                let (name, member) = member.split_at_checked(length.parse().ok()?)?;
-                (String::from_utf8_lossy(name).trim_end_matches('\0').to_owned(), member)
-            }
-            None => (name.to_owned(), member),
-        };
+        let (name, member, next) = member(octets, at)?;
         if !["/", "//", "/SYM64/"].contains(&name.as_str()) && !name.starts_with("__.SYMDEF") {
             return Some(member);
         }
-        // Members begin at even places.
-        at = start + size + size % 2;
+        at = next;
     }
 }
 
@@ -109,18 +115,23 @@ fn machine(object: &[u8]) -> Option<String> {
     })
 }
 
-/// Whether these octets stand in the archive's names.
-fn names(octets: &[u8], name: &[u8]) -> bool {
-    octets.windows(name.len()).any(|window| window == name)
+/// Where the names of the archive's entries stand, each ended by a zero: in the table of symbols that it begins with, or anywhere where it has none of this form.
+fn names(octets: &[u8]) -> &[u8] {
+    match member(octets, ARCHIVE.len()) {
+        Some((name, table, _)) if ["/", "/SYM64/"].contains(&name.as_str()) => table,
+        _ => octets,
+    }
 }
 
-/// The numbers of all entries l2cap_version_N that are named.
+/// The ends of the names that hold this one, behind it.
+fn behind<'o>(octets: &'o [u8], name: &'o [u8]) -> impl Iterator<Item = &'o [u8]> {
+    names(octets).split(|octet| *octet == 0).filter_map(move |whole| {
+        let at = whole.windows(name.len()).rposition(|window| window == name)?;
+        whole.get(at + name.len()..)
+    })
+}
+
+/// The numbers of all entries l2cap_version_N.
 fn versions(octets: &[u8]) -> Vec<u32> {
-    let name = b"l2cap_version_";
-    let mut versions = Vec::new();
-    for start in octets.windows(name.len()).enumerate().filter_map(|(at, window)| (window == name).then_some(at + name.len())) {
-        let digits: String = octets[start..].iter().map(|octet| char::from(*octet)).take_while(char::is_ascii_digit).collect();
-        versions.extend(digits.parse::<u32>());
-    }
-    versions
+    behind(octets, b"l2cap_version_").filter_map(|number| std::str::from_utf8(number).ok()?.parse().ok()).collect()
 }

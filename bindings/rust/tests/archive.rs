@@ -29,9 +29,18 @@ fn archive(members: &[(&str, &[u8])]) -> Vec<u8> {
     octets
 }
 
+/// A table of symbols with these names, as archives begin with one.
+fn table(names: &str) -> Vec<u8> {
+    let count = names.matches('\0').count();
+    let mut table = u32::try_from(count).expect("few").to_be_bytes().to_vec();
+    table.resize(4 + 4 * count, b'/');
+    table.extend(names.bytes());
+    table
+}
+
 /// The archive as it ought to be, but for its machine and names.
 fn entries(machine: u16, names: &str) -> Vec<u8> {
-    archive(&[("/", b"odd"), ("//", b"long names"), ("entries.o/", &object(machine, names))])
+    archive(&[("/", &table(names)), ("//", b"odd"), ("entries.o/", &object(machine, ""))])
 }
 
 fn wrong(octets: &[u8], target: &Target) -> String {
@@ -44,6 +53,8 @@ const NAMES: &str = "l2cap_make\0l2cap_version_1\0";
 fn an_archive_for_the_target() {
     assert_eq!(judge("lib.a", &entries(0x3e, NAMES), &X86_64), Ok(Machine::Target));
     assert_eq!(judge("lib.a", &entries(0xb7, NAMES), &AARCH64), Ok(Machine::Target));
+    // Without a table of symbols the names stand in the object.
+    assert_eq!(judge("lib.a", &archive(&[("entries.o/", &object(0x3e, &format!("\0.text.{NAMES}")))]), &X86_64), Ok(Machine::Target));
 }
 
 #[test]
@@ -113,6 +124,10 @@ fn another_version() {
         let names = format!("l2cap_make\0l2cap_version_{other}\0");
         assert_eq!(wrong(&entries(0x3e, &names), &X86_64), format!("lib.a is of version {other}, and this crate is of version 1; {HOW}"));
     }
+    // The entries' names decide, and not those of the sections that they once stood in.
+    let sections = object(0x3e, "\0.text.l2cap_version_1\0");
+    let renamed = archive(&[("/", &table("l2cap_make\0l2cap_version_2\0")), ("entries.o/", &sections)]);
+    assert!(wrong(&renamed, &X86_64).starts_with("lib.a is of version 2, "));
 }
 
 #[test]

@@ -44,6 +44,7 @@ static void a_phone(void) {
     static const uint8_t grant[] = {8, 0, 5, 0, 0x16, 1, 4, 0, 0x40, 0, 1, 0};
     static const uint8_t sent[] = {5, 0, 0x50, 0, 3, 0, 1, 2, 3};
 
+    check(l2cap_version_1() == L2CAP_CHANNELS_VERSION, "the version is the header's");
     memset(room, 7, sizeof room);
     check(ROOM == L2CAP_ROOM_OCTETS(N, D, M) && l2cap_make(LENT, IN(room), N, D, M) == 0 && is(L2CAP_ANSWER_DONE), "make");
     check(zeros(IN(room)), "making zeroes the room");

@@ -123,8 +123,8 @@ fn each_entry_leaves_what_its_line_says() {
     let lines = read("edge_runs/specs/Entries.antt");
     let source = read("entries/src/lib.rt");
     let mut entries = contracts(&source, " pub extern \"C\" fn ");
-    // the first starts a run, the second is a function of the PDU alone
-    entries.retain(|(name, _)| !["l2cap_make", "l2cap_signal_rest"].contains(name));
+    // the first starts a run, the second is a function of the PDU alone, the third a number
+    entries.retain(|(name, _)| !["l2cap_make", "l2cap_signal_rest", "l2cap_version_1"].contains(name));
     for (name, contract) in &entries {
         assert!(lines.contains(&line(contract)), "{name}: no line has\n{}", line(contract));
     }

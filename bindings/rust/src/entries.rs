@@ -25,9 +25,13 @@ impl Returned {
 
 include!("rows.rs");
 
-/// Declares entries, each with its safe function: behind table and answer the slices that it is lent; its numbers; the slices that it reads.
+/// Declares entries, each with its safe function. A call: behind table and answer the slices that it is lent; its numbers; the slices that it reads. A question
+/// borrows the table and no more.
 macro_rules! entries {
-    ($(fn $call:ident = $entry:ident($($lent:ident),*; $($number:ident: $of:ty),*; $($read:ident),*);)*) => {
+    (
+        $(fn $call:ident = $entry:ident($($lent:ident),*; $($number:ident: $of:ty),*; $($read:ident),*);)*
+        $(ask $question:ident = $asked:ident($($about:ident: $kind:ty),*);)*
+    ) => {
         extern "C" {
             $(fn $entry(
                 table: *mut u8,
@@ -38,6 +42,7 @@ macro_rules! entries {
                 $($number: $of,)*
                 $($read: *const u8, _: usize,)*
             ) -> u32;)*
+            $(fn $asked(table: *const u8, _: usize, answer: *mut u8, _: usize, $($about: $kind,)*) -> u32;)*
         }
 
         $(#[allow(clippy::too_many_arguments)]
@@ -62,6 +67,13 @@ macro_rules! entries {
             };
             Returned { refusal, answer: Answer(answer) }
         })*
+
+        $(pub(crate) fn $question(table: &[u8; TABLE_OCTETS], $($about: $kind,)*) -> Returned {
+            let mut answer = [0; ANSWER_OCTETS];
+            // SAFETY: valid slices with their own lengths, the answer's nobody else's; the entry writes to no other and asks nothing more.
+            let refusal = unsafe { $asked(table.as_ptr(), table.len(), answer.as_mut_ptr(), answer.len(), $($about,)*) };
+            Returned { refusal, answer: Answer(answer) }
+        })*
     };
 }
 
@@ -69,10 +81,17 @@ rows!(entries);
 
 extern "C" {
     fn l2cap_signal_rest(pdu: *const u8, pdu_len: usize) -> usize;
+    fn l2cap_version_1() -> u32;
 }
 
 /// How many octets of the PDU stand behind its first signal.
 pub(crate) fn signal_rest(pdu: &[u8]) -> usize {
     // SAFETY: a valid slice with its own length; the entry asks nothing more.
     unsafe { l2cap_signal_rest(pdu.as_ptr(), pdu.len()) }
+}
+
+/// The version of the archive. Its entry is named after it, so that an archive of another version than these rows isn't linked.
+pub(crate) fn version() -> u32 {
+    // SAFETY: the entry asks nothing.
+    unsafe { l2cap_version_1() }
 }

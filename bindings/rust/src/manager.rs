@@ -31,6 +31,8 @@ impl<'r> ChannelManager<'r> {
 
     /// Makes the table anew, over the same room. A refused making leaves a table of no slots, and the room as it was.
     pub fn make(&mut self, channels: u16, queue: u16, packet: u16) -> Result<(), Refusal> {
+        // Asked for its name alone: with an archive of another version nothing that makes a table is linked.
+        entries::version();
         entries::make(&mut self.table.0, self.room, channels, queue, packet).told().map(|_| ())
     }
 
@@ -302,16 +304,16 @@ impl<'r> ChannelManager<'r> {
 
     // ---- questions
 
-    /// A slot's number. A question leaves the table as it is, but its entry is lent it: it gets a copy.
-    fn asked(&self, question: fn(&mut [u8; TABLE_OCTETS], u8) -> Returned, index: ChannelIndex) -> Result<u16, Refusal> {
-        question(&mut self.table.clone().0, index.0).told().map(|answer| answer.first())
+    /// A slot's number.
+    fn asked(&self, question: fn(&[u8; TABLE_OCTETS], u8) -> Returned, index: ChannelIndex) -> Result<u16, Refusal> {
+        question(&self.table.0, index.0).told().map(|answer| answer.first())
     }
 
     /// The slots that call for something.
     ///
     /// Refusal: 1.
     pub fn attention(&self) -> Result<Attention, Refusal> {
-        entries::attention(&mut self.table.clone().0).told().map(|answer| answer.attention())
+        entries::attention(&self.table.0).told().map(|answer| answer.attention())
     }
 
     /// The channel's SPSM; 0 where the slot is free.

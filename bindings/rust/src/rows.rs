@@ -1,5 +1,6 @@
-// The entries' rows: its name, the entry, and behind table and answer the slices that it is lent; its numbers; the slices that it reads. They stand here once, for the macro that
-// makes functions of them: `entries!` of entries.rs, and the oracle's, which calls the archive beside the original.
+// The entries' rows. A call (`fn`): its name, the entry, and behind table and answer the slices that it is lent; its numbers; the slices that it reads. A question (`ask`), which reads the
+// table and is lent the answer alone: its name, the entry, its numbers. They stand here once, for the macro that makes functions of them: `entries!` of entries.rs, and the oracle's, which
+// calls the archive beside the original.
 macro_rules! rows {
     ($of:ident) => {
         $of! {
@@ -25,12 +26,12 @@ macro_rules! rows {
             fn receive = l2cap_receive(room, signal, job; slot: u8;);
             fn send_conn_param_update_req = l2cap_send_conn_param_update_req(signal; link: u16, min: u16, max: u16, latency: u16, timeout: u16;);
             fn send_conn_param_update_res = l2cap_send_conn_param_update_res(signal; link: u16, result: u16;);
-            fn attention = l2cap_attention(;;);
-            fn spsm = l2cap_spsm(; slot: u8;);
-            fn mtu = l2cap_mtu(; slot: u8;);
-            fn mps = l2cap_mps(; slot: u8;);
-            fn peer_mtu = l2cap_peer_mtu(; slot: u8;);
-            fn peer_mps = l2cap_peer_mps(; slot: u8;);
+            ask attention = l2cap_attention();
+            ask spsm = l2cap_spsm(slot: u8);
+            ask mtu = l2cap_mtu(slot: u8);
+            ask mps = l2cap_mps(slot: u8);
+            ask peer_mtu = l2cap_peer_mtu(slot: u8);
+            ask peer_mps = l2cap_peer_mps(slot: u8);
         }
     };
 }

@@ -32,50 +32,47 @@ fn header() -> Entries {
         let (start, parameters) = declaration.strip_suffix(");").and_then(|line| line.split_once('(')).expect(declaration);
         let (result, name) = start.rsplit_once(' ').expect("a result and a name");
         let of = |parameter: &str| parameter.trim().trim_end_matches(|c: char| c.is_ascii_alphanumeric() || c == '_').trim().to_owned();
-        let mut types: Vec<String> =
-            parameters.split(',').filter(|parameter| *parameter != "void").map(|parameter| in_rust(&of(parameter))).collect();
+        let given = parameters.split(',').filter(|parameter| parameter.trim() != "void");
+        let mut types: Vec<String> = given.map(|parameter| in_rust(&of(parameter))).collect();
         types.push(in_rust(result.trim()));
         entries.insert(name.into(), types);
     }
     entries
 }
 
-/// The rows of the entries: slices that are lent, numbers, slices that are read. Behind table and answer come the first.
+/// The rows of the entries. A call: slices that are lent, numbers, slices that are read. A question: numbers. Table and answer come first, a question's table to be read.
 fn wrapper() -> Entries {
     let text = read("src/rows.rs");
     let rows = text.split("$of! {").nth(1).and_then(|rest| rest.split("\n        }").next()).expect("the rows");
     let slice = |kind: &str| [kind.to_owned(), "usize".into()];
     let mut entries = Entries::new();
-    for row in rows.lines().filter_map(|row| row.trim().strip_prefix("fn ")) {
+    for row in rows.lines().map(str::trim).filter(|row| !row.is_empty()) {
+        let (kind, row) = row.split_once(' ').expect("a kind");
         let (names, parameters) = row.trim_end_matches(");").split_once('(').expect("parameters");
         let (_, entry) = names.split_once(" = ").expect("two names");
         let groups: Vec<Vec<&str>> =
             parameters.split(';').map(|group| group.split(',').map(str::trim).filter(|name| !name.is_empty()).collect()).collect();
-        let [lent, numbers, read] = &groups[..] else { panic!("three groups: {row}") };
-        let mut types: Vec<String> = ["table", "answer"].iter().chain(lent).flat_map(|_| slice("*mut u8")).collect();
+        let none = Vec::new();
+        let (table, lent, numbers, read) = match (kind, &groups[..]) {
+            ("fn", [lent, numbers, read]) => ("*mut u8", lent, numbers, read),
+            ("ask", [numbers]) => ("*const u8", &none, numbers, &none),
+            _ => panic!("a row of no kind: {row}"),
+        };
+        let mut types = Vec::from(slice(table));
+        types.extend(["answer"].iter().chain(lent).flat_map(|_| slice("*mut u8")));
         types.extend(numbers.iter().map(|number| number.split_once(": ").expect("a number's type").1.to_owned()));
         types.extend(read.iter().flat_map(|_| slice("*const u8")));
         types.push("u32".into());
         entries.insert(entry.into(), types);
     }
     entries.insert("l2cap_signal_rest".into(), vec!["*const u8".into(), "usize".into(), "usize".into()]);
+    entries.insert("l2cap_version_1".into(), vec!["u32".into()]);
     entries
-}
-
-/// The questions' tables, which C lends to be read and Rust to be written: the archive writes back what stood there.
-fn as_in_c(mut rust: Entries) -> Entries {
-    for question in ["l2cap_spsm", "l2cap_mtu", "l2cap_mps", "l2cap_peer_mtu", "l2cap_peer_mps", "l2cap_attention"] {
-        let types = rust.get_mut(question).expect(question);
-        types[0] = "*const u8".into();
-    }
-    rust
 }
 
 #[test]
 fn both_declare_the_same() {
-    let (mut c, rust) = (header(), as_in_c(wrapper()));
-    // The version is an entry of the archive that the crate doesn't call: build.rs looks for its name.
-    assert_eq!(c.remove("l2cap_version_1"), Some(vec!["u32".into()]));
+    let (c, rust) = (header(), wrapper());
     assert!(!c.is_empty());
     assert_eq!(c, rust);
 }

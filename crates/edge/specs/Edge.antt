@@ -18,6 +18,7 @@ use Rattle.channel.specs.declared.Table.{Table}
 use Rattle.definition.specs.Table.{if_then_else_}
 use Rattle.definition.specs.Ending.{End, end}
 use Rattle.edge_layout.specs.Layout.{read, written, tableOctets}
+use Rattle.edge_layout.specs.Back.{written-back}
 use Rattle.edge_layout.specs.declared.Decoded.{Decoded}
 use Rattle.channel_answer.specs.Tells.{answerNumber}
 use Rattle.edge_answer.specs.Answers.{answerOctets}
@@ -88,6 +89,13 @@ pub on-table : (o a : List ℕ) (f : Table → End) {d : Decoded} {e : Edge} {x 
 unfolding onTable
 on-table o a f {d} known stored called =
     stored ∙ ap (lifted (d .ok) o a) called ∙ ap (λ (r : Decoded). lifted (r .ok) o a (f (r .table))) known
+
+-- A question gives back the table that it was given, so the table's octets stay, and the answer alone is written.
+pub on-asked : (o a : List ℕ) (f : Table → Served) → ((t : Table) → f t .table ≡ t)
+    → {d : Decoded} {s : Served} {number : ℕ} {answer : List ℕ} → d ≡ read o → s ≡ f (d .table) → number ≡ answerNumber (s .answer) → answer ≡ sets a 0 (answerOctets s)
+    → edge number o answer [] [] [] ≡ onTable o a (λ t. alone (f t))
+unfolding onTable lifted
+on-asked o a f keeps known called numbered told = rw (numbered, told, called, known, keeps (read o .table), written-back o)
 
 pub made-on : (o a : List ℕ) (f : Bool → End) {e : Edge} {x : End} → e ≡ lifted (eqb (length o) tableOctets) o a x → x ≡ f (eqb (length o) tableOctets) → e ≡ madeOn o a f
 unfolding madeOn

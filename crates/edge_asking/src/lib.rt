@@ -1,5 +1,6 @@
 // Making a table, the questions, and the two senders, each on octets: the table read, the call, the table and the answer written back. Each is
-// defined in specs/Asking.antt, by the call's own definition lifted through the two layouts. The exported names are in `entries`.
+// defined in specs/Asking.antt, by the call's own definition lifted through the two layouts. A question is lent the table to read alone: its contract is
+// of the same form, with the octets as they were for those at its end. The exported names are in `entries`.
 use channel::ChannelIndex;
 use edge_layout::TABLE_OCTETS;
 ghost use mathlib.Core.Path.{_≡_};
@@ -28,63 +29,63 @@ pub fn register_spsm(table: &mut [u8], answer: &mut [u8], spsm: u16) -> u32
 }
 
 // A slot's SPSM.
-pub fn spsm(table: &mut [u8], answer: &mut [u8], slot: u8) -> u32
-    ensures { λ r. ⌜ edge r (now (table .exit)) (now (answer .exit)) [] [] [] ≡ spsmEdge (now (table .entry)) (now (answer .entry)) slot ⌝ }
+pub fn spsm(table: &[u8], answer: &mut [u8], slot: u8) -> u32
+    ensures { λ r. ⌜ edge r (now (table .entry)) (now (answer .exit)) [] [] [] ≡ spsmEdge (now (table .entry)) (now (answer .entry)) slot ⌝ }
 {
     let d = edge_layout_decode::decode(table);
     let t = d.table;
     let s = call_queries::spsm(t, ChannelIndex(slot));
-    edge::store(table, answer, d.ok, s)
+    edge_answer::put_answer(answer, s)
 }
 
 // A slot's MTU.
-pub fn mtu(table: &mut [u8], answer: &mut [u8], slot: u8) -> u32
-    ensures { λ r. ⌜ edge r (now (table .exit)) (now (answer .exit)) [] [] [] ≡ mtuEdge (now (table .entry)) (now (answer .entry)) slot ⌝ }
+pub fn mtu(table: &[u8], answer: &mut [u8], slot: u8) -> u32
+    ensures { λ r. ⌜ edge r (now (table .entry)) (now (answer .exit)) [] [] [] ≡ mtuEdge (now (table .entry)) (now (answer .entry)) slot ⌝ }
 {
     let d = edge_layout_decode::decode(table);
     let t = d.table;
     let s = call_queries::mtu(t, ChannelIndex(slot));
-    edge::store(table, answer, d.ok, s)
+    edge_answer::put_answer(answer, s)
 }
 
 // A slot's MPS.
-pub fn mps(table: &mut [u8], answer: &mut [u8], slot: u8) -> u32
-    ensures { λ r. ⌜ edge r (now (table .exit)) (now (answer .exit)) [] [] [] ≡ mpsEdge (now (table .entry)) (now (answer .entry)) slot ⌝ }
+pub fn mps(table: &[u8], answer: &mut [u8], slot: u8) -> u32
+    ensures { λ r. ⌜ edge r (now (table .entry)) (now (answer .exit)) [] [] [] ≡ mpsEdge (now (table .entry)) (now (answer .entry)) slot ⌝ }
 {
     let d = edge_layout_decode::decode(table);
     let t = d.table;
     let s = call_queries::mps(t, ChannelIndex(slot));
-    edge::store(table, answer, d.ok, s)
+    edge_answer::put_answer(answer, s)
 }
 
 // The MTU of a slot's peer.
-pub fn peer_mtu(table: &mut [u8], answer: &mut [u8], slot: u8) -> u32
-    ensures { λ r. ⌜ edge r (now (table .exit)) (now (answer .exit)) [] [] [] ≡ peerMtuEdge (now (table .entry)) (now (answer .entry)) slot ⌝ }
+pub fn peer_mtu(table: &[u8], answer: &mut [u8], slot: u8) -> u32
+    ensures { λ r. ⌜ edge r (now (table .entry)) (now (answer .exit)) [] [] [] ≡ peerMtuEdge (now (table .entry)) (now (answer .entry)) slot ⌝ }
 {
     let d = edge_layout_decode::decode(table);
     let t = d.table;
     let s = call_queries::peer_mtu(t, ChannelIndex(slot));
-    edge::store(table, answer, d.ok, s)
+    edge_answer::put_answer(answer, s)
 }
 
 // The MPS of a slot's peer.
-pub fn peer_mps(table: &mut [u8], answer: &mut [u8], slot: u8) -> u32
-    ensures { λ r. ⌜ edge r (now (table .exit)) (now (answer .exit)) [] [] [] ≡ peerMpsEdge (now (table .entry)) (now (answer .entry)) slot ⌝ }
+pub fn peer_mps(table: &[u8], answer: &mut [u8], slot: u8) -> u32
+    ensures { λ r. ⌜ edge r (now (table .entry)) (now (answer .exit)) [] [] [] ≡ peerMpsEdge (now (table .entry)) (now (answer .entry)) slot ⌝ }
 {
     let d = edge_layout_decode::decode(table);
     let t = d.table;
     let s = call_queries::peer_mps(t, ChannelIndex(slot));
-    edge::store(table, answer, d.ok, s)
+    edge_answer::put_answer(answer, s)
 }
 
 // The slots that call.
-pub fn attention(table: &mut [u8], answer: &mut [u8]) -> u32
-    ensures { λ r. ⌜ edge r (now (table .exit)) (now (answer .exit)) [] [] [] ≡ attentionEdge (now (table .entry)) (now (answer .entry)) ⌝ }
+pub fn attention(table: &[u8], answer: &mut [u8]) -> u32
+    ensures { λ r. ⌜ edge r (now (table .entry)) (now (answer .exit)) [] [] [] ≡ attentionEdge (now (table .entry)) (now (answer .entry)) ⌝ }
 {
     let d = edge_layout_decode::decode(table);
     let t = d.table;
     let s = call_attention::attention(t);
-    edge::store(table, answer, d.ok, s)
+    edge_answer::put_answer(answer, s)
 }
 
 // Writes a request for connection parameters.

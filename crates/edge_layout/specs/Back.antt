@@ -1,10 +1,10 @@
--- A table is read back from its spelling, and it has one.
+-- A table is read back from its spelling, and it has one. So octets from which a table was read stay where that table is written back to them.
 use mathlib.Core.Path.{_≡_, refl, sym, ap, _∙_}
 use mathlib.Core.Bool.{Bool, true, false, false≢true}
 use mathlib.Core.List.{List, [], _∷_}
 use Prim.Native.Nat.{ℕ, _/_, _%_, _<_, _≤_}
 use native.Mathlib.Omega.{arith}
-use lib.Dec.{eqb}
+use lib.Dec.{eqb, ltb}
 use lib.ListN.{length, getD, take}
 use lib.Seq.{sets, take-at}
 use borrow.Author.Tests.{eqb-true, eq-eqb, le-ltb}
@@ -12,7 +12,7 @@ use Rattle.lists.specs.Choose.{choose}
 use Rattle.lists.specs.Both.{and-left, and-right}
 use Rattle.octets.specs.Octets.{part, u16At}
 use Rattle.octets.specs.Numbers.{le16-back}
-use Rattle.octets.specs.Sets.{part-same}
+use Rattle.octets.specs.Sets.{part-same, sets-whole}
 use Rattle.channel.specs.Limits.{slotsMost, depthMost}
 use Rattle.channel.specs.declared.Slot.{Slot}
 use Rattle.channel.specs.declared.Table.{Table}
@@ -112,3 +112,17 @@ one-spelling o t e = go (same (spell (taken o)) o) refl
         let q : taken o ≡ t = ap (λ (x : Decoded). x .table) (rw s at e) in
         sym (same-eq (spell (taken o)) o s) ∙ ap spell q
     go false s = absurd (false≢true (ap (λ (x : Decoded). x .ok) (rw s at e)))
+
+-- written back as it was read, a table changes no octet
+pub written-back : (o : List ℕ) → choose (read o .ok) (written o (read o .table)) o ≡ o
+unfolding read written choose
+written-back o = go (same (spell (taken o)) o) refl
+  where
+    -- octets written over themselves
+    over : (b : Bool) → choose b o (sets o 0 o) ≡ o
+    over true = refl
+    over false = sets-whole o o refl
+
+    go : (b : Bool) → same (spell (taken o)) o ≡ b → choose (read o .ok) (written o (read o .table)) o ≡ o
+    go true s = rw (s, same-eq (spell (taken o)) o s) (over (ltb (length o) tableOctets))
+    go false s = rw s

@@ -1,6 +1,6 @@
 // The calls for C and Rust, on numbers and octets: a static library. Each entry reads the table from its 672 octets, makes the call, writes table and
-// answer back, and returns 0 or the refusal's number: the function of that name in `edge_asking`, `edge_opening`, `edge_closing::hold`, `edge_closing` or `edge_frames`,
-// whose definition is the entry's too. It is the call's own, lifted through the two layouts (Edge.antt of `edge`).
+// answer back, or for a question the answer alone, and returns 0 or the refusal's number: the function of that name in `edge_asking`, `edge_pending`, `edge_opening`, `edge_closing`,
+// `edge_signals` or `edge_frames`, whose definition is the entry's too. It is the call's own, lifted through the two layouts (Edge.antt of `edge`).
 ghost use mathlib.Core.Path.{_≡_};
 ghost use mathlib.Core.List.{[]};
 ghost use lib.ListN.{length};
@@ -39,48 +39,48 @@ pub extern "C" fn l2cap_register_spsm(table: &mut [u8], answer: &mut [u8], spsm:
 
 // A slot's SPSM.
 #[no_mangle]
-pub extern "C" fn l2cap_spsm(table: &mut [u8], answer: &mut [u8], slot: u8) -> u32
-    ensures { λ r. ⌜ edge r (now (table .exit)) (now (answer .exit)) [] [] [] ≡ spsmEdge (now (table .entry)) (now (answer .entry)) slot ⌝ }
+pub extern "C" fn l2cap_spsm(table: &[u8], answer: &mut [u8], slot: u8) -> u32
+    ensures { λ r. ⌜ edge r (now (table .entry)) (now (answer .exit)) [] [] [] ≡ spsmEdge (now (table .entry)) (now (answer .entry)) slot ⌝ }
 {
     edge_asking::spsm(table, answer, slot)
 }
 
 // A slot's MTU.
 #[no_mangle]
-pub extern "C" fn l2cap_mtu(table: &mut [u8], answer: &mut [u8], slot: u8) -> u32
-    ensures { λ r. ⌜ edge r (now (table .exit)) (now (answer .exit)) [] [] [] ≡ mtuEdge (now (table .entry)) (now (answer .entry)) slot ⌝ }
+pub extern "C" fn l2cap_mtu(table: &[u8], answer: &mut [u8], slot: u8) -> u32
+    ensures { λ r. ⌜ edge r (now (table .entry)) (now (answer .exit)) [] [] [] ≡ mtuEdge (now (table .entry)) (now (answer .entry)) slot ⌝ }
 {
     edge_asking::mtu(table, answer, slot)
 }
 
 // A slot's MPS.
 #[no_mangle]
-pub extern "C" fn l2cap_mps(table: &mut [u8], answer: &mut [u8], slot: u8) -> u32
-    ensures { λ r. ⌜ edge r (now (table .exit)) (now (answer .exit)) [] [] [] ≡ mpsEdge (now (table .entry)) (now (answer .entry)) slot ⌝ }
+pub extern "C" fn l2cap_mps(table: &[u8], answer: &mut [u8], slot: u8) -> u32
+    ensures { λ r. ⌜ edge r (now (table .entry)) (now (answer .exit)) [] [] [] ≡ mpsEdge (now (table .entry)) (now (answer .entry)) slot ⌝ }
 {
     edge_asking::mps(table, answer, slot)
 }
 
 // The MTU of a slot's peer.
 #[no_mangle]
-pub extern "C" fn l2cap_peer_mtu(table: &mut [u8], answer: &mut [u8], slot: u8) -> u32
-    ensures { λ r. ⌜ edge r (now (table .exit)) (now (answer .exit)) [] [] [] ≡ peerMtuEdge (now (table .entry)) (now (answer .entry)) slot ⌝ }
+pub extern "C" fn l2cap_peer_mtu(table: &[u8], answer: &mut [u8], slot: u8) -> u32
+    ensures { λ r. ⌜ edge r (now (table .entry)) (now (answer .exit)) [] [] [] ≡ peerMtuEdge (now (table .entry)) (now (answer .entry)) slot ⌝ }
 {
     edge_asking::peer_mtu(table, answer, slot)
 }
 
 // The MPS of a slot's peer.
 #[no_mangle]
-pub extern "C" fn l2cap_peer_mps(table: &mut [u8], answer: &mut [u8], slot: u8) -> u32
-    ensures { λ r. ⌜ edge r (now (table .exit)) (now (answer .exit)) [] [] [] ≡ peerMpsEdge (now (table .entry)) (now (answer .entry)) slot ⌝ }
+pub extern "C" fn l2cap_peer_mps(table: &[u8], answer: &mut [u8], slot: u8) -> u32
+    ensures { λ r. ⌜ edge r (now (table .entry)) (now (answer .exit)) [] [] [] ≡ peerMpsEdge (now (table .entry)) (now (answer .entry)) slot ⌝ }
 {
     edge_asking::peer_mps(table, answer, slot)
 }
 
 // The slots that call.
 #[no_mangle]
-pub extern "C" fn l2cap_attention(table: &mut [u8], answer: &mut [u8]) -> u32
-    ensures { λ r. ⌜ edge r (now (table .exit)) (now (answer .exit)) [] [] [] ≡ attentionEdge (now (table .entry)) (now (answer .entry)) ⌝ }
+pub extern "C" fn l2cap_attention(table: &[u8], answer: &mut [u8]) -> u32
+    ensures { λ r. ⌜ edge r (now (table .entry)) (now (answer .exit)) [] [] [] ≡ attentionEdge (now (table .entry)) (now (answer .entry)) ⌝ }
 {
     edge_asking::attention(table, answer)
 }
@@ -382,4 +382,13 @@ pub extern "C" fn l2cap_signal_rest(pdu: &[u8]) -> usize
     ensures { λ r. ⌜ r ≡ length (restOf (now (pdu .entry))) ⌝ }
 {
     signal_headers::rest(pdu).len()
+}
+
+// The version of this edge, the header's L2CAP_CHANNELS_VERSION. The number is in the name too: it goes up when an entry's parameters, the table's layout or the answer's
+// change, so that a header and an archive of different versions are not linked.
+#[no_mangle]
+pub extern "C" fn l2cap_version_1() -> u32
+    ensures { λ r. ⌜ r ≡ 1 ⌝ }
+{
+    1
 }

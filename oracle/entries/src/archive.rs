@@ -5,9 +5,13 @@
 
 include!("../../../bindings/rust/src/rows.rs");
 
-/// Declares entries, each with its safe function: behind table and answer the slices that it is lent; its numbers; the slices that it reads.
+/// Declares entries, each with its safe function. A call: behind table and answer the slices that it is lent; its numbers; the slices that it reads. A question is
+/// told that it may only read the table, but given memory that could be written, so that a write would show.
 macro_rules! entries {
-    ($(fn $call:ident = $entry:ident($($lent:ident),*; $($number:ident: $of:ty),*; $($read:ident),*);)*) => {
+    (
+        $(fn $call:ident = $entry:ident($($lent:ident),*; $($number:ident: $of:ty),*; $($read:ident),*);)*
+        $(ask $question:ident = $asked:ident($($about:ident: $kind:ty),*);)*
+    ) => {
         extern "C" {
             $(fn $entry(
                 table: *mut u8,
@@ -18,6 +22,7 @@ macro_rules! entries {
                 $($number: $of,)*
                 $($read: *const u8, _: usize,)*
             ) -> u32;)*
+            $(fn $asked(table: *const u8, _: usize, answer: *mut u8, _: usize, $($about: $kind,)*) -> u32;)*
         }
 
         $(#[allow(clippy::too_many_arguments)]
@@ -40,6 +45,11 @@ macro_rules! entries {
                     $($read.as_ptr(), $read.len(),)*
                 )
             }
+        })*
+
+        $(pub fn $question(table: &mut [u8], answer: &mut [u8], $($about: $kind,)*) -> u32 {
+            // SAFETY: as above.
+            unsafe { $asked(table.as_mut_ptr(), table.len(), answer.as_mut_ptr(), answer.len(), $($about,)*) }
         })*
     };
 }

@@ -53,7 +53,7 @@ static void fed(unsigned signals) {
         double from = now(), took;
         for (size_t left = 4 * signals; left;) {
             const uint8_t *rest = pdu + 4 * signals - left;
-            l2cap_signal(table, sizeof table, answer, sizeof answer, room, sizeof room, signal, sizeof signal, 1, 1, 0, rest, left);
+            l2cap_signal(LENT, IN(room), IN(signal), 1, 1, 0, rest, left);
             left = l2cap_signal_rest(rest, left);
         }
         took = now() - from;
@@ -73,7 +73,7 @@ int main(void) {
     CALL("register_spsm", l2cap_register_spsm(LENT, 0x80));
     CALL("signal, a connect request", l2cap_signal(LENT, IN(room), IN(signal), 1, 1, 0, IN(request)));
     CALL("next_pending", l2cap_next_pending(LENT, 1, 1));
-    CALL("accept_pending", l2cap_accept_pending(LENT, IN(signal), 0, 65536, 65536, 0, 1, 65536));
+    CALL("accept_pending", l2cap_accept_pending(LENT, IN(signal), 0, L2CAP_DEFAULT, L2CAP_DEFAULT, L2CAP_EVERY, 1, L2CAP_DEFAULT));
     CALL("signal, credits", l2cap_signal(LENT, IN(room), IN(signal), 1, 1, 0, IN(credits)));
     CALL("signal, unknown", l2cap_signal(LENT, IN(room), IN(signal), 1, 1, 0, IN(unknown)));
     CALL("dispatch, a whole job", l2cap_dispatch(LENT, IN(room), 1, 0x40, IN(frame)));
@@ -84,17 +84,17 @@ int main(void) {
     CALL("send", l2cap_send(LENT, IN(out), 0, IN(frame)));
     CALL("inc_ref", l2cap_inc_ref(LENT, 0));
     CALL("dec_ref", l2cap_dec_ref(LENT, IN(room), 0));
-    CALL("create", l2cap_create(LENT, IN(signal), 1, 0x80, 65536, 65536, 0, 1, 65536));
+    CALL("create", l2cap_create(LENT, IN(signal), 1, 0x80, L2CAP_DEFAULT, L2CAP_DEFAULT, L2CAP_EVERY, 1, L2CAP_DEFAULT));
     CALL("opened, no answer yet", l2cap_opened(LENT, IN(room), 1, 1, 1));
     CALL("give_up", l2cap_give_up(LENT, IN(room), 1));
     CALL("disconnect", l2cap_disconnect(LENT, IN(room), 0));
     CALL("next_disconnect", l2cap_next_disconnect(LENT, IN(room), IN(signal)));
     CALL("disconnected", l2cap_disconnected(LENT, IN(room), 1));
-    again();
-    puts("\n| signals | octets | µs in all | µs a signal |\n|---|---|---|---|");
-    fed(1), fed(5), fed(20), fed(100), fed(250), fed(1000), fed(SIGNALS);
     kept[0] = 99;
-    puts("\n| call | answer | copies of the table | ns |\n|---|---|---|---|");
     CALL("attention, no table", l2cap_attention(LENT));
+
+    puts("\n| signals | octets | µs in all | µs a signal |\n|---|---|---|---|");
+    l2cap_make(LENT, IN(room), N, D, M);
+    fed(1), fed(5), fed(20), fed(100), fed(250), fed(1000), fed(SIGNALS);
     return 0;
 }

@@ -44,7 +44,7 @@ fn fetch(input: &mut [u8], h: Held) -> Fetched {
         let ready = text_lines::ready(input, held);
         let n = read_more(input, ready.end);
         if n == 0 {
-            let last = text_lines::last_line(ready);
+            let last = text_lines::last_line(input, ready);
             return Fetched {
                 found: last,
                 held: ready,

@@ -2,30 +2,58 @@
 -- the text was read.
 use mathlib.Core.Path.{_≡_, refl, sym, ap, _∙_}
 use mathlib.Core.Bool.{Bool, true, false}
-use mathlib.Core.List.{List, [], _∷_, _++_}
+use mathlib.Core.List.{List, [], _∷_, _++_, append-nil}
 use Prim.Native.Nat.{ℕ, zero, suc, _+_, _-_, _≤_, _<_, min}
 use native.Mathlib.Numerals.{unary-clauses}
 use native.Mathlib.Omega.{arith}
-use lib.Dec.{ltb}
+use lib.Dec.{eqb, ltb}
 use lib.ListN.{length, take, drop, length-take, length-drop}
 use lib.Seq.{take-take, drop-drop, take-nil}
 use borrow.Author.Tests.{ltb-true, ltb-false}
 use Rattle.lists.specs.Choose.{choose}
 use Rattle.lists.specs.First.{first}
 use Rattle.octets.specs.Octets.{part}
-use Rattle.text_lines.specs.Lines.{isNewline}
+use Rattle.text_lines.specs.Lines.{isNewline, isNote, ownOf, asked, lineAs, longAs}
+use Rattle.text_lines.specs.LineLaws.{own-taken}
 use Rattle.text_words.specs.Words.{textOf}
 use Rattle.text_lines.specs.declared.Held.{Held}
 use Rattle.text_lines.specs.declared.Found.{Found}
 use Rattle.text_lines.specs.declared.Found.the-variants as Found
 use Rattle.text_lines.specs.Lines.{held, textIn, newlineIn, nextOf}
-use Rattle.text_lines_laws.specs.Reading.{Event, line, long, Reading, within, passing, told, told-line, told-long, told-passed, told-passing}
+use Rattle.text_lines_laws.specs.Reading.{Event, line, long, Reading, within, passing, lineTells, longTells, told, told-line, told-long, told-passed, told-passing}
 
 unfoldable pub toldBy : List ℕ → Found → List Event
 toldBy buf (Found.Line w) = line (textOf buf w) ∷ []
 toldBy buf Found.Passed = []
 toldBy buf Found.Long = long ∷ []
 toldBy buf Found.More = []
+
+-- what a line is found as tells what the line tells
+line-told : (buf : List ℕ) (start end : ℕ) → toldBy buf (lineAs buf start end) ≡ lineTells (part buf start (end - start))
+unfolding asked toldBy lineTells choose
+line-told buf start end = go (eqb (length (ownOf text)) 0) (isNote text)
+  where
+    text : List ℕ
+    text = part buf start (end - start)
+
+    n : ℕ
+    n = length (ownOf text)
+
+    stands : part buf start (start + n - start) ≡ ownOf text
+    stands = let e : start + n - start ≡ n = omega arith in rw e (own-taken (end - start) (drop start buf))
+
+    go : (b c : Bool) → toldBy buf (choose b Found.Passed (choose c Found.Passed (Found.Line (record { start = start; end = start + n })))) ≡ choose b [] (choose c [] (line (ownOf text) ∷ []))
+    go true c = refl
+    go false true = refl
+    go false false = ap (λ l. line l ∷ []) stands
+
+long-told : (buf text : List ℕ) → toldBy buf (longAs text) ≡ longTells text
+unfolding longAs toldBy longTells choose
+long-told buf text = go (isNote text)
+  where
+    go : (b : Bool) → toldBy buf (choose b Found.Passed Found.Long) ≡ choose b [] (long ∷ [])
+    go true = refl
+    go false = refl
 
 unfoldable pub readingOf : Bool → Reading
 readingOf skipping = choose skipping passing (within [])
@@ -84,8 +112,9 @@ module _ (buf : List ℕ) (start end : ℕ) (ordered : start ≤ end) (inside : 
       let h : i < length text = omega (arith, ltb-true (start + i) (min end (length buf)) e, long-text) in
       rw e
       (told-line (length buf) [] text h (omega (arith, long-text))
-      ∙ ap (λ (l : List ℕ). line l ∷ told (length buf) (within []) (drop (suc i) text)) (word h)
-      ∙ ap (λ (l : List ℕ). line (part buf start (start + i - start)) ∷ told (length buf) (within []) l) rest)
+      ∙ ap (λ (l : List ℕ). lineTells l ++ told (length buf) (within []) (drop (suc i) text)) (word h)
+      ∙ ap (λ (l : List ℕ). lineTells (part buf start (start + i - start)) ++ told (length buf) (within []) l) rest
+      ∙ ap (λ (t : List Event). t ++ told (length buf) (within []) (part buf (start + i + 1) (end - (start + i + 1)))) (sym (line-told buf start (start + i))))
   go skipping false true e f = rw (e, f)
   go true false false e f =
       let n : i ≡ length text = omega (arith, ltb-false (start + i) (min end (length buf)) e, long-text, first-le text) in
@@ -93,7 +122,7 @@ module _ (buf : List ℕ) (start end : ℕ) (ordered : start ≤ end) (inside : 
   go false false false e f =
       let n : i ≡ length text = omega (arith, ltb-false (start + i) (min end (length buf)) e, long-text, first-le text) in
       let m = ltb-false (end - start) (length buf) f in
-      rw (e, f) (told-long (length buf) [] text n (omega arith) (omega (arith, long-text)))
+      rw (e, f) (told-long (length buf) [] text n (omega arith) (omega (arith, long-text)) ∙ sym (long-told buf text) ∙ sym (append-nil (toldBy buf (longAs text))))
 
 -- what is held tells what `next_line` finds, and then what is held behind that
 pub next-tells : (buf : List ℕ) (h : Held) → h .start ≤ h .end → h .end ≤ length buf → 0 < length buf

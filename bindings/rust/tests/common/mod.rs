@@ -1,6 +1,8 @@
 //! What the tests share. Scripts of the same names stand in the port's readings of its scope: two slots, two waiting jobs, packets of 64 octets.
 #![allow(dead_code)]
 
+pub mod calls;
+
 use l2cap_channels::*;
 
 pub const PHONE: ConnHandle = ConnHandle(1);

@@ -1,0 +1,351 @@
+//! docs/REFUSALS.md: its rows are the refusals, its tables say the same as one another, and a call refuses by what the page lists for it, in that order, and by
+//! nothing else. And the names in examples/refusals.script.
+
+mod common;
+
+use common::calls::*;
+use common::*;
+use l2cap_channels::*;
+use std::collections::{BTreeMap, BTreeSet};
+use std::path::Path;
+
+const REFUSALS: [Refusal; 23] = [
+    Refusal::BadTable,
+    Refusal::BadRoom,
+    Refusal::NoRoom,
+    Refusal::BadHandle,
+    Refusal::BadSpsm,
+    Refusal::BadSlot,
+    Refusal::InvalidChannelId,
+    Refusal::NotFound,
+    Refusal::InvalidValue,
+    Refusal::OutOfMemory,
+    Refusal::ChannelClosed,
+    Refusal::InsufficientSpace,
+    Refusal::NoChannelAvailable,
+    Refusal::Busy,
+    Refusal::Decode,
+    Refusal::NotSupported,
+    Refusal::ConnectError(LeCreditConnResultCode::NoResources),
+    Refusal::Disconnected,
+    Refusal::ShortFrame,
+    Refusal::BadMps,
+    Refusal::QueueFull,
+    Refusal::Held,
+    Refusal::TooLong,
+];
+
+/// What every call tests first.
+const FIRST: [u8; 5] = [1, 2, 3, 4, 6];
+
+/// A file of the repository.
+fn read(file: &str) -> String {
+    std::fs::read_to_string(Path::new(env!("CARGO_MANIFEST_DIR")).join("../..").join(file)).expect(file)
+}
+
+fn name_of(refusal: Refusal) -> String {
+    format!("{refusal:?}").split('(').next().expect("a name").to_owned()
+}
+
+/// The cells of each row of the table under a heading.
+fn table(heading: &str) -> Vec<Vec<String>> {
+    let page = read("docs/REFUSALS.md");
+    let section = page.split("\n## ").find_map(|section| section.strip_prefix(heading)).expect(heading);
+    let rows = section.lines().filter(|line| line.starts_with("| ")).skip(1);
+    rows.map(|row| row.split('|').map(|cell| cell.trim().to_owned()).skip(1).take(row.matches('|').count() - 1).collect()).collect()
+}
+
+fn numbers(cell: &str) -> Vec<u8> {
+    cell.split(' ').map(|number| number.parse().expect("numbers with a space between")).collect()
+}
+
+/// Each call's name, the letter of its line, and its refusals in order.
+fn calls() -> Vec<(String, String, Vec<u8>)> {
+    let bare = |cell: &str| cell.trim_matches('`').to_owned();
+    table("The calls").iter().map(|row| (bare(&row[0]), bare(&row[1]), numbers(&row[2]))).collect()
+}
+
+/// A call's refusals: those that it tests first, and its own.
+fn parted(list: &[u8]) -> (&[u8], &[u8]) {
+    list.split_at(list.iter().position(|number| !FIRST.contains(number)).unwrap_or(list.len()))
+}
+
+#[test]
+fn its_rows_are_the_refusals() {
+    let rows = table("The refusals");
+    assert_eq!(rows.len(), REFUSALS.len());
+    for (row, refusal) in rows.iter().zip(REFUSALS) {
+        assert_eq!(row[0], refusal.number().to_string());
+        assert_eq!(row[1], name_of(refusal));
+        assert!(row.len() == 6 && row.iter().all(|cell| !cell.is_empty()), "{refusal}: a cell is missing");
+    }
+}
+
+#[test]
+fn its_tables_agree() {
+    let calls = calls();
+    for row in table("The refusals") {
+        let number = row[0].parse().expect("a number");
+        let listed = calls.iter().filter(|(_, _, list)| list.contains(&number));
+        let given: Vec<String> = listed.map(|(name, letter, _)| format!("`{name}` `{letter}`")).collect();
+        let wanted = if given.len() == calls.len() { "every call".to_owned() } else { given.join(", ") };
+        assert_eq!(row[4], wanted, "refusal {number}");
+    }
+    let signals: BTreeSet<u8> = table("The signals").iter().flat_map(|row| numbers(&row[2])).collect();
+    let (_, _, list) = calls.iter().find(|(name, _, _)| name == "signal").expect("signal");
+    // 15 and 9, of the header check, are some signal's too.
+    assert_eq!(signals, parted(list).1.iter().copied().collect());
+}
+
+#[test]
+fn it_has_every_call() {
+    let names: BTreeSet<String> = calls().into_iter().map(|(name, _, _)| name).collect();
+    assert_eq!(names, CALLS.iter().chain(&["make"]).map(|name| name.to_string()).collect());
+}
+
+/// Everything that a call is given is bad. It refuses by the first number of its list; that is mended, and it refuses by the next.
+#[test]
+fn the_first_tests_are_in_its_order() {
+    for (name, _, list) in calls() {
+        if name == "make" {
+            assert_eq!(list, [1, 2]);
+            assert_eq!(ChannelManager::new(0, 2, 64, &mut []).err(), Some(Refusal::BadTable));
+            assert_eq!(ChannelManager::new(2, 2, 64, &mut []).err(), Some(Refusal::BadRoom));
+            assert!(ChannelManager::new(2, 2, 64, &mut [0; ROOM]).is_ok());
+            continue;
+        }
+        let (good, whole) = busy();
+        let (mut table, mut room, mut signal) = (Table::from_octets([0; TABLE_OCTETS]), Vec::new(), Vec::new());
+        let (mut link, mut index) = (HIGH, ChannelIndex(255));
+        let (first, _) = parted(&list);
+        for number in first.iter().copied().map(Some).chain([None]) {
+            let mut its_room = room.clone();
+            let mut channels = ChannelManager::from_parts(table.clone(), &mut its_room);
+            let refused = call(&name, &mut channels, link, index, &mut signal).map(Refusal::number);
+            assert_eq!(refused.filter(|number| FIRST.contains(number)), number, "{name}: {first:?}");
+            match number {
+                Some(1) => table = good.clone(),
+                Some(2) => room = whole.clone(),
+                Some(3) => signal = BUFFER.to_vec(),
+                Some(4) => link = PHONE,
+                Some(_) => index = SLOT,
+                None => {}
+            }
+        }
+    }
+}
+
+/// Where two refusals of a call are due, it gives the first of them: on the page they stand side by side in this order.
+fn before(name: &str, first: Refusal, second: Refusal, refused: Option<Refusal>) {
+    assert_eq!(refused, Some(first), "{name}: {first} and {second} are due");
+    let (_, _, list) = calls().into_iter().find(|(call, _, _)| call == name).expect(name);
+    assert!(list.windows(2).any(|two| two == [first.number(), second.number()]), "{name}: {second} isn't next to {first}");
+}
+
+#[test]
+fn the_other_tests_are_in_its_order() {
+    use Refusal::*;
+    let refused = ConnectError(LeCreditConnResultCode::NoResources);
+    let usual = L2capChannelConfig::default();
+    let large = L2capChannelConfig { mtu: Some(59), ..usual };
+    let (mut signal, mut out) = (BUFFER, [0; 64]);
+
+    // Nothing is in the slot, and nobody holds it.
+    let mut room = [0; ROOM];
+    let mut channels = made(&mut room);
+    before("accept_pending", InsufficientSpace, NotFound, channels.accept_pending(SLOT, &large, &mut signal).err());
+    before("accept_pending", NotFound, Held, channels.accept_pending(SLOT, &usual, &mut signal).err());
+    before("reject_pending", NotFound, Held, channels.reject_pending(SLOT, LeCreditConnResultCode::NoResources, &mut signal).err());
+    before("opened", Disconnected, NotFound, channels.opened(SLOT, PHONE, true).err());
+    before("send", ChannelClosed, InsufficientSpace, channels.send(SLOT, &[1], &mut out).err());
+    for (first, second, pdu) in [
+        (InvalidValue, NotSupported, "9901000016090500"),
+        (Decode, NotFound, "15010a0050006400170005000300"),
+        (NotFound, refused, "15010a0050006400170005000400"),
+    ] {
+        before("signal", first, second, feed(&mut channels, PHONE, pdu)[0].0.err());
+    }
+
+    // No slot is free.
+    channels.inc_ref(SLOT).expect("held");
+    channels.inc_ref(ChannelIndex(1)).expect("held");
+    before("create", InsufficientSpace, NoChannelAvailable, channels.create(PHONE, SPSM, &large, &mut signal).err());
+
+    // An attempt that failed, on a link that is down, and held.
+    let mut room = [0; ROOM];
+    let mut channels = made(&mut room);
+    for (up, pdu, first, second) in
+        [(false, "15010a0000000000000000000400", Disconnected, refused), (true, "15020a0000000000000000000400", refused, Held)]
+    {
+        channels.create(PHONE, SPSM, &usual, &mut signal).expect("an attempt");
+        assert_eq!(feed(&mut channels, PHONE, pdu)[0].0, Err(refused));
+        if up {
+            channels.inc_ref(SLOT).expect("held");
+        }
+        before("opened", first, second, channels.opened(SLOT, PHONE, up).err());
+    }
+
+    // An open channel, held, without a credit on either side and with an MPS that is too small.
+    let mut room = [0; ROOM];
+    let mut channels = made(&mut room);
+    open(&mut channels, PHONE, &request(0x50, 65535, 22, 0), &L2capChannelConfig { initial_credits: Some(0), ..usual });
+    before("opened", NotFound, Disconnected, channels.opened(SLOT, OTHER, false).err());
+    before("dispatch", NotFound, OutOfMemory, channels.dispatch(OTHER, SLOT.cid(), &[]).err());
+    before("dispatch", OutOfMemory, ShortFrame, channels.dispatch(PHONE, SLOT.cid(), &[]).err());
+    before("send", InsufficientSpace, TooLong, channels.send(SLOT, &vec![1; 65536], &mut out).err());
+    before("send", TooLong, BadMps, channels.send(SLOT, &vec![1; 65534], &mut out).err());
+    before("send", BadMps, Busy, channels.send(SLOT, &[1], &mut out).err());
+
+    // An open channel without a credit for us, in which two jobs wait.
+    let mut room = [0; ROOM];
+    let mut channels = made(&mut room);
+    open(&mut channels, PHONE, &request(0x50, 100, 23, 0), &L2capChannelConfig { initial_credits: Some(9), ..usual });
+    before("send", Busy, NoRoom, channels.send(SLOT, &[1], &mut []).err());
+    for _ in 0..2 {
+        channels.dispatch(PHONE, SLOT.cid(), &[0, 0]).expect("a job");
+    }
+    before("dispatch", InvalidValue, QueueFull, channels.dispatch(PHONE, SLOT.cid(), &[1, 0, 1, 2]).err());
+}
+
+/// A script's comment that begins with a number names that refusal, and the next line's row has it.
+#[test]
+fn the_script_of_refusals_names_them() {
+    let script = read("examples/refusals.script");
+    let rows = read("examples/refusals.rows");
+    // One row a line; of a view, the first alone.
+    let mut rows = rows.lines().skip(1).filter(|row| !row.starts_with('='));
+    let (mut said, mut named) = (None, BTreeSet::new());
+    for line in script.lines().filter(|line| !line.is_empty()) {
+        if let Some(comment) = line.strip_prefix("# ") {
+            let mut words = comment.split([' ', ':', ',']);
+            said = words.next().and_then(|word| word.parse::<usize>().ok());
+            if let Some(number) = said {
+                assert!(words.next().is_some_and(|name| name == name_of(REFUSALS[number - 1])), "{comment}");
+            }
+        } else {
+            let row = rows.next().expect("a row a line");
+            if let Some(number) = said.take() {
+                assert_eq!(row.split(' ').next(), Some(number.to_string().as_str()), "{line}");
+                named.insert(number);
+            }
+        }
+    }
+    // 2 and 3 can't be reached, and 23 needs a long line.
+    assert_eq!(named, (1..=22).filter(|number| ![2, 3].contains(number)).collect());
+}
+
+/// Numbers that look drawn, the same in every run.
+struct Chance(u64);
+
+impl Chance {
+    fn of<T: Copy>(&mut self, from: &[T]) -> T {
+        self.0 = self.0.wrapping_mul(6364136223846793005).wrapping_add(1442695040888963407);
+        from[(self.0 >> 33) as usize % from.len()]
+    }
+}
+
+/// A signal, and what the page calls it: its code where its header is good.
+fn any_signal(chance: &mut Chance, table: &Table) -> (Vec<u8>, String) {
+    let code = chance.of(&[0x01, 0x06, 0x07, 0x12, 0x13, 0x14, 0x15, 0x16, 0x14, 0x15, 0x16, 0x02]);
+    let fields: [u16; 5] = match code {
+        0x06 | 0x07 => [chance.of(&[0x3F, 0x40, 0x41]), chance.of(&[0x40, 0x41]), 0, 0, 0],
+        0x14 => [SPSM, chance.of(&[0x50, 0x51]), chance.of(&[100, 65535]), chance.of(&[22, 23, 65535]), chance.of(&[0, 5, 65535])],
+        0x15 => [chance.of(&[0x50, 0x51]), 65535, chance.of(&[22, 23, 65535]), chance.of(&[0, 5, 65535]), chance.of(&[0, 0, 3, 4])],
+        0x16 => [chance.of(&[0x50, 0x51]), chance.of(&[1, 65535]), 0, 0, 0],
+        _ => [6, 6, 0, 10, 0],
+    };
+    let body: Vec<u8> = fields.iter().flat_map(|field| field.to_le_bytes()).collect();
+    let length = match code {
+        0x01 | 0x13 => 2,
+        0x06 | 0x07 | 0x16 => 4,
+        0x12 => 8,
+        _ => 10,
+    };
+    // The last identifiers that we gave, for a response.
+    let identifier = table.identifier().wrapping_sub(chance.of(&[1, 1, 2, 3]));
+    let length = length - chance.of(&[0, 0, 0, 0, 1]);
+    let mut pdu = [&[code, identifier, length as u8, 0], &body[..length]].concat();
+    let name = match chance.of(&[0, 0, 0, 0, 0, 1, 2]) {
+        0 if code == 0x02 => "another".to_owned(),
+        0 => format!("{code:#04x}"),
+        cut => {
+            pdu.truncate(if cut == 1 { 3 } else { 4 });
+            "a bad header".to_owned()
+        }
+    };
+    (pdu, name)
+}
+
+/// A call by chance, on slots and links that pass the first tests: what it refuses by.
+fn any_call(name: &str, chance: &mut Chance, channels: &mut ChannelManager<'_>, out: &mut [u8]) -> Option<Refusal> {
+    let (link, up) = (chance.of(&[PHONE, PHONE, OTHER]), chance.of(&[true, true, false]));
+    let index = chance.of(&[SLOT, SLOT, ChannelIndex(1)]);
+    let config = L2capChannelConfig {
+        mtu: chance.of(&[None, None, Some(59)]),
+        mps: chance.of(&[None, None, Some(61)]),
+        initial_credits: chance.of(&[None, Some(1), Some(9)]),
+        ..Default::default()
+    };
+    let mut signal = BUFFER;
+    match name {
+        "register_spsm" => channels.register_spsm(chance.of(&[0, SPSM, 256])).err(),
+        "next_pending" => channels.next_pending(link, up).err(),
+        "accept_pending" => channels.accept_pending(index, &config, &mut signal).err(),
+        "create" => channels.create(link, SPSM, &config, &mut signal).err(),
+        "opened" => channels.opened(index, link, up).err(),
+        "inc_ref" => (0..chance.of(&[1, 1, 1, 255])).find_map(|_| channels.inc_ref(index).err()),
+        "dec_ref" => (0..chance.of(&[1, 1, 255, 255])).find_map(|_| channels.dec_ref(index).err()),
+        "dispatch" => {
+            let payload: &[u8] = chance.of(&[&[], &[1], &[2, 0, 1, 2], &[2, 0, 1, 2], &[2, 0, 1], &[1, 0, 1, 2], &[59, 0]]);
+            channels.dispatch(link, Cid(chance.of(&[0x3F, 0x40, 0x40, 0x40, 0x41, 0x42])), payload).err()
+        }
+        "send" => {
+            let length = chance.of(&[0, 22, 101, 65533, 65534]);
+            let most = chance.of(&[5, out.len()]);
+            channels.send(index, &vec![1; length], &mut out[..most]).err()
+        }
+        other => call(other, channels, link, index, &mut signal),
+    }
+}
+
+/// Many short runs of calls by chance give every refusal that the page lists behind a call's first tests, and no other.
+#[test]
+fn runs_by_chance_give_what_it_lists() {
+    let mut seen: BTreeMap<String, BTreeSet<u8>> = BTreeMap::new();
+    let (mut out, mut chance) = (vec![0; 76_935], Chance(17));
+    // Most calls end a channel or ask. Those with the most to refuse come more often.
+    let names = [&CALLS[..], &["signal"; 20], &["opened"; 5], &["dispatch"; 20], &["send"; 10]].concat();
+    for _ in 0..4_000 {
+        let mut room = [0; ROOM];
+        let mut channels = made(&mut room);
+        if chance.of(&[true, false]) {
+            let wanted = request(0x50, chance.of(&[100, 65535]), chance.of(&[22, 23, 65535]), chance.of(&[1, 65535]));
+            open(&mut channels, PHONE, &wanted, &L2capChannelConfig { initial_credits: chance.of(&[None, Some(9)]), ..Default::default() });
+        } else {
+            channels.create(PHONE, SPSM, &L2capChannelConfig::default(), &mut BUFFER.clone()).expect("an attempt");
+        }
+        for _ in 0..20 {
+            let name = chance.of(&names);
+            let refused = if name == "signal" {
+                let (pdu, kind) = any_signal(&mut chance, channels.table());
+                let (link, mut reply) = (chance.of(&[PHONE, PHONE, OTHER]), BUFFER);
+                let refused = channels.signal(link, true, LeConnRole::Central, &pdu, &mut reply).outcome.err();
+                seen.entry(kind).or_default().extend(refused.map(Refusal::number));
+                refused
+            } else {
+                any_call(name, &mut chance, &mut channels, &mut out)
+            };
+            seen.entry(name.to_owned()).or_default().extend(refused.map(Refusal::number));
+        }
+    }
+    let mut listed = BTreeMap::from([("a bad header".to_owned(), BTreeSet::from([15, 9]))]);
+    for (name, _, list) in calls().into_iter().filter(|(name, _, _)| name != "make") {
+        listed.insert(name, parted(&list).1.iter().copied().collect());
+    }
+    for row in table("The signals") {
+        listed.insert(row[0].clone(), numbers(&row[2]).into_iter().collect());
+    }
+    // In Rust a result is a type: a reject with a number that is none can't be said.
+    assert!(listed.get_mut("reject_pending").expect("a reject").remove(&15));
+    assert_eq!(seen, listed);
+}

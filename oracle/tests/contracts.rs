@@ -103,6 +103,18 @@ fn line(contract: &str) -> String {
     format!(" = {} ", renamed(leaves, &AT_AN_ENTRY, &[("mtu", "ourMtu"), ("mps", "ourMps"), ("spsm", "number")]))
 }
 
+/// The left side of an entry's contract: the number, and every slice that it is lent, at its end. A table that it may only read stands as it did.
+fn end(source: &str, entry: &str) -> String {
+    let (_, behind) = source.split_once(&format!(" fn {entry}(")).expect("an entry");
+    let (parameters, _) = behind.split_once(") -> ").expect("parameters");
+    let lent = |names: &[&str]| {
+        let name = names.iter().find(|name| parameters.contains(&format!("{name}: &mut [u8]")));
+        name.map_or("[]".to_string(), |name| format!("(now ({name} .exit))"))
+    };
+    let table = if parameters.contains("table: &[u8]") { "(now (table .entry))".to_string() } else { lent(&["table"]) };
+    format!("edge r {table} {} {} {} {}", lent(&["answer"]), lent(&["room"]), lent(&["signal", "out"]), lent(&["job"]))
+}
+
 #[test]
 fn each_contract_is_the_premise_of_its_lemma() {
     let lemmas = read("rules_code/specs/Functions.antt");
@@ -126,6 +138,7 @@ fn each_entry_leaves_what_its_line_says() {
     // the first starts a run, the second is a function of the PDU alone, the third a number
     entries.retain(|(name, _)| !["l2cap_make", "l2cap_signal_rest", "l2cap_version_1"].contains(name));
     for (name, contract) in &entries {
+        assert!(contract.starts_with(&format!("{} ≡ ", end(&source, name))), "{name}: no word of\n{}", end(&source, name));
         assert!(lines.contains(&line(contract)), "{name}: no line has\n{}", line(contract));
     }
     assert_eq!(entries.len(), 27, "entries that are calls of a run");

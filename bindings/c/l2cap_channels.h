@@ -20,7 +20,8 @@
  * Limits. n 1 to 16 slots, d 1 to 4 waiting jobs a slot, packets of m 29 to 1,024 octets; links 0 to 0x0EFF, a higher one is refusal 4; slots 0 to n - 1, a higher one is refusal 6;
  * a slot's CID is L2CAP_CID_BASE + slot. A flag is 0 for no; every other number is yes.
  *
- * Refusals. Each call's comment has them in the order in which they are tested: the first that fits is given. Where it says no more, a refused call has changed nothing but the answer.
+ * Refusals. Each call's comment has them in the order in which they are tested: the first that fits is given; a number stands twice where it is tested twice. Where the comment says no more, a refused call has changed
+ * nothing but the answer. docs/REFUSALS.md has what to do next.
  *
  * Holds. A slot is used again once it is free and nobody holds it. l2cap_next_pending takes a hold on the slot that it gives, l2cap_opened on the channel that it finds open; l2cap_inc_ref takes one more.
  * Whoever got a hold gives it back by l2cap_dec_ref, when it has no more use for the channel, and also after the channel has ended: a peer's disconnect and l2cap_disconnected leave holds as they are. Only l2cap_reject_pending and
@@ -111,8 +112,8 @@ enum l2cap_result {
 
 /* How the peer gets new credits when a job is taken: the kind of l2cap_accept_pending and l2cap_create, with its value. */
 enum l2cap_policy {
-    L2CAP_EVERY = 0,        /* once so many frames came since the last grant */
-    L2CAP_MIN_THRESHOLD = 1 /* once the peer has fewer credits than that */
+    L2CAP_EVERY = 0,        /* once so many frames came since the last grant; 0 is as 1 */
+    L2CAP_MIN_THRESHOLD = 1 /* once the peer has fewer credits than that; 0 never grants */
 };
 
 /* ---- an answer read. The buffer has all L2CAP_ANSWER_OCTETS octets. */
@@ -169,7 +170,7 @@ static inline uint16_t l2cap_answer_timeout(const uint8_t *answer) { return l2ca
 uint32_t l2cap_version_1(void);
 
 /* Makes a table of n slots, d waiting jobs a slot and packets of m octets.
- * Refusals: 1 (the table's length, then n, d, m), 2. A table of another length than L2CAP_TABLE_OCTETS stays as it is; a table of that length becomes a table of no slots, which every call refuses by 1. The room stays.
+ * Refusals: 1 2. They leave a table of no slots, which every call refuses by 1; the room, and a table of another length than L2CAP_TABLE_OCTETS, stay as they are.
  * Writes: the whole table; the room, all zeros.
  * Answer: Done. */
 uint32_t l2cap_make(uint8_t *table, size_t table_len, uint8_t *answer, size_t answer_len, uint8_t *room, size_t room_len, uint16_t n, uint16_t d, uint16_t m);
@@ -183,7 +184,7 @@ static inline uint32_t l2cap_make_of_this_version(uint8_t *table, size_t table_l
 #define l2cap_make l2cap_make_of_this_version
 
 /* Lets peers connect to an SPSM, on every link. It stays so until the next l2cap_make; twice is once.
- * Refusals: 1, 5.
+ * Refusals: 1 5.
  * Writes: the table.
  * Answer: Done. */
 uint32_t l2cap_register_spsm(uint8_t *table, size_t table_len, uint8_t *answer, size_t answer_len, uint16_t spsm);
@@ -192,8 +193,8 @@ uint32_t l2cap_register_spsm(uint8_t *table, size_t table_len, uint8_t *answer, 
 
 /* Handles the first signal of a PDU that came on a link's signalling channel, CID 5, without its L2CAP header. Go on with the octets that l2cap_signal_rest tells, until there are none.
  * listening: would somebody accept a channel on this link now? central: are we this link's central?
- * Refusals: 1, 2, 3, 4; then every header of the PDU is checked: 15 where fewer than 4 octets are left for one, 9 where a signal is longer than what is left, with a reject as reply; after these two nothing of the PDU is handled.
- * Then by the signal's code, where a body of the wrong length is 15 with a reject as reply:
+ * Refusals: 1 2 3 4 15 9 16 15 8 17 9. First every header of the PDU is checked: 15 where fewer than 4 octets are left for one, 9 where a signal is longer than what is left, with a reject as reply; after these two nothing of the
+ * PDU is handled. Then by the signal's code, where a body of the wrong length is 15 with a reject as reply:
  *   0x14  connect request: Done. A pending slot, and nothing goes back before l2cap_accept_pending or l2cap_reject_pending; or a refused response as reply: result 2 for an SPSM that isn't registered, 4 where nobody listens,
  *         10 where the peer's CID is in use on this link, 4 where no slot is free
  *   0x15  connect response: Done, the attempt with this identifier is open; 8 where there is none: every attempt of this link is freed; 17: the attempt has failed (l2cap_opened tells it, and frees the slot). A result that is no
@@ -215,13 +216,13 @@ uint32_t l2cap_signal(uint8_t *table, size_t table_len, uint8_t *answer, size_t 
 size_t l2cap_signal_rest(const uint8_t *pdu, size_t pdu_len);
 
 /* Writes a request for connection parameters, with the next identifier. The numbers are not tested.
- * Refusals: 1, 3, 4.
+ * Refusals: 1 3 4.
  * Writes: table, an identifier used; signal.
  * Answer: Done; the signal goes out on the link that was given. */
 uint32_t l2cap_send_conn_param_update_req(uint8_t *table, size_t table_len, uint8_t *answer, size_t answer_len, uint8_t *signal, size_t signal_len, uint16_t link, uint16_t min, uint16_t max, uint16_t latency, uint16_t timeout);
 
 /* Writes the response to a request for connection parameters, 0 to take them and 1 to refuse them, with the next identifier. The number is not tested.
- * Refusals: 1, 3, 4.
+ * Refusals: 1 3 4.
  * Writes: table, an identifier used; signal.
  * Answer: Done; the signal goes out on the link that was given. */
 uint32_t l2cap_send_conn_param_update_res(uint8_t *table, size_t table_len, uint8_t *answer, size_t answer_len, uint8_t *signal, size_t signal_len, uint16_t link, uint16_t result);
@@ -230,32 +231,32 @@ uint32_t l2cap_send_conn_param_update_res(uint8_t *table, size_t table_len, uint
 
 /* The lowest slot of a link in which a connect request waits. It is held once from now on: the hold becomes the channel's with l2cap_accept_pending, and is given back by l2cap_reject_pending, l2cap_drop_pending or l2cap_dec_ref.
  * up: is the link up?
- * Refusals: 1, 4; 22 where that slot is held already, also if a higher one waits unheld; 18 where none waits and the link is down.
+ * Refusals: 1 4 18 22. 18 where none waits and the link is down; 22 where that slot is held already, also if a higher one waits unheld.
  * Writes: the table, the hold.
  * Answer: At; Done where none waits and the link is up. */
 uint32_t l2cap_next_pending(uint8_t *table, size_t table_len, uint8_t *answer, size_t answer_len, uint16_t link, uint8_t up);
 
 /* Opens the pending channel of a slot, with our numbers. The pending's hold stays: whoever uses the channel releases it by l2cap_dec_ref, which lets the channel disconnect, and also after the channel has ended.
  * mtu, mps, credits: up to 65,535, or L2CAP_DEFAULT. kind, value: enum l2cap_policy; another kind than 0 is L2CAP_MIN_THRESHOLD. A job that needs more frames than the peer has credits is never finished: see Credits above.
- * Refusals: 1, 3, 6, 12 (mps, then mtu), 8 where nothing is pending in this slot, 22 where nobody holds it.
+ * Refusals: 1 3 6 12 12 8 22. 12 for mps, then for mtu; 8 where nothing is pending in this slot, 22 where nobody holds it.
  * Writes: table; signal, the response.
  * Answer: Link. */
 uint32_t l2cap_accept_pending(uint8_t *table, size_t table_len, uint8_t *answer, size_t answer_len, uint8_t *signal, size_t signal_len, uint8_t slot, uint32_t mtu, uint32_t mps, uint8_t kind, uint16_t value, uint32_t credits);
 
 /* Refuses the pending channel of a slot with a result code (enum l2cap_result), releases one hold and frees the slot. Holds beyond that one stay. Result 0 is not refused: the peer then believes in a channel that isn't there.
- * Refusals: 1, 2, 3, 6, 15 for a number that is no result code, 8 where nothing is pending in this slot, 22 where nobody holds it.
+ * Refusals: 1 2 3 6 15 8 22. 15 for a number that is no result code, 8 where nothing is pending in this slot, 22 where nobody holds it.
  * Writes: table; room, the slot's part zeroed; signal, the response.
  * Answer: Link. */
 uint32_t l2cap_reject_pending(uint8_t *table, size_t table_len, uint8_t *answer, size_t answer_len, uint8_t *room, size_t room_len, uint8_t *signal, size_t signal_len, uint8_t slot, uint16_t result);
 
 /* Refuses the lowest pending channel of a link that nobody holds, with result 4, and frees its slot. Call it until the answer is Done.
- * Refusals: 1, 2, 3, 4.
+ * Refusals: 1 2 3 4.
  * Writes: table; room, the slot's part zeroed; signal, the response, which goes out on the link that was given.
  * Answer: At; Done where none is left, and nothing is written. */
 uint32_t l2cap_reject_all_pending(uint8_t *table, size_t table_len, uint8_t *answer, size_t answer_len, uint8_t *room, size_t room_len, uint8_t *signal, size_t signal_len, uint16_t link);
 
 /* Lets go of the pending channel of a slot: releases one hold and frees the slot. Nothing goes to the peer. In an open channel it does nothing, and the hold stays; in every other state it releases the hold alone.
- * Refusals: 1, 2, 6, 22 where nobody holds it.
+ * Refusals: 1 2 6 22. 22 where nobody holds it.
  * Writes: table; room, the slot's part zeroed where it is freed.
  * Answer: Done. */
 uint32_t l2cap_drop_pending(uint8_t *table, size_t table_len, uint8_t *answer, size_t answer_len, uint8_t *room, size_t room_len, uint8_t slot);
@@ -264,21 +265,21 @@ uint32_t l2cap_drop_pending(uint8_t *table, size_t table_len, uint8_t *answer, s
 
 /* Takes the lowest free slot and writes a connect request. Nobody holds the slot until l2cap_opened finds the channel open. The SPSM is not tested.
  * mtu, mps, credits, kind, value: as in l2cap_accept_pending. A job that needs more frames than the peer has credits is never finished: see Credits above.
- * Refusals: 1, 3, 4, 12 (mps, then mtu), 13. 12 and 13 have used an identifier: the table is written.
+ * Refusals: 1 3 4 12 12 13. 12 for mps, then for mtu; 13 where no slot is free. 12 and 13 have used an identifier: the table is written.
  * Writes: table; signal, the request, which goes out on the link that was given.
  * Answer: At. */
 uint32_t l2cap_create(uint8_t *table, size_t table_len, uint8_t *answer, size_t answer_len, uint8_t *signal, size_t signal_len, uint16_t link, uint16_t spsm, uint32_t mtu, uint32_t mps, uint8_t kind, uint16_t value, uint32_t credits);
 
 /* Is the channel that we asked for open? Where it is, it is held once from now on: whoever uses it releases the hold by l2cap_dec_ref, which lets the channel disconnect, and also after the channel has ended.
  * up: is the link up?
- * Refusals: 1, 2, 4, 6, 18 where the slot is free, 8 where it is another link's; then 18 where the link is down or the channel is disconnecting, and 17 where the peer refused: these two have freed the slot and zeroed its part of
- * the room, and holds stay; 22 where it is open and held already.
+ * Refusals: 1 2 4 6 18 8 18 17 22. 18 where the slot is free, 8 where it is another link's; then 18 where the link is down or the channel is disconnecting, and 17 where the peer refused: these two have freed the slot and zeroed
+ * its part of the room, and holds stay; 22 where it is open and held already.
  * Writes: the table, the hold.
  * Answer: Opened; Done where the peer hasn't answered yet, and in a pending slot. */
 uint32_t l2cap_opened(uint8_t *table, size_t table_len, uint8_t *answer, size_t answer_len, uint8_t *room, size_t room_len, uint8_t slot, uint16_t link, uint8_t up);
 
 /* Gives up an attempt of ours: frees the slot, whether the peer hasn't answered, has refused, or has opened a channel that nobody holds. Nothing goes to the peer.
- * Refusals: 1, 2, 6, 8 in every other state.
+ * Refusals: 1 2 6 8. 8 in every other state.
  * Writes: table; room, the slot's part zeroed.
  * Answer: Done. */
 uint32_t l2cap_give_up(uint8_t *table, size_t table_len, uint8_t *answer, size_t answer_len, uint8_t *room, size_t room_len, uint8_t slot);
@@ -286,38 +287,38 @@ uint32_t l2cap_give_up(uint8_t *table, size_t table_len, uint8_t *answer, size_t
 /* ---- holds and ends */
 
 /* One hold more, in any state. Each is given back by its own l2cap_dec_ref; a free slot that is held is not used again until then.
- * Refusals: 1, 6, 22 at 255 holds.
+ * Refusals: 1 6 22. 22 at 255 holds.
  * Writes: the table.
  * Answer: Done. */
 uint32_t l2cap_inc_ref(uint8_t *table, size_t table_len, uint8_t *answer, size_t answer_len, uint8_t slot);
 
 /* One hold less: the one that l2cap_next_pending, l2cap_opened or l2cap_inc_ref took. The last one of an open channel lets it disconnect (l2cap_next_disconnect writes the request); the last one of a slot that is free
  * already makes it ready for the next channel.
- * Refusals: 1, 2, 6, 22 where nobody holds it.
+ * Refusals: 1 2 6 22. 22 where nobody holds it.
  * Writes: table; room, the job that arrives zeroed where the channel disconnects.
  * Answer: Done. */
 uint32_t l2cap_dec_ref(uint8_t *table, size_t table_len, uint8_t *answer, size_t answer_len, uint8_t *room, size_t room_len, uint8_t slot);
 
 /* Lets the open channel of a slot disconnect; nothing in another state. l2cap_next_disconnect writes the request. Waiting jobs can be taken until the peer's response; holds stay.
- * Refusals: 1, 2, 6.
+ * Refusals: 1 2 6.
  * Writes: table; room, the job that arrives zeroed.
  * Answer: Done. */
 uint32_t l2cap_disconnect(uint8_t *table, size_t table_len, uint8_t *answer, size_t answer_len, uint8_t *room, size_t room_len, uint8_t slot);
 
 /* The same by our CID, whatever the link; nothing for a CID of no slot.
- * Refusals: 1, 2.
+ * Refusals: 1 2.
  * Writes and answer: as l2cap_disconnect. */
 uint32_t l2cap_disconnect_by_cid(uint8_t *table, size_t table_len, uint8_t *answer, size_t answer_len, uint8_t *room, size_t room_len, uint16_t cid);
 
 /* A link is down: frees all its slots, and zeroes what they held in the room, waiting jobs too. Holds stay: whoever has one releases it by l2cap_dec_ref, or the slot is not used again.
- * Refusals: 1, 2, 4.
+ * Refusals: 1 2 4.
  * Writes: table; room.
  * Answer: Done, also where the link has no slot. */
 uint32_t l2cap_disconnected(uint8_t *table, size_t table_len, uint8_t *answer, size_t answer_len, uint8_t *room, size_t room_len, uint16_t link);
 
 /* Writes the next disconnect that is due, the lowest slot's: the response to a peer's request, which frees the slot, or our request, once a slot, with the next identifier; that slot is freed by the peer's response. Call it until
  * the answer is Done. Jobs that wait in a slot are gone with a response: take them first.
- * Refusals: 1, 2, 3.
+ * Refusals: 1 2 3.
  * Writes: table; room, a freed slot's part zeroed; signal.
  * Answer: Due; Done where none is due, and nothing is written. */
 uint32_t l2cap_next_disconnect(uint8_t *table, size_t table_len, uint8_t *answer, size_t answer_len, uint8_t *room, size_t room_len, uint8_t *signal, size_t signal_len);
@@ -325,23 +326,23 @@ uint32_t l2cap_next_disconnect(uint8_t *table, size_t table_len, uint8_t *answer
 /* ---- jobs */
 
 /* Takes in a frame that came on a link: its CID, and its payload behind the L2CAP header.
- * Refusals: 1, 2, 4, 7 for a CID of no slot; where the channel isn't open the frame is dropped, Done; 8 where it is another link's, 10 where the peer has no credit. Then a credit is used, and the table written: 19 for a job's first
- * frame under 2 octets, 9 for a job above our MTU and for more octets than the job has: these leave the channel disconnecting, and the job that arrives zeroed; waiting jobs stay. 21 where the job is complete and d wait already: it is
- * dropped and zeroed, and the channel stays open.
+ * Refusals: 1 2 4 7 8 10 19 9 9 21. 7 for a CID of no slot; where the channel isn't open the frame is dropped, Done; 8 where it is another link's, 10 where the peer has no credit. Then a credit is used, and the table written: 19 for
+ * a job's first frame under 2 octets, 9 for a job above our MTU, then for more octets than the job has: these leave the channel disconnecting, and the job that arrives zeroed; waiting jobs stay. 21 where the job is complete and d
+ * wait already: it is dropped and zeroed, and the channel stays open.
  * Writes: table; room.
  * Answer: Done, whether a job is complete or not: l2cap_attention tells. */
 uint32_t l2cap_dispatch(uint8_t *table, size_t table_len, uint8_t *answer, size_t answer_len, uint8_t *room, size_t room_len, uint16_t link, uint16_t cid, const uint8_t *payload, size_t payload_len);
 
 /* Cuts a job into frames, each with its L2CAP header, one behind the other, and uses a credit for each.
- * Refusals: 1, 6, 11 where the channel isn't open, 12 where the job is above the peer's MTU, 23 for 65,534 octets or more, 20 where the peer's MPS is under 23, 14 where the frames are more than our credits,
- * 3 where out has fewer octets than job, its 2 length octets and 4 a frame. Nothing is sent by halves.
+ * Refusals: 1 6 11 12 23 20 14 3. 11 where the channel isn't open, 12 where the job is above the peer's MTU, 23 for 65,534 and 65,535 octets, 20 where the peer's MPS is under 23, 14 where the frames are more than our credits,
+ * 3 where out has fewer octets than the job, its 2 length octets and 4 a frame. Nothing is sent by halves.
  * Writes: table; out.
  * Answer: Frames. */
 uint32_t l2cap_send(uint8_t *table, size_t table_len, uint8_t *answer, size_t answer_len, uint8_t *out, size_t out_len, uint8_t slot, const uint8_t *sdu, size_t sdu_len);
 
 /* Takes the oldest job that waits in a slot: copies as much of it as the buffer holds (the rest is gone), moves later jobs up, and grants the peer new credits where they are due. A job finished before can be taken while the channel
  * disconnects; it grants nothing then.
- * Refusals: 1, 2, 3, 6, 11 where no channel is open or disconnecting in this slot.
+ * Refusals: 1 2 3 6 11. 11 where no channel is open or disconnecting in this slot.
  * Writes: table; room; job; signal, the grant, which uses an identifier. l2cap_answer_written is 0 where none is due.
  * Answer: Job; Done where no job waits, and nothing is written. */
 uint32_t l2cap_receive(uint8_t *table, size_t table_len, uint8_t *answer, size_t answer_len, uint8_t *room, size_t room_len, uint8_t *signal, size_t signal_len, uint8_t *job, size_t job_len, uint8_t slot);
@@ -349,32 +350,32 @@ uint32_t l2cap_receive(uint8_t *table, size_t table_len, uint8_t *answer, size_t
 /* ---- questions: the table is only read */
 
 /* The slots that call: a job waits (take it), a disconnect is due (l2cap_next_disconnect), or an attempt of ours has failed (l2cap_opened). A pending does not call.
- * Refusal: 1.
+ * Refusals: 1.
  * Answer: Attention. */
 uint32_t l2cap_attention(const uint8_t *table, size_t table_len, uint8_t *answer, size_t answer_len);
 
 /* The SPSM of a slot's channel; 0 where the slot is free.
- * Refusals: 1, 6.
+ * Refusals: 1 6.
  * Answer: Number. */
 uint32_t l2cap_spsm(const uint8_t *table, size_t table_len, uint8_t *answer, size_t answer_len, uint8_t slot);
 
 /* The longest job that we take in a slot; 0 where it is free or pending.
- * Refusals: 1, 6.
+ * Refusals: 1 6.
  * Answer: Number. */
 uint32_t l2cap_mtu(const uint8_t *table, size_t table_len, uint8_t *answer, size_t answer_len, uint8_t slot);
 
 /* The longest frame payload that we take in a slot; 0 where it is free or pending.
- * Refusals: 1, 6.
+ * Refusals: 1 6.
  * Answer: Number. */
 uint32_t l2cap_mps(const uint8_t *table, size_t table_len, uint8_t *answer, size_t answer_len, uint8_t slot);
 
 /* The longest job that a slot's peer takes; 0 where the slot is free, or our attempt isn't open.
- * Refusals: 1, 6.
+ * Refusals: 1 6.
  * Answer: Number. */
 uint32_t l2cap_peer_mtu(const uint8_t *table, size_t table_len, uint8_t *answer, size_t answer_len, uint8_t slot);
 
 /* The longest frame payload that a slot's peer takes; 0 where the slot is free, or our attempt isn't open.
- * Refusals: 1, 6.
+ * Refusals: 1 6.
  * Answer: Number. */
 uint32_t l2cap_peer_mps(const uint8_t *table, size_t table_len, uint8_t *answer, size_t answer_len, uint8_t slot);
 

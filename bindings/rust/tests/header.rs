@@ -152,3 +152,30 @@ fn sizes_are_the_same() {
     assert_eq!(define("L2CAP_SIGNAL_OCTETS"), SIGNAL_OCTETS);
     assert_eq!(define("L2CAP_CID_BASE"), usize::from(CID_BASE));
 }
+
+/// The refusals of each entry, in order, as its comment has them.
+fn refusals_in_the_header() -> BTreeMap<String, String> {
+    let text = read("../c/l2cap_channels.h");
+    let mut refusals = BTreeMap::new();
+    let mut listed = None;
+    for line in text.lines() {
+        if let Some(list) = line.strip_prefix(" * Refusals: ").and_then(|rest| rest.split('.').next()) {
+            listed = Some(list.to_owned());
+        } else if let Some(name) = line.strip_prefix("uint32_t l2cap_").and_then(|rest| rest.split('(').next()) {
+            refusals.extend(listed.take().map(|list| (name.to_owned(), list)));
+        }
+    }
+    refusals
+}
+
+#[test]
+fn refusals_stand_in_the_order_of_their_page() {
+    let page = read("../../docs/REFUSALS.md");
+    let calls = page.split("\n## The calls\n").nth(1).and_then(|rest| rest.split("\n## ").next()).expect("the calls");
+    let rows = calls.lines().filter_map(|row| row.strip_prefix("| `"));
+    let of = |row: &str| {
+        let cells: Vec<&str> = row.split(" | ").collect();
+        (cells[0].trim_end_matches('`').to_owned(), cells[2].to_owned())
+    };
+    assert_eq!(refusals_in_the_header(), rows.map(of).collect());
+}

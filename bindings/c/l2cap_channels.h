@@ -1,8 +1,8 @@
 /* The channel manager's calls, from C and C++. Link with the archive of the proved entries (rt staticlib entries, or bindings/unproved to try it), which is x86-64 code.
  *
  * Every call is given the table and a buffer for its answer, each as pointer and length, and the memory that it needs. It returns 0 or the number of a refusal
- * (enum l2cap_refusal). No call keeps a pointer, allocates, waits, or reads or writes past a length; the archive has no data of its own. Two tables are two managers. Two calls on one table
- * must not run at the same time.
+ * (enum l2cap_refusal). No call keeps a pointer, allocates, waits, or reads or writes past a length; the archive has no data of its own. Two tables are two managers. Calls on one
+ * table must not run at the same time, unless all of them are questions.
  *
  * table   L2CAP_TABLE_OCTETS octets, written by l2cap_make. Octets that spell no table, and another length, are refusal 1 in every call, and stay as they are.
  * answer  L2CAP_ANSWER_OCTETS octets, written by every call, refused or not; a shorter buffer gets as many as it has. The l2cap_answer_ functions below read it.
@@ -23,12 +23,12 @@
  * Refusals. Each call's comment has them in the order in which they are tested: the first that fits is given; a number stands twice where it is tested twice. Where the comment says no more, a refused call has changed
  * nothing but the answer. docs/REFUSALS.md has what to do next.
  *
- * Holds. A slot is used again once it is free and nobody holds it. l2cap_next_pending takes a hold on the slot that it gives, l2cap_opened on the channel that it finds open; l2cap_inc_ref takes one more.
+ * Holds. A slot whose channel has ended is used again once nobody holds it. l2cap_next_pending takes a hold on the slot that it gives, l2cap_opened on the channel that it finds open; l2cap_inc_ref takes one more.
  * Whoever got a hold gives it back by l2cap_dec_ref, when it has no more use for the channel, and also after the channel has ended: a peer's disconnect and l2cap_disconnected leave holds as they are. Only l2cap_reject_pending and
  * l2cap_drop_pending give one back by themselves. 16 phones that come and go without l2cap_dec_ref leave no slot for the 17th.
  *
  * Credits. The peer gets new credits when a job of its is taken (l2cap_receive), and at no other time. So a job that needs more frames than the peer has credits is never finished, and its channel
- * stands still. A job of mtu octets needs n = (mtu + 2 + mps - 1) / mps frames. With L2CAP_EVERY k give at least n + k - 1 credits, with L2CAP_MIN_THRESHOLD t at least n, and a t of at least n. The defaults do:
+ * stands still. A job of mtu octets needs n = (mtu + 2 + mps - 1) / mps frames, if the peer fills them. With L2CAP_EVERY k give at least n + k - 1 credits, with L2CAP_MIN_THRESHOLD t at least n, and a t of at least n. The defaults do:
  * there n is 1. */
 #ifndef L2CAP_CHANNELS_H
 #define L2CAP_CHANNELS_H
@@ -73,7 +73,7 @@ enum l2cap_refusal {
     L2CAP_DECODE = 15,               /* a signal that can't be read: a reject is written where its header can; a result that is no result code */
     L2CAP_NOT_SUPPORTED = 16,        /* an unknown signal: a reject is written */
     L2CAP_CONNECT_ERROR = 17,        /* the peer refused our request, with a result code: l2cap_signal leaves the slot failed, l2cap_opened has freed it */
-    L2CAP_DISCONNECTED = 18,         /* the link or the channel is down; l2cap_opened has freed the slot */
+    L2CAP_DISCONNECTED = 18,         /* the link or the channel is down; where it wasn't before, l2cap_opened has freed the slot */
     L2CAP_SHORT_FRAME = 19,          /* a job's first frame without its two length octets: the channel is disconnecting */
     L2CAP_BAD_MPS = 20,              /* the peer's MPS is under 23 */
     L2CAP_QUEUE_FULL = 21,           /* a job is complete, but d wait already: it is dropped, and its credit used */
@@ -201,7 +201,7 @@ uint32_t l2cap_register_spsm(uint8_t *table, size_t table_len, uint8_t *answer, 
  *         result code is 15 with a reject
  *   0x16  credits: Done, we have more; 8 where no open channel has this peer CID; 9 where they pass 65,535: the channel is disconnecting, and the job that arrives is wiped
  *   0x06  disconnect request: Done. A disconnect is due (l2cap_next_disconnect), the job that arrives is wiped, and waiting jobs can be taken until then; or a reject as reply where the CID is no slot's of this link
- *   0x07  disconnect response: Done. The slot that was disconnecting is freed
+ *   0x07  disconnect response: Done. The slot that was disconnecting is freed; nothing for a CID of no such slot
  *   0x12  parameter request: Event where we are central and they are valid (answer by l2cap_send_conn_param_update_res); Done with a reject where we are not, before the body is read, and with response 1 where they are not valid
  *   0x01, 0x13  a reject, a parameter response: Done, nothing changes
  *   another  16, with a reject as reply
@@ -272,8 +272,8 @@ uint32_t l2cap_create(uint8_t *table, size_t table_len, uint8_t *answer, size_t 
 
 /* Is the channel that we asked for open? Where it is, it is held once from now on: whoever uses it releases the hold by l2cap_dec_ref, which lets the channel disconnect, and also after the channel has ended.
  * up: is the link up?
- * Refusals: 1 2 4 6 18 8 18 17 22. 18 where the slot is free, 8 where it is another link's; then 18 where the link is down or the channel is disconnecting, and 17 where the peer refused: these two have freed the slot and zeroed
- * its part of the room, and holds stay; 22 where it is open and held already.
+ * Refusals: 1 2 4 6 18 8 18 17 22. 18 where the slot has no channel, 8 where it is another link's; then 18 where the link is down or the channel is disconnecting, and 17 where the peer refused: these two have freed the slot and
+ * zeroed its part of the room, a disconnect that was due is written no more, and holds stay; 22 where it is open and held already.
  * Writes: the table, the hold.
  * Answer: Opened; Done where the peer hasn't answered yet, and in a pending slot. */
 uint32_t l2cap_opened(uint8_t *table, size_t table_len, uint8_t *answer, size_t answer_len, uint8_t *room, size_t room_len, uint8_t slot, uint16_t link, uint8_t up);
@@ -286,14 +286,14 @@ uint32_t l2cap_give_up(uint8_t *table, size_t table_len, uint8_t *answer, size_t
 
 /* ---- holds and ends */
 
-/* One hold more, in any state. Each is given back by its own l2cap_dec_ref; a free slot that is held is not used again until then.
+/* One hold more, in any state. Each is given back by its own l2cap_dec_ref; a slot without a channel that is held is not used until then.
  * Refusals: 1 6 22. 22 at 255 holds.
  * Writes: the table.
  * Answer: Done. */
 uint32_t l2cap_inc_ref(uint8_t *table, size_t table_len, uint8_t *answer, size_t answer_len, uint8_t slot);
 
-/* One hold less: the one that l2cap_next_pending, l2cap_opened or l2cap_inc_ref took. The last one of an open channel lets it disconnect (l2cap_next_disconnect writes the request); the last one of a slot that is free
- * already makes it ready for the next channel.
+/* One hold less: the one that l2cap_next_pending, l2cap_opened or l2cap_inc_ref took. The last one of an open channel lets it disconnect (l2cap_next_disconnect writes the request); the last one of a slot whose
+ * channel has ended makes it free for the next.
  * Refusals: 1 2 6 22. 22 where nobody holds it.
  * Writes: table; room, the job that arrives zeroed where the channel disconnects.
  * Answer: Done. */
@@ -354,27 +354,27 @@ uint32_t l2cap_receive(uint8_t *table, size_t table_len, uint8_t *answer, size_t
  * Answer: Attention. */
 uint32_t l2cap_attention(const uint8_t *table, size_t table_len, uint8_t *answer, size_t answer_len);
 
-/* The SPSM of a slot's channel; 0 where the slot is free.
+/* The SPSM of a slot's channel; 0 where it has none.
  * Refusals: 1 6.
  * Answer: Number. */
 uint32_t l2cap_spsm(const uint8_t *table, size_t table_len, uint8_t *answer, size_t answer_len, uint8_t slot);
 
-/* The longest job that we take in a slot; 0 where it is free or pending.
+/* The longest job that we take in a slot; 0 where it has no channel, or a pending one.
  * Refusals: 1 6.
  * Answer: Number. */
 uint32_t l2cap_mtu(const uint8_t *table, size_t table_len, uint8_t *answer, size_t answer_len, uint8_t slot);
 
-/* The longest frame payload that we take in a slot; 0 where it is free or pending.
+/* The longest frame payload that we take in a slot; 0 where it has no channel, or a pending one.
  * Refusals: 1 6.
  * Answer: Number. */
 uint32_t l2cap_mps(const uint8_t *table, size_t table_len, uint8_t *answer, size_t answer_len, uint8_t slot);
 
-/* The longest job that a slot's peer takes; 0 where the slot is free, or our attempt isn't open.
+/* The longest job that a slot's peer takes; 0 where it has no channel, or our attempt isn't open.
  * Refusals: 1 6.
  * Answer: Number. */
 uint32_t l2cap_peer_mtu(const uint8_t *table, size_t table_len, uint8_t *answer, size_t answer_len, uint8_t slot);
 
-/* The longest frame payload that a slot's peer takes; 0 where the slot is free, or our attempt isn't open.
+/* The longest frame payload that a slot's peer takes; 0 where it has no channel, or our attempt isn't open.
  * Refusals: 1 6.
  * Answer: Number. */
 uint32_t l2cap_peer_mps(const uint8_t *table, size_t table_len, uint8_t *answer, size_t answer_len, uint8_t slot);

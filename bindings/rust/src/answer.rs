@@ -214,12 +214,12 @@ pub struct Attention {
     pub lowest: Option<ChannelIndex>,
 }
 
-/// How the peer gets new credits.
+/// When a take grants the peer new credits: then as many as frames came since the last grant, so that the peer has all that it started with.
 #[derive(Clone, Copy, Debug, PartialEq, Eq)]
 pub enum CreditFlowPolicy {
-    /// Once that many frames came since the last grant.
+    /// Once that many frames came since the last grant. 0 is as 1: no grant is of 0 credits.
     Every(u16),
-    /// Once the peer holds fewer credits than that.
+    /// Once the peer holds fewer credits than that. 0 never grants.
     MinThreshold(u16),
 }
 
@@ -230,6 +230,11 @@ impl Default for CreditFlowPolicy {
 }
 
 /// Configuration for an L2CAP channel.
+///
+/// A frame uses a credit, and credits go back to the peer with a take alone ([`receive`](crate::ChannelManager::receive)): a job that needs more frames
+/// than the peer has credits is never finished, nothing is ever there to take, and the channel sticks until somebody closes it. An MPS of 23 with one
+/// credit and one waiting job is such a configuration. [`checked`](Self::checked) refuses those, and [`least_credits`](crate::least_credits) gives the
+/// rule; by the defaults the longest job is one frame, for a peer that fills its frames, and nothing sticks.
 #[derive(Clone, Copy, Debug, Default, PartialEq, Eq)]
 pub struct L2capChannelConfig {
     /// The longest job that we take. Defaults to the packet size less 6.

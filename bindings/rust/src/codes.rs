@@ -1,5 +1,6 @@
 //! The numbers that have names: refusals, result codes, slots, CIDs and links.
 
+use core::error::Error;
 use core::fmt;
 
 /// The CID of slot 0. A slot's CID is this and its number.
@@ -19,7 +20,19 @@ impl ChannelIndex {
     }
 }
 
-/// A channel's CID on the air, ours.
+impl From<u8> for ChannelIndex {
+    fn from(number: u8) -> Self {
+        Self(number)
+    }
+}
+
+impl From<ChannelIndex> for u8 {
+    fn from(index: ChannelIndex) -> Self {
+        index.0
+    }
+}
+
+/// A channel's CID on the air, ours. A packet's header has it as a number: `Cid::from(number)`.
 #[derive(Clone, Copy, Debug, PartialEq, Eq, PartialOrd, Ord, Hash)]
 pub struct Cid(pub u16);
 
@@ -34,9 +47,35 @@ impl Cid {
     }
 }
 
+impl From<u16> for Cid {
+    fn from(number: u16) -> Self {
+        Self(number)
+    }
+}
+
+impl From<Cid> for u16 {
+    fn from(cid: Cid) -> Self {
+        cid.0
+    }
+}
+
 /// A link's handle, 0 to 0x0EFF. A call refuses a higher one by [`Refusal::BadHandle`].
+///
+/// A controller's handle is one line away: from bt-hci's `ConnHandle` it is `ConnHandle::from(handle.raw())`, and back `ConnHandle::new(ours.into())`.
 #[derive(Clone, Copy, Debug, PartialEq, Eq, PartialOrd, Ord, Hash)]
 pub struct ConnHandle(pub u16);
+
+impl From<u16> for ConnHandle {
+    fn from(number: u16) -> Self {
+        Self(number)
+    }
+}
+
+impl From<ConnHandle> for u16 {
+    fn from(handle: ConnHandle) -> Self {
+        handle.0
+    }
+}
 
 /// Our role on a link.
 #[derive(Clone, Copy, Debug, PartialEq, Eq, Hash)]
@@ -47,46 +86,36 @@ pub enum LeConnRole {
     Peripheral,
 }
 
-/// The result of a connect response (Core, Vol 3 Part A, 4.23).
+/// The result of a connect response (Core, Vol 3 Part A, 4.23). A code `as u16` is its number on the air.
 #[derive(Clone, Copy, Debug, PartialEq, Eq, Hash)]
+#[repr(u16)]
 pub enum LeCreditConnResultCode {
     /// 0: the channel is open.
-    Success,
+    Success = 0,
     /// 2: nobody serves this SPSM.
-    SpsmNotSupported,
+    SpsmNotSupported = 2,
     /// 4: no slot is free, or nobody listens.
-    NoResources,
+    NoResources = 4,
     /// 5: the link isn't authenticated.
-    InsufficientAuthentication,
+    InsufficientAuthentication = 5,
     /// 6: the peer isn't authorised.
-    InsufficientAuthorization,
+    InsufficientAuthorization = 6,
     /// 7: the encryption key is too short.
-    EncryptionKeyTooShort,
+    EncryptionKeyTooShort = 7,
     /// 8: the link isn't encrypted.
-    InsufficientEncryption,
+    InsufficientEncryption = 8,
     /// 9: the source CID is outside its range.
-    InvalidSourceId,
+    InvalidSourceId = 9,
     /// 10: the source CID is in use.
-    ScidAlreadyAllocated,
+    ScidAlreadyAllocated = 10,
     /// 11: the parameters can't be accepted.
-    UnacceptableParameters,
+    UnacceptableParameters = 11,
 }
 
 impl LeCreditConnResultCode {
     /// The number on the air.
     pub const fn number(self) -> u16 {
-        match self {
-            Self::Success => 0,
-            Self::SpsmNotSupported => 2,
-            Self::NoResources => 4,
-            Self::InsufficientAuthentication => 5,
-            Self::InsufficientAuthorization => 6,
-            Self::EncryptionKeyTooShort => 7,
-            Self::InsufficientEncryption => 8,
-            Self::InvalidSourceId => 9,
-            Self::ScidAlreadyAllocated => 10,
-            Self::UnacceptableParameters => 11,
-        }
+        self as u16
     }
 
     /// The result code with this number: 0, 2 and 4 to 11 have one.
@@ -104,6 +133,21 @@ impl LeCreditConnResultCode {
             11 => Self::UnacceptableParameters,
             _ => return None,
         })
+    }
+}
+
+impl From<LeCreditConnResultCode> for u16 {
+    fn from(code: LeCreditConnResultCode) -> Self {
+        code.number()
+    }
+}
+
+/// A number of no result code is [`Refusal::Decode`], as it is in a signal.
+impl TryFrom<u16> for LeCreditConnResultCode {
+    type Error = Refusal;
+
+    fn try_from(number: u16) -> Result<Self, Refusal> {
+        Self::from_number(number).ok_or(Refusal::Decode)
     }
 }
 
@@ -126,12 +170,12 @@ pub enum Refusal {
     InvalidChannelId,
     /// 8: no slot fits. An unmatched connect response has freed every attempt of that link.
     NotFound,
-    /// 9: a signal longer than its PDU (a reject is written); credits above 65,535, or a frame that its job has no place for (the channel is
-    /// disconnecting).
+    /// 9: a signal longer than its PDU (a reject is written); credits above 65,535 (they are kept), or a frame that its job has no place for (its
+    /// credit is used): the channel is disconnecting.
     InvalidValue,
     /// 10: a frame for which the peer had no credit.
     OutOfMemory,
-    /// 11: the channel isn't open.
+    /// 11: the channel isn't open. Jobs that wait in one that disconnects can still be taken.
     ChannelClosed,
     /// 12: MPS or MTU above our packets, or a job above the peer's MTU. A refused create has used an identifier.
     InsufficientSpace,
@@ -143,11 +187,13 @@ pub enum Refusal {
     Decode,
     /// 16: an unknown signal. A reject is written.
     NotSupported,
-    /// 17: the peer refused the connection, with this result.
+    /// 17: the peer refused the connection, with this result. A signal that gives it leaves the slot
+    /// [`ConnectFailed`](crate::ChannelState::ConnectFailed); [`opened`](crate::ChannelManager::opened), which then gives it once more, has freed
+    /// the slot.
     ConnectError(LeCreditConnResultCode),
-    /// 18: the link or the channel is down.
+    /// 18: the link or the channel is down. Where the slot wasn't free, [`opened`](crate::ChannelManager::opened) has freed it.
     Disconnected,
-    /// 19: a job's first frame without its two length octets. The channel is disconnecting.
+    /// 19: a job's first frame without its two length octets. Its credit is used, and the channel is disconnecting.
     ShortFrame,
     /// 20: the peer's MPS is under 23.
     BadMps,
@@ -230,3 +276,5 @@ impl fmt::Display for Refusal {
         }
     }
 }
+
+impl Error for Refusal {}

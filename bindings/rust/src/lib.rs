@@ -2,8 +2,9 @@
 //! safe types. This crate is the wrapper; the calls are in an archive, `libentries.a`, which `build.rs` links.
 //!
 //! A channel lives in a slot ([`ChannelIndex`]) and has a CID on the air ([`Cid`]). [`ChannelManager`] keeps the table, in 672 octets, and borrows
-//! the room in which jobs arrive and wait. A call that can't be done gives a [`Refusal`], and says in its documentation what that leaves. No call
-//! panics, waits or allocates.
+//! the room in which jobs arrive and wait. Whoever uses a channel has a [`Hold`] on its slot, and gives it back: [`life`] goes through it, case by
+//! case. A call that can't be done gives a [`Refusal`], and says in its documentation what that leaves. No call panics, waits or allocates; in builds
+//! with debug assertions a hold that is forgotten panics.
 //!
 //! ```
 //! use l2cap_channels::{room_octets, ChannelManager, Cid, ConnHandle, L2capChannelConfig, LeConnRole, Refusal, SIGNAL_OCTETS};
@@ -21,16 +22,22 @@
 //!         assert_eq!((outcome, reply.len()), (Ok(None), 0));
 //!     });
 //!     let mut signal = [0; SIGNAL_OCTETS];
-//!     let channel = channels.next_pending(phone, true)?.expect("a pending channel");
-//!     let response = channels.accept_pending(channel, &L2capChannelConfig::default(), &mut signal)?;
+//!     let hold = channels.next_pending(phone, true)?.expect("a pending channel");
+//!     let response = channels.accept_pending(hold.index(), &L2capChannelConfig::default(), &mut signal)?;
 //!     assert_eq!(response.handle, phone);
 //!
 //!     // A job of three octets comes in one frame, and is taken; the phone gets its credit back.
 //!     channels.dispatch(phone, Cid(0x40), &[3, 0, b'j', b'o', b'b'])?;
 //!     let mut job = [0; 58];
-//!     let taken = channels.receive(channel, &mut job, &mut signal)?.expect("a job");
+//!     let taken = channels.receive(hold.index(), &mut job, &mut signal)?.expect("a job");
 //!     assert_eq!(taken.sdu, b"job");
 //!     assert_eq!(taken.credits, [8, 0, 5, 0, 0x16, 1, 4, 0, 0x40, 0, 1, 0]);
+//!
+//!     // The phone closes its channel; our response frees the slot, and the hold given back makes it another phone's.
+//!     channels.feed_pdu(phone, true, LeConnRole::Peripheral, &[0x06, 8, 4, 0, 0x40, 0, 0x50, 0], |_, _| {});
+//!     let response = channels.next_disconnect(&mut signal)?.expect("a disconnect that is due");
+//!     assert_eq!(response.octets, [8, 0, 5, 0, 0x07, 8, 4, 0, 0x40, 0, 0x50, 0]);
+//!     channels.dec_ref(hold)?;
 //!     Ok(())
 //! }
 //! ```
@@ -41,7 +48,10 @@
 
 mod answer;
 mod codes;
+mod credits;
 mod entries;
+mod hold;
+pub mod life;
 mod manager;
 mod table;
 
@@ -50,5 +60,7 @@ pub use answer::{
     Received, Signalled,
 };
 pub use codes::{ChannelIndex, Cid, ConnHandle, LeConnRole, LeCreditConnResultCode, Refusal, CID_BASE, SLOTS};
+pub use credits::{frames, least_credits, ConfigError};
+pub use hold::{Hold, StillHeld};
 pub use manager::{ChannelManager, SIGNAL_OCTETS};
 pub use table::{room_octets, Slot, Table, TABLE_OCTETS};

@@ -3,6 +3,7 @@
 use crate::answer::{Attention, ChannelSignal, ConnParamUpdateReq, Frames, L2capChannelConfig, Outgoing, Received, Signalled};
 use crate::codes::{ChannelIndex, Cid, ConnHandle, LeConnRole, LeCreditConnResultCode, Refusal};
 use crate::entries::{self, Returned};
+use crate::hold::{Hold, StillHeld};
 use crate::table::{Table, TABLE_OCTETS};
 
 /// The longest signal that is written: a lent signal buffer has at least so many octets.
@@ -12,6 +13,8 @@ pub const SIGNAL_OCTETS: usize = 18;
 ///
 /// Facts of a link (whether it is up, whether somebody listens, our role) come in with each call. What goes out is written to a buffer that the
 /// caller lends, and given back as the part of it that was written.
+///
+/// Refusals stand at each call in the order in which they are tested: the first that applies is given.
 #[derive(Debug)]
 pub struct ChannelManager<'r> {
     table: Table,
@@ -29,14 +32,18 @@ impl<'r> ChannelManager<'r> {
         Ok(manager)
     }
 
-    /// Makes the table anew, over the same room. A refused making leaves a table of no slots, and the room as it was.
+    /// Makes the table anew, over the same room, which is zeroed. Every channel and every hold is gone with the old one: a [`Hold`] of before ends by
+    /// [`into_index`](Hold::into_index).
+    ///
+    /// Refusals: 1, 2. A refused making leaves a table of no slots, and the room as it was.
     pub fn make(&mut self, channels: u16, queue: u16, packet: u16) -> Result<(), Refusal> {
         // Asked for its name alone: with an archive of another version nothing that makes a table is linked.
         entries::version();
         entries::make(&mut self.table.0, self.room, channels, queue, packet).told().map(|_| ())
     }
 
-    /// Goes on with a table and a room that were kept. Nothing is tested here: each call tests both.
+    /// Goes on with a table and a room that were kept. Nothing is tested here: each call tests both. [`Hold::of`] takes up the holds that the table
+    /// counts, [`Slot::hold`](crate::Slot::hold) of each.
     pub fn from_parts(table: Table, room: &'r mut [u8]) -> Self {
         Self { table, room }
     }
@@ -71,7 +78,10 @@ impl<'r> ChannelManager<'r> {
     /// The reply, where there is one, goes out whether the signal was refused or not. Call again with the rest until that is empty, or let
     /// [`feed_pdu`](Self::feed_pdu) do so.
     ///
-    /// Refusals: 1, 2, 3, 4; 15 and 9 by the header check; 8, 9, 15, 16, 17 by the signal.
+    /// Refusals: 1, 2, 3, 4; 15 and 9 by the header check, which leave no rest; then by the signal 15 for a bad body and 16 for an unknown code; 8
+    /// for credits that fit no channel, and for a connect response that fits no attempt, which has freed every attempt of this link; 9 for credits
+    /// above 65,535, which leave the channel disconnecting; 17 for a connect response that refuses, which leaves the slot
+    /// [`ConnectFailed`](crate::ChannelState::ConnectFailed) until [`opened`](Self::opened) or [`give_up`](Self::give_up) frees it.
     pub fn signal<'p, 'b>(
         &mut self,
         handle: ConnHandle,
@@ -88,6 +98,8 @@ impl<'r> ChannelManager<'r> {
     }
 
     /// Handles every signal of a PDU. `each` gets what each came to and its reply, which is empty where nothing goes back.
+    ///
+    /// Refusals: of each signal those of [`signal`](Self::signal), but for 3.
     pub fn feed_pdu<F>(&mut self, handle: ConnHandle, listening: bool, role: LeConnRole, pdu: &[u8], mut each: F)
     where
         F: FnMut(Result<Option<ConnParamUpdateReq>, Refusal>, &[u8]),
@@ -142,14 +154,18 @@ impl<'r> ChannelManager<'r> {
 
     // ---- channels that a peer opens
 
-    /// The lowest slot of this link with a connect request that waits, now held once; none where none waits. `up` says whether the link is up.
+    /// A hold on the lowest slot of this link with a connect request that waits; none where none waits. `up` says whether the link is up.
+    ///
+    /// What comes next is [`accept_pending`](Self::accept_pending), [`reject_pending`](Self::reject_pending) or
+    /// [`drop_pending`](Self::drop_pending). The last two end the hold; after an accept, and where the phone closed meanwhile,
+    /// [`dec_ref`](Self::dec_ref) does.
     ///
     /// Refusals: 1, 4; 22 where that slot is held already; 18 where none waits and the link is down.
-    pub fn next_pending(&mut self, handle: ConnHandle, up: bool) -> Result<Option<ChannelIndex>, Refusal> {
-        entries::next_pending(&mut self.table.0, handle.0, up.into()).told().map(|answer| answer.slot())
+    pub fn next_pending(&mut self, handle: ConnHandle, up: bool) -> Result<Option<Hold>, Refusal> {
+        entries::next_pending(&mut self.table.0, handle.0, up.into()).told().map(|answer| answer.slot().map(Hold::of))
     }
 
-    /// Opens a pending channel. The hold stays, for whoever uses the channel.
+    /// Opens a pending channel. The hold stays, for whoever uses the channel: [`dec_ref`](Self::dec_ref) ends it, and with it the channel.
     ///
     /// Refusals: 1, 3, 6; 12 for MPS, then MTU; 8 where nothing is pending in this slot; 22 without a hold.
     pub fn accept_pending<'b>(
@@ -163,20 +179,26 @@ impl<'r> ChannelManager<'r> {
         Ok(answer.outgoing(buffer))
     }
 
-    /// Refuses a pending channel and frees its slot, less one hold.
+    /// Refuses a pending channel, frees its slot and ends the hold.
     ///
-    /// Refusals: 1, 2, 3, 6, 8, 22.
+    /// Refusals, which give the hold back: 1, 2, 3, 6; 8 where nothing is pending in this slot; 22 where the table counts no hold.
     pub fn reject_pending<'b>(
         &mut self,
-        index: ChannelIndex,
+        hold: Hold,
         result: LeCreditConnResultCode,
         buffer: &'b mut [u8],
-    ) -> Result<Outgoing<'b>, Refusal> {
-        let answer = entries::reject_pending(&mut self.table.0, self.room, buffer, index.0, result.number()).told()?;
-        Ok(answer.outgoing(buffer))
+    ) -> Result<Outgoing<'b>, StillHeld> {
+        match entries::reject_pending(&mut self.table.0, self.room, buffer, hold.index().0, result.number()).told() {
+            Ok(answer) => {
+                hold.into_index();
+                Ok(answer.outgoing(buffer))
+            }
+            Err(refusal) => Err(StillHeld { refusal, hold }),
+        }
     }
 
-    /// Refuses the lowest pending channel of this link that nobody holds, for want of resources; none where there is none. Call it until then.
+    /// Refuses the lowest pending channel of this link that nobody holds, by [`NoResources`](LeCreditConnResultCode::NoResources), and frees its slot;
+    /// none where there is none. Call it until then.
     ///
     /// Refusals: 1, 2, 3, 4.
     pub fn reject_all_pending<'b>(&mut self, handle: ConnHandle, buffer: &'b mut [u8]) -> Result<Option<ChannelSignal<'b>>, Refusal> {
@@ -184,16 +206,27 @@ impl<'r> ChannelManager<'r> {
         Ok(answer.at(handle, buffer))
     }
 
-    /// Lets go of a pending channel: one hold less, and the slot is freed. Nothing where it is open meanwhile.
+    /// Lets go of a pending channel without an answer to the peer: ends the hold, and frees the slot. Where the peer closed meanwhile it ends the hold
+    /// alone. Where the channel is open it does nothing, and the hold comes back.
     ///
-    /// Refusals: 1, 2, 6, 22.
-    pub fn drop_pending(&mut self, index: ChannelIndex) -> Result<(), Refusal> {
-        entries::drop_pending(&mut self.table.0, self.room, index.0).told().map(|_| ())
+    /// Refusals, which give the hold back: 1, 2, 6; 22 where the table counts no hold.
+    pub fn drop_pending(&mut self, hold: Hold) -> Result<Option<Hold>, StillHeld> {
+        let before = self.table.holds(hold.index());
+        match entries::drop_pending(&mut self.table.0, self.room, hold.index().0).told() {
+            // The answer is the same for an open channel: the count tells.
+            Ok(_) if self.table.holds(hold.index()) == before => Ok(Some(hold)),
+            Ok(_) => {
+                hold.into_index();
+                Ok(None)
+            }
+            Err(refusal) => Err(StillHeld { refusal, hold }),
+        }
     }
 
     // ---- channels that we open
 
-    /// Takes a slot and writes a connect request.
+    /// Takes a slot and writes a connect request. Nobody holds the slot yet: [`opened`](Self::opened) gives the hold once the peer has accepted, and
+    /// [`give_up`](Self::give_up) ends the attempt.
     ///
     /// Refusals: 1, 3, 4; 12 for MPS, then MTU; 13 where no slot is free. 12 and 13 have used an identifier.
     pub fn create<'b>(
@@ -209,38 +242,48 @@ impl<'r> ChannelManager<'r> {
         answer.at(handle, buffer).ok_or(Refusal::BadTable)
     }
 
-    /// Whether the channel is open by now: true, and it is held once, or false where the peer hasn't answered.
+    /// A hold on the channel that we asked for, once it is open; none where the peer hasn't answered. [`dec_ref`](Self::dec_ref) ends the hold, and
+    /// with it the channel.
     ///
     /// Refusals: 1, 2, 4, 6; 18 where the slot is free; 8 where it is another link's; 18 where link or channel are down, and 17 where the peer
     /// refused: these have freed the slot; 22 where it is held already.
-    pub fn opened(&mut self, index: ChannelIndex, handle: ConnHandle, up: bool) -> Result<bool, Refusal> {
-        entries::opened(&mut self.table.0, self.room, index.0, handle.0, up.into()).told().map(|answer| answer.is_opened())
+    pub fn opened(&mut self, index: ChannelIndex, handle: ConnHandle, up: bool) -> Result<Option<Hold>, Refusal> {
+        let answer = entries::opened(&mut self.table.0, self.room, index.0, handle.0, up.into()).told()?;
+        Ok(answer.is_opened().then(|| Hold::of(index)))
     }
 
-    /// Gives up an attempt of ours, and frees its slot.
+    /// Gives up an attempt of ours, waiting or failed, or an open channel that nobody holds, and frees its slot. The peer isn't told.
     ///
-    /// Refusals: 1, 2, 6, 8.
+    /// Refusals: 1, 2, 6; 8 where the slot has neither.
     pub fn give_up(&mut self, index: ChannelIndex) -> Result<(), Refusal> {
         entries::give_up(&mut self.table.0, self.room, index.0).told().map(|_| ())
     }
 
     // ---- holds and ends
 
-    /// One hold more.
+    /// One hold more, in every state of the slot.
     ///
-    /// Refusals: 1, 6, 22.
-    pub fn inc_ref(&mut self, index: ChannelIndex) -> Result<(), Refusal> {
-        entries::inc_ref(&mut self.table.0, index.0).told().map(|_| ())
+    /// Refusals: 1, 6; 22 at 255 holds.
+    pub fn inc_ref(&mut self, index: ChannelIndex) -> Result<Hold, Refusal> {
+        entries::inc_ref(&mut self.table.0, index.0).told().map(|_| Hold::of(index))
     }
 
-    /// One hold less. The last one of an open channel lets it disconnect.
+    /// One hold less. The last one of an open channel lets it disconnect: [`next_disconnect`](Self::next_disconnect) writes the request. The last one
+    /// of a closed channel frees its slot for the next.
     ///
-    /// Refusals: 1, 2, 6, 22.
-    pub fn dec_ref(&mut self, index: ChannelIndex) -> Result<(), Refusal> {
-        entries::dec_ref(&mut self.table.0, self.room, index.0).told().map(|_| ())
+    /// Refusals, which give the hold back: 1, 2, 6; 22 where the table counts no hold.
+    pub fn dec_ref(&mut self, hold: Hold) -> Result<(), StillHeld> {
+        match entries::dec_ref(&mut self.table.0, self.room, hold.index().0).told() {
+            Ok(_) => {
+                hold.into_index();
+                Ok(())
+            }
+            Err(refusal) => Err(StillHeld { refusal, hold }),
+        }
     }
 
-    /// Lets an open channel disconnect; nothing in another state. The request is written by [`next_disconnect`](Self::next_disconnect).
+    /// Lets an open channel disconnect; nothing in another state. The request is written by [`next_disconnect`](Self::next_disconnect). Holds stay
+    /// until [`dec_ref`](Self::dec_ref) ends them.
     ///
     /// Refusals: 1, 2, 6.
     pub fn disconnect(&mut self, index: ChannelIndex) -> Result<(), Refusal> {
@@ -254,15 +297,17 @@ impl<'r> ChannelManager<'r> {
         entries::disconnect_by_cid(&mut self.table.0, self.room, cid.0).told().map(|_| ())
     }
 
-    /// The link is down: frees all its slots, and zeroes what they held in the room. Holds stay until they are released.
+    /// The link is down: frees all its slots, and zeroes what they held in the room. Holds stay: [`dec_ref`](Self::dec_ref) ends each, and until then no
+    /// other channel gets the slot. [`Table::held`] has the slots that wait for it.
     ///
     /// Refusals: 1, 2, 4.
     pub fn disconnected(&mut self, handle: ConnHandle) -> Result<(), Refusal> {
         entries::disconnected(&mut self.table.0, self.room, handle.0).told().map(|_| ())
     }
 
-    /// Writes the next disconnect that is due, the lowest slot's: the response to a peer's request, which frees the slot, or our request; none
-    /// where none is due. Jobs that wait in a slot are gone with a response: take them first.
+    /// Writes the next disconnect that is due, the lowest slot's: the response to a peer's request, which frees the slot, or our request, after which
+    /// the peer's response frees it; none where none is due. Jobs that wait in a slot are gone with a response: take them first. Holds stay until
+    /// [`dec_ref`](Self::dec_ref) ends them.
     ///
     /// Refusals: 1, 2, 3.
     pub fn next_disconnect<'b>(&mut self, buffer: &'b mut [u8]) -> Result<Option<ChannelSignal<'b>>, Refusal> {
@@ -274,16 +319,16 @@ impl<'r> ChannelManager<'r> {
 
     /// Takes in a frame that came on a link: its CID, and its payload behind the L2CAP header. Nothing where the channel isn't open.
     ///
-    /// Refusals: 1, 2, 4; 7 for a CID of no slot; 8 for another link's; 10 without a credit; then, with the credit used, 19 and 9, which leave the
-    /// channel disconnecting, and 21, which drops the job.
+    /// Refusals: 1, 2, 4; 7 for a CID of no slot; 8 for another link's open channel; 10 without a credit; then, with the credit used, 19 and 9, which
+    /// leave the channel disconnecting, and 21, which drops the job.
     pub fn dispatch(&mut self, handle: ConnHandle, cid: Cid, payload: &[u8]) -> Result<(), Refusal> {
         entries::dispatch(&mut self.table.0, self.room, handle.0, cid.0, payload).told().map(|_| ())
     }
 
     /// Cuts a job into frames, and uses a credit for each.
     ///
-    /// Refusals: 1, 6; 11 where the channel isn't open; 12 above the peer's MTU; 23; 20; 14 where the credits don't suffice; 3 where `out` is too
-    /// short.
+    /// Refusals: 1, 6; 11 where the channel isn't open; 12 above the peer's MTU; 23 above 65,533 octets; 20 where the peer's MPS is under 23; 14 where
+    /// the credits don't suffice; 3 where `out` is too short.
     pub fn send<'b>(&mut self, index: ChannelIndex, sdu: &[u8], out: &'b mut [u8]) -> Result<Frames<'b>, Refusal> {
         let answer = entries::send(&mut self.table.0, out, index.0, sdu).told()?;
         Ok(answer.frames(out))
@@ -291,7 +336,7 @@ impl<'r> ChannelManager<'r> {
 
     /// Takes the oldest job that waits, as far as `sdu` reaches, and grants the peer new credits where they are due; none where no job waits.
     ///
-    /// Refusals: 1, 2, 3, 6; 11 where no channel is or was open.
+    /// Refusals: 1, 2, 3, 6; 11 where the slot is free, or its channel isn't open yet or failed.
     pub fn receive<'j, 'b>(
         &mut self,
         index: ChannelIndex,

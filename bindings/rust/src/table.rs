@@ -7,6 +7,8 @@ use crate::codes::{ChannelIndex, ConnHandle, LeCreditConnResultCode, SLOTS};
 pub const TABLE_OCTETS: usize = 672;
 
 const HEAD: usize = 48;
+const STATE: usize = 0;
+const HOLD: usize = 17;
 
 /// The octets of room that a table needs: a place for the job that arrives and one for each that waits, in every slot. `channels` is 1 to 16,
 /// `queue` 1 to 4 and `packet` 29 to 1,024; other sizes are refused by [`ChannelManager::new`](crate::ChannelManager::new).
@@ -60,14 +62,32 @@ impl Table {
         self.octet(5)
     }
 
-    /// What one slot holds; none where the table has no such slot.
+    /// The slots that are closed but still held, a bit for each; slot 0 has the lowest. No channel gets them before
+    /// [`dec_ref`](crate::ChannelManager::dec_ref) ends their holds: 0 where nothing was forgotten.
+    pub fn held(&self) -> u16 {
+        let closed = |index: u8| self.cell(index, STATE) == 0 && self.cell(index, HOLD) != 0;
+        (0..self.channels().min(SLOTS)).filter(|index| closed(*index)).fold(0, |set, index| set | 1 << index)
+    }
+
+    /// How many hold a slot.
+    pub(crate) fn holds(&self, index: ChannelIndex) -> u8 {
+        self.cell(index.0, HOLD)
+    }
+
+    /// An octet of a slot's row.
+    fn cell(&self, index: u8, column: usize) -> u8 {
+        self.octet(HEAD + usize::from(SLOTS) * column + usize::from(index))
+    }
+
+    /// What one slot holds. None where the table has no such slot, and where octets that no call wrote spell a failed attempt with a result of no
+    /// name: every call refuses such a table, by [`Refusal::BadTable`](crate::Refusal::BadTable).
     pub fn slot(&self, index: ChannelIndex) -> Option<Slot> {
         if index.0 >= self.channels() || index.0 >= SLOTS {
             return None;
         }
-        let octet = |column: usize| self.octet(HEAD + usize::from(SLOTS) * column + usize::from(index.0));
+        let octet = |column: usize| self.cell(index.0, column);
         let number = |column: usize| u16::from_le_bytes([octet(column), octet(column + 1)]);
-        let state = match (octet(0), octet(1)) {
+        let state = match (octet(STATE), octet(1)) {
             (1, identifier) => ChannelState::Connecting(identifier),
             (2, identifier) => ChannelState::PeerConnecting(identifier),
             (3, _) => ChannelState::Connected,
@@ -86,7 +106,7 @@ impl Table {
             flow_policy: policy,
             credits: number(13),
             received: number(15),
-            hold: octet(17),
+            hold: octet(HOLD),
             peer_cid: number(18),
             peer_mps: number(20),
             peer_mtu: number(22),

@@ -105,6 +105,21 @@ fn forged_rows() {
     }
 }
 
+/// A failed attempt with a result of no name is no slot to look at; one with a name is.
+#[test]
+fn a_forged_result_is_not_shown() {
+    let (octets, room) = busy();
+    for result in 0..=255 {
+        let mut octets = octets;
+        octets[cell(0, 0)] = 4;
+        octets[cell(0, 1)] = result;
+        let shown = Table::from_octets(octets).slot(SLOT).map(|slot| slot.state);
+        let named = LeCreditConnResultCode::from_number(result.into()).map(ChannelState::ConnectFailed);
+        assert_eq!(shown, named, "result {result}");
+        assert_eq!(refused(&octets, &room), named.is_none(), "result {result}");
+    }
+}
+
 /// Every octet, changed: the table is refused whole, or it is another table, whose calls all end.
 #[test]
 fn every_octet_changed() {

@@ -32,7 +32,7 @@ fn half_job_is_gone() {
     assert!(channels.room().iter().all(|octet| *octet == 0));
     let due = channels.next_disconnect(&mut signal).unwrap().unwrap();
     assert_eq!((due.index, due.handle, hex(due.octets)), (first, PHONE, "080005000721040040005000".into()));
-    channels.dec_ref(first).unwrap();
+    channels.dec_ref(Hold::of(first)).unwrap();
     // The next phone's job, in two frames.
     let second = open(&mut channels, OTHER, &request(0x60, 100, 23, 5), &L2capChannelConfig::default());
     assert_eq!(second, first);
@@ -57,7 +57,7 @@ fn link_down_leaves_zeros() {
     assert!(channels.room().iter().all(|octet| *octet == 0));
     assert!(is_free(&slot(&channels, index)));
     assert_eq!(slot(&channels, index).hold, 1);
-    channels.dec_ref(index).unwrap();
+    channels.dec_ref(Hold::of(index)).unwrap();
     assert_eq!(slot(&channels, index).hold, 0);
 }
 
@@ -72,14 +72,16 @@ fn jobs_both_ways() {
     let (mut signal, mut reply) = ([0; SIGNAL_OCTETS], [0; SIGNAL_OCTETS]);
     let request = phone.create(PHONE, SPSM, &config, &mut signal).unwrap();
     assert_eq!((request.index, request.handle), (SLOT, PHONE));
-    assert_eq!(phone.opened(SLOT, PHONE, true), Ok(false));
+    assert_eq!(phone.opened(SLOT, PHONE, true), Ok(None));
     let got = printer.signal(OTHER, true, LeConnRole::Peripheral, &request.octets[4..], &mut reply);
     assert_eq!(got, Signalled { outcome: Ok(None), reply: &[], rest: &[] });
-    assert_eq!(printer.next_pending(OTHER, true), Ok(Some(SLOT)));
+    let printers = printer.next_pending(OTHER, true).unwrap().unwrap();
+    assert_eq!((printers.index(), printers.cid()), (SLOT, Cid(0x40)));
     let response = printer.accept_pending(SLOT, &config, &mut reply).unwrap();
     let got = phone.signal(PHONE, true, LeConnRole::Central, &response.octets[4..], &mut signal);
     assert_eq!(got, Signalled { outcome: Ok(None), reply: &[], rest: &[] });
-    assert_eq!(phone.opened(SLOT, PHONE, true), Ok(true));
+    let phones = phone.opened(SLOT, PHONE, true).unwrap().unwrap();
+    assert_eq!(phones.index(), SLOT);
     assert_eq!(
         [phone.spsm(SLOT), phone.mtu(SLOT), phone.mps(SLOT), phone.peer_mtu(SLOT), phone.peer_mps(SLOT)],
         [Ok(SPSM), Ok(58), Ok(23), Ok(58), Ok(23)]
@@ -113,14 +115,17 @@ fn jobs_both_ways() {
         }
     }
 
-    // The phone ends it: request, response, and both slots are free.
-    phone.disconnect(SLOT).unwrap();
+    // The phone ends it: request, response, and both slots are free once the printer's hold is back too.
+    phone.dec_ref(phones).unwrap();
     assert_eq!(phone.attention(), Ok(Attention { set: 1, count: 1, lowest: Some(SLOT) }));
     let due = phone.next_disconnect(&mut signal).unwrap().unwrap();
     assert_eq!(printer.signal(OTHER, true, LeConnRole::Central, &due.octets[4..], &mut reply).outcome, Ok(None));
     let due = printer.next_disconnect(&mut reply).unwrap().unwrap();
     assert_eq!(phone.signal(PHONE, true, LeConnRole::Central, &due.octets[4..], &mut signal).outcome, Ok(None));
     assert!(is_free(&slot(&phone, SLOT)) && is_free(&slot(&printer, SLOT)));
+    assert_eq!((phone.table().held(), printer.table().held()), (0, 1));
+    printer.dec_ref(printers).unwrap();
+    assert_eq!(printer.table().held(), 0);
     assert_eq!(phone.next_disconnect(&mut signal), Ok(None));
 }
 
@@ -182,16 +187,17 @@ fn pendings_go_three_ways() {
     let mut signal = [0; SIGNAL_OCTETS];
     feed(&mut channels, PHONE, &request(0x50, 100, 23, 5));
     feed(&mut channels, PHONE, &request(0x51, 100, 23, 5));
-    assert_eq!(channels.next_pending(PHONE, true), Ok(Some(ChannelIndex(0))));
-    let out = channels.reject_pending(SLOT, LeCreditConnResultCode::InsufficientEncryption, &mut signal).unwrap();
+    let hold = channels.next_pending(PHONE, true).unwrap().unwrap();
+    assert_eq!(hold.index(), SLOT);
+    let out = channels.reject_pending(hold, LeCreditConnResultCode::InsufficientEncryption, &mut signal).unwrap();
     assert_eq!((out.handle, hex(out.octets)), (PHONE, "0e00050015070a0000000000000000000800".into()));
     let out = channels.reject_all_pending(PHONE, &mut signal).unwrap().unwrap();
     assert_eq!((out.index, out.handle, hex(out.octets)), (ChannelIndex(1), PHONE, "0e00050015070a0000000000000000000400".into()));
     assert_eq!(channels.reject_all_pending(PHONE, &mut signal), Ok(None));
     assert_eq!(channels.next_pending(PHONE, true), Ok(None));
     feed(&mut channels, PHONE, &request(0x50, 100, 23, 5));
-    assert_eq!(channels.next_pending(PHONE, true), Ok(Some(SLOT)));
-    channels.drop_pending(SLOT).unwrap();
+    let hold = channels.next_pending(PHONE, true).unwrap().unwrap();
+    assert_eq!(channels.drop_pending(hold), Ok(None));
     assert!(is_free(&slot(&channels, SLOT)));
     assert_eq!(slot(&channels, SLOT).hold, 0);
 }
@@ -208,11 +214,11 @@ fn ends() {
     assert!(is_free(&slot(&channels, SLOT)));
     for way in 0..3 {
         let index = opened(&mut channels);
-        channels.inc_ref(index).unwrap();
-        channels.dec_ref(index).unwrap();
+        let more = channels.inc_ref(index).unwrap();
+        channels.dec_ref(more).unwrap();
         assert_eq!(slot(&channels, index).state, ChannelState::Connected);
         match way {
-            0 => channels.dec_ref(index).unwrap(),
+            0 => channels.dec_ref(Hold::of(index)).unwrap(),
             1 => channels.disconnect(index).unwrap(),
             _ => channels.disconnect_by_cid(index.cid()).unwrap(),
         }
@@ -222,7 +228,7 @@ fn ends() {
         assert_eq!(slot(&channels, index).state, ChannelState::Disconnecting(true));
         channels.disconnected(PHONE).unwrap();
         if way > 0 {
-            channels.dec_ref(index).unwrap();
+            channels.dec_ref(Hold::of(index)).unwrap();
         }
     }
 }
@@ -285,11 +291,17 @@ fn numbers() {
     assert_eq!([0x3F, 0x40, 0x4F, 0x50].map(|n| Cid(n).index()), [None, Some(ChannelIndex(0)), Some(ChannelIndex(15)), None]);
     for number in 0..64 {
         if let Some(code) = LeCreditConnResultCode::from_number(number) {
-            assert_eq!(code.number(), number);
+            assert_eq!((code.number(), code as u16, u16::from(code), number.try_into()), (number, number, number, Ok(code)));
         } else {
             assert!(number == 1 || number == 3 || number > 11);
+            assert_eq!(LeCreditConnResultCode::try_from(number), Err(Refusal::Decode));
         }
     }
-    assert_eq!(Refusal::QueueFull.to_string(), "21 QueueFull");
+    assert_eq!(LeCreditConnResultCode::NoResources as u16, 4);
+    assert_eq!((ConnHandle::from(7), u16::from(ConnHandle(7))), (ConnHandle(7), 7));
+    assert_eq!((Cid::from(0x41), u16::from(Cid(0x41))), (Cid(0x41), 0x41));
+    assert_eq!((ChannelIndex::from(3), u8::from(ChannelIndex(3))), (ChannelIndex(3), 3));
+    let error: Box<dyn std::error::Error> = Refusal::QueueFull.into();
+    assert_eq!(error.to_string(), "21 QueueFull");
     assert_eq!(Refusal::ConnectError(LeCreditConnResultCode::NoResources).to_string(), "17 ConnectError, result 4");
 }

@@ -266,7 +266,7 @@ fn refusal_12_insufficient_space() {
     let mut room = [0; ROOM];
     let mut channels = made(&mut room);
     feed(&mut channels, PHONE, &request(0x50, 100, 23, 5));
-    channels.next_pending(PHONE, true).unwrap();
+    channels.next_pending(PHONE, true).unwrap().map(Hold::into_index);
     let mut signal = BUFFER;
     for (mtu, mps) in [(Some(59), None), (None, Some(61)), (Some(65535), Some(65535))] {
         let asked = config(mtu, mps, None);
@@ -290,7 +290,7 @@ fn refusal_12_insufficient_space() {
 fn refusal_13_no_channel_available() {
     let mut room = [0; ROOM];
     let mut channels = made(&mut room);
-    channels.inc_ref(SLOT).unwrap();
+    let hold = channels.inc_ref(SLOT).unwrap();
     feed(&mut channels, PHONE, &request(0x50, 100, 23, 5));
     let (before, room) = state(&channels);
     let mut signal = BUFFER;
@@ -299,7 +299,7 @@ fn refusal_13_no_channel_available() {
     wanted[5] = 2;
     assert!(channels.table().octets() == &wanted && channels.room() == &room[..]);
     assert_eq!(signal, BUFFER);
-    channels.dec_ref(SLOT).unwrap();
+    channels.dec_ref(hold).unwrap();
     assert_eq!(channels.create(PHONE, SPSM, &L2capChannelConfig::default(), &mut signal).unwrap().index, SLOT);
 }
 
@@ -430,23 +430,23 @@ fn refusal_21_queue_full() {
 fn refusal_22_held() {
     let mut room = [0; ROOM];
     let mut channels = made(&mut room);
-    unchanged(&mut channels, Refusal::Held, |channels| channels.dec_ref(SLOT));
-    unchanged(&mut channels, Refusal::Held, |channels| channels.drop_pending(SLOT));
+    unchanged(&mut channels, Refusal::Held, |channels| ended(channels.dec_ref(Hold::of(SLOT))));
+    unchanged(&mut channels, Refusal::Held, |channels| ended(channels.drop_pending(Hold::of(SLOT))));
     feed(&mut channels, PHONE, &request(0x50, 100, 23, 5));
     let mut signal = BUFFER;
     unchanged(&mut channels, Refusal::Held, |channels| {
         channels.accept_pending(SLOT, &L2capChannelConfig::default(), &mut signal).map(|_| ())
     });
     unchanged(&mut channels, Refusal::Held, |channels| {
-        channels.reject_pending(SLOT, LeCreditConnResultCode::NoResources, &mut signal).map(|_| ())
+        ended(channels.reject_pending(Hold::of(SLOT), LeCreditConnResultCode::NoResources, &mut signal)).map(|_| ())
     });
     assert_eq!(signal, BUFFER);
-    assert_eq!(channels.next_pending(PHONE, true), Ok(Some(SLOT)));
+    assert_eq!(channels.next_pending(PHONE, true).unwrap().map(Hold::into_index), Some(SLOT));
     unchanged(&mut channels, Refusal::Held, |channels| channels.next_pending(PHONE, true));
     channels.accept_pending(SLOT, &L2capChannelConfig::default(), &mut signal).unwrap();
     unchanged(&mut channels, Refusal::Held, |channels| channels.opened(SLOT, PHONE, true));
     for _ in 1..255 {
-        channels.inc_ref(SLOT).unwrap();
+        channels.inc_ref(SLOT).unwrap().into_index();
     }
     assert_eq!(slot(&channels, SLOT).hold, 255);
     unchanged(&mut channels, Refusal::Held, |channels| channels.inc_ref(SLOT));

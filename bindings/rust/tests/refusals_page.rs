@@ -155,7 +155,12 @@ fn the_other_tests_are_in_its_order() {
     let mut channels = made(&mut room);
     before("accept_pending", InsufficientSpace, NotFound, channels.accept_pending(SLOT, &large, &mut signal).err());
     before("accept_pending", NotFound, Held, channels.accept_pending(SLOT, &usual, &mut signal).err());
-    before("reject_pending", NotFound, Held, channels.reject_pending(SLOT, LeCreditConnResultCode::NoResources, &mut signal).err());
+    before(
+        "reject_pending",
+        NotFound,
+        Held,
+        ended(channels.reject_pending(Hold::of(SLOT), LeCreditConnResultCode::NoResources, &mut signal)).err(),
+    );
     before("opened", Disconnected, NotFound, channels.opened(SLOT, PHONE, true).err());
     before("send", ChannelClosed, InsufficientSpace, channels.send(SLOT, &[1], &mut out).err());
     for (first, second, pdu) in [
@@ -167,8 +172,8 @@ fn the_other_tests_are_in_its_order() {
     }
 
     // No slot is free.
-    channels.inc_ref(SLOT).expect("held");
-    channels.inc_ref(ChannelIndex(1)).expect("held");
+    channels.inc_ref(SLOT).expect("held").into_index();
+    channels.inc_ref(ChannelIndex(1)).expect("held").into_index();
     before("create", InsufficientSpace, NoChannelAvailable, channels.create(PHONE, SPSM, &large, &mut signal).err());
 
     // An attempt that failed, on a link that is down, and held.
@@ -180,7 +185,7 @@ fn the_other_tests_are_in_its_order() {
         channels.create(PHONE, SPSM, &usual, &mut signal).expect("an attempt");
         assert_eq!(feed(&mut channels, PHONE, pdu)[0].0, Err(refused));
         if up {
-            channels.inc_ref(SLOT).expect("held");
+            channels.inc_ref(SLOT).expect("held").into_index();
         }
         before("opened", first, second, channels.opened(SLOT, PHONE, up).err());
     }
@@ -289,12 +294,12 @@ fn any_call(name: &str, chance: &mut Chance, channels: &mut ChannelManager<'_>, 
     let mut signal = BUFFER;
     match name {
         "register_spsm" => channels.register_spsm(chance.of(&[0, SPSM, 256])).err(),
-        "next_pending" => channels.next_pending(link, up).err(),
+        "next_pending" => channels.next_pending(link, up).map(|hold| hold.map(Hold::into_index)).err(),
         "accept_pending" => channels.accept_pending(index, &config, &mut signal).err(),
         "create" => channels.create(link, SPSM, &config, &mut signal).err(),
-        "opened" => channels.opened(index, link, up).err(),
-        "inc_ref" => (0..chance.of(&[1, 1, 1, 255])).find_map(|_| channels.inc_ref(index).err()),
-        "dec_ref" => (0..chance.of(&[1, 1, 255, 255])).find_map(|_| channels.dec_ref(index).err()),
+        "opened" => channels.opened(index, link, up).map(|hold| hold.map(Hold::into_index)).err(),
+        "inc_ref" => (0..chance.of(&[1, 1, 1, 255])).find_map(|_| channels.inc_ref(index).map(Hold::into_index).err()),
+        "dec_ref" => (0..chance.of(&[1, 1, 255, 255])).find_map(|_| ended(channels.dec_ref(Hold::of(index))).err()),
         "dispatch" => {
             let payload: &[u8] = chance.of(&[&[], &[1], &[2, 0, 1, 2], &[2, 0, 1, 2], &[2, 0, 1], &[1, 0, 1, 2], &[59, 0]]);
             channels.dispatch(link, Cid(chance.of(&[0x3F, 0x40, 0x40, 0x40, 0x41, 0x42])), payload).err()

@@ -45,10 +45,10 @@ pub fn request(cid: u16, mtu: u16, mps: u16, credits: u16) -> String {
     hex(&pdu)
 }
 
-/// Opens a channel for a peer: its slot, held once.
+/// Opens a channel for a peer: its slot, held once. The tests that need the hold itself take it up by [`Hold::of`].
 pub fn open(channels: &mut ChannelManager<'_>, link: ConnHandle, request: &str, config: &L2capChannelConfig) -> ChannelIndex {
     assert_eq!(feed(channels, link, request), [(Ok(None), String::new())]);
-    let slot = channels.next_pending(link, true).expect("pending").expect("a slot");
+    let slot = channels.next_pending(link, true).expect("pending").expect("a slot").into_index();
     let mut signal = [0; SIGNAL_OCTETS];
     let response = channels.accept_pending(slot, config, &mut signal).expect("accepted");
     assert_eq!(response.handle, link);
@@ -67,6 +67,14 @@ pub fn slot(channels: &ChannelManager<'_>, index: ChannelIndex) -> Slot {
 
 pub fn state(channels: &ChannelManager<'_>) -> (Table, Vec<u8>) {
     (channels.table().clone(), channels.room().to_vec())
+}
+
+/// What a call that ends a hold came to; the hold that a refusal gives back is put away.
+pub fn ended<T>(result: Result<T, StillHeld>) -> Result<T, Refusal> {
+    result.map_err(|StillHeld { refusal, hold }| {
+        hold.into_index();
+        refusal
+    })
 }
 
 /// The call refuses by this, and leaves table and room as they were.

@@ -1,0 +1,268 @@
+//! A printer's loop. `Printer::packet` takes one whole L2CAP packet that came on a link, and sends and prints all that it calls for: replies, credits,
+//! disconnects, jobs. It needs no heap and no `std`, so that a firmware can take it over as it stands; `main` plays a scene with it.
+//!
+//!     cargo run --example printer
+
+use l2cap_channels::{
+    room_octets, ChannelIndex, ChannelManager, Cid, ConnHandle, CreditFlowPolicy, Hold, L2capChannelConfig, LeConnRole, Refusal, CID_BASE,
+    SIGNAL_OCTETS, SLOTS,
+};
+
+const CHANNELS: u16 = 16;
+const QUEUE: u16 = 1;
+const PACKET: u16 = 64;
+const ROOM: usize = room_octets(CHANNELS, QUEUE, PACKET);
+const SPSM: u16 = 0x80;
+
+/// Frames of 23 octets, and as many credits as the longest job takes. Fewer don't compile.
+const CONFIG: L2capChannelConfig = match ASKED.checked(QUEUE, PACKET) {
+    Ok(config) => config,
+    Err(_) => panic!("a job could stick"),
+};
+const ASKED: L2capChannelConfig =
+    L2capChannelConfig { mtu: None, mps: Some(23), flow_policy: CreditFlowPolicy::Every(1), initial_credits: Some(3) };
+
+/// The CID of the signalling channel.
+const SIGNALLING: Cid = Cid(5);
+
+/// Where things go that leave the printer's loop.
+pub trait Out {
+    /// A packet for the controller, with its L2CAP header.
+    fn send(&mut self, link: ConnHandle, packet: &[u8]);
+
+    /// A job that is whole.
+    fn print(&mut self, link: ConnHandle, job: &[u8]);
+}
+
+/// Why a packet came to less than it asked for. What was due is done nevertheless.
+#[derive(Clone, Copy, Debug, PartialEq, Eq)]
+pub enum Fault {
+    /// It has fewer or more octets than its header says. Where it was a frame of an open channel, that channel is closed: its job can't be whole.
+    Length,
+    /// Its CID is another protocol's: ATT has 4, the security manager 6.
+    Foreign,
+    /// The manager refused it.
+    Refused(Refusal),
+}
+
+impl From<Refusal> for Fault {
+    fn from(refusal: Refusal) -> Self {
+        Self::Refused(refusal)
+    }
+}
+
+/// The channels of all phones, and the printer's hold on each that is open.
+pub struct Printer<'r> {
+    channels: ChannelManager<'r>,
+    holds: [Option<Hold>; SLOTS as usize],
+}
+
+impl<'r> Printer<'r> {
+    /// A printer to which phones connect on [`SPSM`].
+    pub fn new(room: &'r mut [u8; ROOM]) -> Result<Self, Refusal> {
+        let mut channels = ChannelManager::new(CHANNELS, QUEUE, PACKET, room)?;
+        channels.register_spsm(SPSM)?;
+        Ok(Self { channels, holds: [const { None }; SLOTS as usize] })
+    }
+
+    /// One whole L2CAP packet that came on a link: its length, its CID, its payload.
+    pub fn packet(&mut self, link: ConnHandle, packet: &[u8], out: &mut impl Out) -> Result<(), Fault> {
+        let came = match parts(packet) {
+            Some((SIGNALLING, Some(pdu))) => self.signals(link, pdu, out),
+            Some((SIGNALLING, None)) | None => Err(Fault::Length),
+            Some((cid, _)) if cid.0 < CID_BASE => Err(Fault::Foreign),
+            Some((cid, Some(payload))) => self.frame(link, cid, payload),
+            Some((cid, None)) => self.broken(link, cid),
+        };
+        self.settle(out)?;
+        came
+    }
+
+    /// The controller says that a link is down.
+    pub fn link_down(&mut self, link: ConnHandle, out: &mut impl Out) -> Result<(), Fault> {
+        self.channels.disconnected(link)?;
+        self.settle(out)
+    }
+
+    /// Every signal of a PDU; then every phone that asks for a channel gets one. The first refusal is told, once all signals are handled.
+    fn signals(&mut self, link: ConnHandle, pdu: &[u8], out: &mut impl Out) -> Result<(), Fault> {
+        let mut came = Ok(());
+        self.channels.feed_pdu(link, true, LeConnRole::Peripheral, pdu, |outcome, reply| {
+            if !reply.is_empty() {
+                out.send(link, reply);
+            }
+            came = came.and(outcome.map(|_| ()));
+        });
+        let mut signal = [0; SIGNAL_OCTETS];
+        while let Some(hold) = self.channels.next_pending(link, true)? {
+            let index = hold.index();
+            match self.channels.accept_pending(index, &CONFIG, &mut signal) {
+                Ok(response) => {
+                    out.send(response.handle, response.octets);
+                    self.holds[usize::from(index.0)] = Some(hold);
+                }
+                Err(refusal) => {
+                    self.channels.dec_ref(hold).map_err(Refusal::from)?;
+                    return Err(refusal.into());
+                }
+            }
+        }
+        Ok(came?)
+    }
+
+    /// A frame of a channel. A phone that sends without a credit loses its channel (Core, Vol 3 Part A, 10.1); the manager leaves that to us.
+    fn frame(&mut self, link: ConnHandle, cid: Cid, payload: &[u8]) -> Result<(), Fault> {
+        let came = self.channels.dispatch(link, cid, payload);
+        if came == Err(Refusal::OutOfMemory) {
+            self.channels.disconnect_by_cid(cid)?;
+        }
+        Ok(came?)
+    }
+
+    /// A frame that isn't whole: what came of its job must not be joined with what comes next. Only the channel's own link can close it so.
+    fn broken(&mut self, link: ConnHandle, cid: Cid) -> Result<(), Fault> {
+        if let Some(index) = cid.index() {
+            if self.channels.table().slot(index).is_some_and(|slot| slot.handle == link) {
+                self.channels.disconnect(index)?;
+            }
+        }
+        Err(Fault::Length)
+    }
+
+    /// All that is due: jobs that wait, then disconnects, with which waiting jobs would go, then the holds on channels that are closed.
+    fn settle(&mut self, out: &mut impl Out) -> Result<(), Fault> {
+        let (mut job, mut signal) = ([0; PACKET as usize], [0; SIGNAL_OCTETS]);
+        for index in slots(self.channels.attention()?.set) {
+            while let Some(taken) = self.channels.receive(index, &mut job, &mut signal)? {
+                out.print(taken.handle, taken.sdu);
+                if !taken.credits.is_empty() {
+                    out.send(taken.handle, taken.credits);
+                }
+            }
+        }
+        while let Some(due) = self.channels.next_disconnect(&mut signal)? {
+            out.send(due.handle, due.octets);
+        }
+        for index in slots(self.channels.table().held()) {
+            if let Some(hold) = self.holds[usize::from(index.0)].take() {
+                self.channels.dec_ref(hold).map_err(Refusal::from)?;
+            }
+        }
+        Ok(())
+    }
+}
+
+/// A packet's CID and its payload, if that is as long as the header says; nothing of less than a header.
+fn parts(packet: &[u8]) -> Option<(Cid, Option<&[u8]>)> {
+    let (header, payload) = packet.split_first_chunk::<4>()?;
+    let length = u16::from_le_bytes([header[0], header[1]]);
+    let cid = Cid::from(u16::from_le_bytes([header[2], header[3]]));
+    Some((cid, (payload.len() == usize::from(length)).then_some(payload)))
+}
+
+/// The slots of a set.
+fn slots(set: u16) -> impl Iterator<Item = ChannelIndex> {
+    (0..SLOTS).filter(move |index| set >> index & 1 == 1).map(ChannelIndex::from)
+}
+
+// ---- the scene
+
+/// What left the printer.
+#[derive(Default)]
+pub struct Desk {
+    sent: Vec<(ConnHandle, Vec<u8>)>,
+    printed: Vec<(ConnHandle, Vec<u8>)>,
+}
+
+impl Out for Desk {
+    fn send(&mut self, link: ConnHandle, packet: &[u8]) {
+        self.sent.push((link, packet.to_vec()));
+    }
+
+    fn print(&mut self, link: ConnHandle, job: &[u8]) {
+        self.printed.push((link, job.to_vec()));
+    }
+}
+
+impl Desk {
+    /// The codes of the signals that went out on a link since this was asked last. Each is behind a header of four octets.
+    fn codes(&mut self, link: ConnHandle) -> Vec<u8> {
+        let (its, others) = std::mem::take(&mut self.sent).into_iter().partition(|(to, _)| *to == link);
+        self.sent = others;
+        its.iter().map(|(_, packet): &(ConnHandle, Vec<u8>)| packet[4]).collect()
+    }
+}
+
+fn packet(cid: u16, payload: &[u8]) -> Vec<u8> {
+    let mut packet = (payload.len() as u16).to_le_bytes().to_vec();
+    packet.extend(cid.to_le_bytes());
+    packet.extend(payload);
+    packet
+}
+
+/// A phone's connect request, from its own CID 0x50: jobs up to 100 octets, frames of 23, five credits.
+fn connect() -> Vec<u8> {
+    packet(5, &[0x14, 7, 10, 0, 0x80, 0, 0x50, 0, 100, 0, 23, 0, 5, 0])
+}
+
+const RESPONSE: u8 = 0x15;
+const CREDITS: u8 = 0x16;
+const DISCONNECT_REQUEST: u8 = 0x06;
+const DISCONNECT_RESPONSE: u8 = 0x07;
+
+pub fn main() {
+    let mut room = [0; ROOM];
+    let mut printer = Printer::new(&mut room).expect("a printer");
+    let mut desk = Desk::default();
+    let [anna, ben, cleo] = [1, 2, 3].map(ConnHandle::from);
+
+    // Anna's phone connects and sends a job in two frames: slot 0, whose CID is 0x40.
+    assert_eq!(printer.packet(anna, &connect(), &mut desk), Ok(()));
+    assert_eq!(desk.codes(anna), [RESPONSE]);
+    assert_eq!(printer.packet(anna, &packet(0x40, b"\x1A\0ticket 1, row 4, se"), &mut desk), Ok(()));
+    assert!(desk.printed.is_empty());
+    assert_eq!(printer.packet(anna, &packet(0x40, b"at 17 A"), &mut desk), Ok(()));
+    assert_eq!(desk.printed.pop(), Some((anna, b"ticket 1, row 4, seat 17 A".to_vec())));
+    assert_eq!(desk.codes(anna), [CREDITS]);
+
+    // Ben's phone closes its channel in the middle of a job. Cleo's gets the slot, and her job comes out clean.
+    assert_eq!(printer.packet(ben, &connect(), &mut desk), Ok(()));
+    assert_eq!(printer.packet(ben, &packet(0x41, b"\x20\0half of a tick"), &mut desk), Ok(()));
+    assert_eq!(printer.packet(ben, &packet(5, &[0x06, 8, 4, 0, 0x41, 0, 0x50, 0]), &mut desk), Ok(()));
+    assert_eq!(desk.codes(ben), [RESPONSE, DISCONNECT_RESPONSE]);
+    assert_eq!(printer.packet(cleo, &connect(), &mut desk), Ok(()));
+    assert_eq!(printer.packet(cleo, &packet(0x41, b"\x08\0ticket 3"), &mut desk), Ok(()));
+    assert_eq!(desk.printed.pop(), Some((cleo, b"ticket 3".to_vec())));
+    assert_eq!(desk.codes(cleo), [RESPONSE, CREDITS]);
+
+    // A frame of Cleo's comes cut: her channel is closed. The same from another link does nothing.
+    let cut = &packet(0x41, b"\x08\0ticket 4")[..10];
+    assert_eq!(printer.packet(ben, cut, &mut desk), Err(Fault::Length));
+    assert_eq!(desk.codes(cleo), []);
+    assert_eq!(printer.packet(cleo, cut, &mut desk), Err(Fault::Length));
+    assert_eq!(desk.codes(cleo), [DISCONNECT_REQUEST]);
+    assert_eq!(printer.packet(cleo, &packet(5, &[0x07, 1, 4, 0, 0x50, 0, 0x41, 0]), &mut desk), Ok(()));
+
+    // Ben's phone comes back and sends more frames than it has credits for: its channel is closed too.
+    assert_eq!(printer.packet(ben, &connect(), &mut desk), Ok(()));
+    assert_eq!(printer.packet(ben, &packet(0x41, b"\x20\0a"), &mut desk), Ok(()));
+    assert_eq!(printer.packet(ben, &packet(0x41, b"b"), &mut desk), Ok(()));
+    assert_eq!(printer.packet(ben, &packet(0x41, b"c"), &mut desk), Ok(()));
+    assert_eq!(printer.packet(ben, &packet(0x41, b"d"), &mut desk), Err(Fault::Refused(Refusal::OutOfMemory)));
+    assert_eq!(desk.codes(ben), [RESPONSE, DISCONNECT_REQUEST]);
+    assert_eq!(printer.packet(ben, &packet(5, &[0x07, 2, 4, 0, 0x50, 0, 0x41, 0]), &mut desk), Ok(()));
+
+    // Packets that are too long, too short for a header, another protocol's or nobody's change nothing.
+    let long = [connect(), vec![0]].concat();
+    assert_eq!(printer.packet(ben, &long, &mut desk), Err(Fault::Length));
+    assert_eq!(printer.packet(ben, &connect()[..3], &mut desk), Err(Fault::Length));
+    assert_eq!(printer.packet(ben, &packet(4, &[1]), &mut desk), Err(Fault::Foreign));
+    assert_eq!(printer.packet(ben, &packet(0x60, &[1]), &mut desk), Err(Fault::Refused(Refusal::InvalidChannelId)));
+
+    // Anna's link goes down. Nothing is left: no job, no packet, no hold, and every slot is free again.
+    assert_eq!(printer.link_down(anna, &mut desk), Ok(()));
+    assert!(desk.printed.is_empty() && desk.sent.is_empty());
+    assert!(printer.holds.iter().all(Option::is_none));
+    assert!(printer.channels.table().slot(ChannelIndex(0)) == printer.channels.table().slot(ChannelIndex(15)));
+    println!("printed: ticket 1 and ticket 3, each whole and once; Ben's half job is gone; no slot is held");
+}

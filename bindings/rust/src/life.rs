@@ -1,0 +1,94 @@
+//! The life of a channel: who holds its slot, who gives it back, and when a disconnect is due. A page to read; the module has nothing else.
+//!
+//! A slot is free for the next channel when it is closed **and** nobody holds it. Closing doesn't end a hold, and ending a hold is the only thing that a
+//! peer can't do for us: sixteen phones that come and go without [`dec_ref`] leave no slot for the seventeenth. [`Table::held`] has the slots that are
+//! closed and wait for it.
+//!
+//! After each packet that came in, and after each link that went down, a loop does three things in this order, and forgets nothing:
+//!
+//! 1. jobs: [`receive`] on every slot that [`attention`] names, until none waits; the credits go out. (An attempt of ours that failed is named too,
+//!    and refused by 11 here: [`opened`] frees it.)
+//! 2. disconnects: [`next_disconnect`] until none is due; what it writes goes out;
+//! 3. holds: [`dec_ref`] on every slot that [`Table::held`] names.
+//!
+//! `examples/printer.rs` is such a loop.
+//!
+//! # A phone that connects and leaves
+//!
+//! | what happens | call | slot | holds |
+//! |---|---|---|---|
+//! | its connect request comes | [`signal`] | `PeerConnecting` | 0 |
+//! | we see it | [`next_pending`] gives a [`Hold`] | the same | 1 |
+//! | we take it | [`accept_pending`] | `Connected` | 1 |
+//! | or we refuse it | [`reject_pending`] takes the hold | free | 0 |
+//! | or we let it be | [`drop_pending`] takes the hold | free | 0 |
+//! | its disconnect request comes | [`signal`] | `PeerDisconnecting`: a disconnect is due | 1 |
+//! | we answer | [`next_disconnect`] | `Disconnected`, still held | 1 |
+//! | we give the slot back | [`dec_ref`] takes the hold | free | 0 |
+//!
+//! Where we leave first, [`dec_ref`] comes before: it leaves `Disconnecting` with no hold, [`next_disconnect`] writes our request, and the phone's
+//! response, by [`signal`], frees the slot. With [`disconnect`] in its place the hold stays, and [`dec_ref`] is still to come.
+//!
+//! # A phone that closes in mid-job
+//!
+//! | what happens | call | slot | holds |
+//! |---|---|---|---|
+//! | half of a job is there | [`dispatch`] | `Connected` | 1 |
+//! | its disconnect request comes | [`signal`]; the half job is zeroed | `PeerDisconnecting` | 1 |
+//! | jobs that were finished before | [`receive`] takes them; nothing is granted | the same | 1 |
+//! | we answer | [`next_disconnect`]; jobs that still wait are zeroed | `Disconnected`, still held | 1 |
+//! | we give the slot back | [`dec_ref`] takes the hold | free | 0 |
+//!
+//! A frame that breaks its job (refusals 9 and 19), and credits above 65,535 (9), leave `Disconnecting`: [`next_disconnect`] writes our request then.
+//!
+//! A phone that closes before it was accepted leaves `PeerDisconnecting` too. [`accept_pending`] and [`reject_pending`] refuse by 8, and the hold of
+//! [`next_pending`] ends by [`dec_ref`] or [`drop_pending`].
+//!
+//! # An attempt of our own
+//!
+//! | what happens | call | slot | holds |
+//! |---|---|---|---|
+//! | we ask | [`create`] | `Connecting` | 0 |
+//! | the peer hasn't answered | [`opened`] gives none | the same | 0 |
+//! | it opens | [`signal`], then [`opened`] gives a [`Hold`] | `Connected` | 1 |
+//! | or it fails | [`signal`] gives 17 and leaves `ConnectFailed`, then [`opened`] gives 17 | free | 0 |
+//! | or we give up | [`give_up`] | free | 0 |
+//!
+//! An attempt has no hold before [`opened`] gives one: once it is freed its slot can be another's. An unmatched connect response (8) and a link that
+//! goes down free it too, and [`opened`] gives 18 then. From [`opened`] on it is as a phone's channel.
+//!
+//! # A link that goes down
+//!
+//! | what happens | call | slot | holds |
+//! |---|---|---|---|
+//! | the controller says so | [`disconnected`]; all octets of its jobs are zeroed | each `Disconnected`, still held | as before |
+//! | we give the slots back | [`dec_ref`] takes each hold | free | 0 |
+//!
+//! No disconnect is due on a link that is down. Holds of another link stay as they are.
+//!
+//! # A manager that ends
+//!
+//! [`make`] counts every slot anew, and a manager that is put away takes its table with it: a [`Hold`] of before ends by [`into_index`]. Of a table that
+//! was kept, [`Hold::of`] takes up each hold that [`Slot::hold`] counts.
+//!
+//! [`accept_pending`]: crate::ChannelManager::accept_pending
+//! [`attention`]: crate::ChannelManager::attention
+//! [`create`]: crate::ChannelManager::create
+//! [`dec_ref`]: crate::ChannelManager::dec_ref
+//! [`disconnect`]: crate::ChannelManager::disconnect
+//! [`disconnected`]: crate::ChannelManager::disconnected
+//! [`dispatch`]: crate::ChannelManager::dispatch
+//! [`drop_pending`]: crate::ChannelManager::drop_pending
+//! [`give_up`]: crate::ChannelManager::give_up
+//! [`Hold`]: crate::Hold
+//! [`Hold::of`]: crate::Hold::of
+//! [`into_index`]: crate::Hold::into_index
+//! [`make`]: crate::ChannelManager::make
+//! [`next_disconnect`]: crate::ChannelManager::next_disconnect
+//! [`next_pending`]: crate::ChannelManager::next_pending
+//! [`opened`]: crate::ChannelManager::opened
+//! [`receive`]: crate::ChannelManager::receive
+//! [`reject_pending`]: crate::ChannelManager::reject_pending
+//! [`signal`]: crate::ChannelManager::signal
+//! [`Slot::hold`]: crate::Slot::hold
+//! [`Table::held`]: crate::Table::held

@@ -30,6 +30,11 @@ static int refused(uint32_t returned, enum l2cap_refusal refusal) {
 
 static int wrote(const uint8_t *in, const uint8_t *octets, size_t n) { return l2cap_answer_written(answer) == n && !memcmp(in, octets, n); }
 
+/* What a question of slot 0 answers: it is lent the table to read alone. */
+static int asked(uint32_t (*question)(const uint8_t *, size_t, uint8_t *, size_t, uint8_t), unsigned value) {
+    return question(LENT, 0) == 0 && is(L2CAP_ANSWER_NUMBER) && l2cap_answer_value(answer) == value;
+}
+
 static int zeros(const uint8_t *p, size_t n) {
     while (n--)
         if (*p++) return 0;
@@ -58,7 +63,8 @@ static void a_phone(void) {
     check(l2cap_accept_pending(LENT, IN(signal), 0, L2CAP_DEFAULT, L2CAP_DEFAULT, L2CAP_EVERY, 1, L2CAP_DEFAULT) == 0, "accept");
     check(is(L2CAP_ANSWER_LINK) && l2cap_answer_link(answer) == 1, "the response goes out on link 1");
     check(wrote(signal, IN(response)), "the response");
-    check(l2cap_peer_mtu(LENT, 0) == 0 && is(L2CAP_ANSWER_NUMBER) && l2cap_answer_value(answer) == 100, "the peer's MTU");
+    check(asked(l2cap_spsm, 128) && asked(l2cap_mtu, 58) && asked(l2cap_mps, 60), "our numbers");
+    check(asked(l2cap_peer_mtu, 100) && asked(l2cap_peer_mps, 23), "the peer's");
 
     check(l2cap_dispatch(LENT, IN(room), 1, L2CAP_CID_BASE, IN(frame)) == 0, "a frame");
     check(l2cap_attention(LENT) == 0 && is(L2CAP_ANSWER_ATTENTION), "attention");

@@ -20,8 +20,8 @@ use Rattle.definition.specs.Ending.{End, end}
 use Rattle.edge_layout.specs.Layout.{read, written, tableOctets}
 use Rattle.edge_layout.specs.Back.{written-back}
 use Rattle.edge_layout.specs.declared.Decoded.{Decoded}
-use Rattle.channel_answer.specs.Tells.{answerNumber}
-use Rattle.edge_answer.specs.Answers.{answerOctets}
+use Rattle.channel_answer.specs.Tells.{tells, answerNumber}
+use Rattle.edge_answer.specs.Answers.{toldOctets, answerOctets}
 
 pub record Edge : Type 0 where
   pub number : ℕ  -- 0, or the refusal's
@@ -92,9 +92,9 @@ on-table o a f {d} known stored called =
 
 -- A question gives back the table that it was given, so the table's octets stay, and the answer alone is written.
 pub on-asked : (o a : List ℕ) (f : Table → Served) → ((t : Table) → f t .table ≡ t)
-    → {d : Decoded} {s : Served} {number : ℕ} {answer : List ℕ} → d ≡ read o → s ≡ f (d .table) → number ≡ answerNumber (s .answer) → answer ≡ sets a 0 (answerOctets s)
+    → {d : Decoded} {s : Served} {number : ℕ} {answer : List ℕ} → d ≡ read o → s ≡ f (d .table) → number ≡ answerNumber (s .answer) → answer ≡ sets a 0 (toldOctets (tells (s .answer)) (s .octets))
     → edge number o answer [] [] [] ≡ onTable o a (λ t. alone (f t))
-unfolding onTable lifted
+unfolding onTable lifted answerOctets
 on-asked o a f keeps known called numbered told = rw (numbered, told, called, known, keeps (read o .table), written-back o)
 
 pub made-on : (o a : List ℕ) (f : Bool → End) {e : Edge} {x : End} → e ≡ lifted (eqb (length o) tableOctets) o a x → x ≡ f (eqb (length o) tableOctets) → e ≡ madeOn o a f

@@ -26,9 +26,12 @@ fn keep(table: &mut [u8], ok: bool, t: Table)
 pub fn store(table: &mut [u8], answer: &mut [u8], ok: bool, s: Served) -> u32
     ensures { λ r. ⌜ ((room out job : List ℕ) → edge r (now (table .exit)) (now (answer .exit)) room out job ≡ lifted ok (now (table .entry)) (now (answer .entry)) (end s room out job)) ⌝ }
 {
+    // Taken first: what is left of s is then the table alone, which goes on uncopied.
+    let a = s.answer;
+    let n = s.octets;
     let t = s.table;
     keep(table, ok, t);
-    edge_answer::put_answer(answer, s)
+    edge_answer::put_answer(answer, a, n)
 }
 
 // The slots to be made: none where the table's octets are too few or too many, which is refusal 1.

@@ -35,7 +35,8 @@ pub fn spsm(table: &[u8], answer: &mut [u8], slot: u8) -> u32
     let d = edge_layout_decode::decode(table);
     let t = d.table;
     let s = call_queries::spsm(t, ChannelIndex(slot));
-    edge_answer::put_answer(answer, s)
+    let a = s.answer;
+    edge_answer::put_answer(answer, a, s.octets)
 }
 
 // A slot's MTU.
@@ -45,7 +46,8 @@ pub fn mtu(table: &[u8], answer: &mut [u8], slot: u8) -> u32
     let d = edge_layout_decode::decode(table);
     let t = d.table;
     let s = call_queries::mtu(t, ChannelIndex(slot));
-    edge_answer::put_answer(answer, s)
+    let a = s.answer;
+    edge_answer::put_answer(answer, a, s.octets)
 }
 
 // A slot's MPS.
@@ -55,7 +57,8 @@ pub fn mps(table: &[u8], answer: &mut [u8], slot: u8) -> u32
     let d = edge_layout_decode::decode(table);
     let t = d.table;
     let s = call_queries::mps(t, ChannelIndex(slot));
-    edge_answer::put_answer(answer, s)
+    let a = s.answer;
+    edge_answer::put_answer(answer, a, s.octets)
 }
 
 // The MTU of a slot's peer.
@@ -65,7 +68,8 @@ pub fn peer_mtu(table: &[u8], answer: &mut [u8], slot: u8) -> u32
     let d = edge_layout_decode::decode(table);
     let t = d.table;
     let s = call_queries::peer_mtu(t, ChannelIndex(slot));
-    edge_answer::put_answer(answer, s)
+    let a = s.answer;
+    edge_answer::put_answer(answer, a, s.octets)
 }
 
 // The MPS of a slot's peer.
@@ -75,7 +79,8 @@ pub fn peer_mps(table: &[u8], answer: &mut [u8], slot: u8) -> u32
     let d = edge_layout_decode::decode(table);
     let t = d.table;
     let s = call_queries::peer_mps(t, ChannelIndex(slot));
-    edge_answer::put_answer(answer, s)
+    let a = s.answer;
+    edge_answer::put_answer(answer, a, s.octets)
 }
 
 // The slots that call.
@@ -85,7 +90,8 @@ pub fn attention(table: &[u8], answer: &mut [u8]) -> u32
     let d = edge_layout_decode::decode(table);
     let t = d.table;
     let s = call_attention::attention(t);
-    edge_answer::put_answer(answer, s)
+    let a = s.answer;
+    edge_answer::put_answer(answer, a, s.octets)
 }
 
 // Writes a request for connection parameters.

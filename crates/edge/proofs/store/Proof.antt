@@ -1,4 +1,5 @@
 -- `edge::store` meets its contract: the two writers ensure its parts.
+use Rattle.edge_answer.specs.Answers.{answerOctets}
 use Rattle.edge.specs.Edge.{lifted}
 use borrow.Author.Needs.{needs}
 use Rattle.edge.proofs.store.Statement.{statement}
@@ -17,7 +18,7 @@ same-length-2 : tie.Need-same-length-2
 same-length-2 c = search needs
 
 returns : tie.Need-returns
-unfolding lifted
+unfolding lifted answerOctets
 returns c =
     let answered = c .before .before .put-answer .ensures in
     let kept = c .before .before .before .before .before .before .keep .ensures in

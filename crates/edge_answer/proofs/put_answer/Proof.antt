@@ -1,7 +1,6 @@
 -- `edge_answer::put_answer` meets its contract: what is written is what `tells` gave.
 use mathlib.Core.Path.{ap}
 use Rattle.channel_answer.specs.declared.Told.{Told}
-use Rattle.edge_answer.specs.Answers.{answerOctets}
 use borrow.Author.Needs.{needs}
 use Rattle.edge_answer.proofs.put_answer.Statement.{statement}
 use Rattle.edge_answer.proofs.put_answer.Tie as tie
@@ -19,7 +18,6 @@ same-length : tie.Need-same-length
 same-length c = search needs
 
 returns : tie.Need-returns
-unfolding answerOctets
 returns c =
     let told = c .before .before .before in
     let told-is = told .before .before .tells .ensures in

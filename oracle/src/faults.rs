@@ -3,7 +3,7 @@
 
 use crate::port::Port;
 use crate::script::Script;
-use language::{Call, Manner};
+use language::{played, Call, Manner};
 
 #[derive(Clone, Copy, Debug, PartialEq, Eq)]
 pub enum Fault {
@@ -180,7 +180,7 @@ pub struct Faulty(pub Fault);
 
 impl Port for Faulty {
     fn rows(&mut self, script: &str) -> Result<Vec<String>, String> {
-        let calls: Vec<Call> = script.lines().map(Call::parse).collect();
+        let calls: Vec<Call> = played(script).map(|(_, line)| Call::parse(line)).collect();
         let manner = Manner { lost_line: self.0 == Fault::LostLine, ..Manner::default() };
         let mut rows = Vec::new();
         let starts: Vec<usize> = (0..calls.len()).filter(|at| matches!(calls[*at], Call::Make { .. })).collect();

@@ -66,10 +66,12 @@ impl Port for Program {
             _ => {}
         }
         let mut rows: Vec<String> = lines.collect();
-        // A program that dies or hangs differs where its rows end: the comparison shows the call and makes the script small.
+        // A program that dies or hangs differs where its rows end: the comparison shows the call and makes the script small. Status 1 says that a line
+        // couldn't be read, and its row says so too.
+        let unread = status.code() == Some(1) && rows.iter().any(|row| row == "? -");
         if late {
             rows.push(format!("no row after {} s", self.limit.as_secs()));
-        } else if !status.success() {
+        } else if !status.success() && !unread {
             rows.push(format!("no row: {status}"));
         }
         Ok(rows)

@@ -12,6 +12,8 @@ use oracle::run::{run, script, Extent};
 use oracle::script::Script;
 use oracle::shrink::shrink;
 use oracle::twin::Twin;
+use std::io::Write;
+use std::process::{Command, Stdio};
 
 fn rows(text: &str) -> Vec<String> {
     quiet();
@@ -64,6 +66,21 @@ fn a_table_that_cannot_be_made_and_lines_that_cannot_be_read() {
     assert_eq!(rows("T 16 4 825\nT 16 4 826"), ["0 -", "1 -"]);
     // A size that no build has is made, and then nothing is asked.
     assert_eq!(rows("T 1 1 77\nR 128\nV"), ["0 -", "~ -", "~ -"]);
+}
+
+#[test]
+fn the_program_passes_over_what_is_no_call_and_counts_it() {
+    let mut child = Command::new(env!("CARGO_BIN_EXE_original"))
+        .stdin(Stdio::piped())
+        .stdout(Stdio::piped())
+        .stderr(Stdio::piped())
+        .spawn()
+        .expect("the program runs");
+    let script = b"# a scene\r\n\nT 1 1 29\r\n#\nR 128\n x\nT 0 1 64";
+    child.stdin.take().expect("piped").write_all(script).expect("the program reads");
+    let output = child.wait_with_output().expect("the program ends");
+    assert_eq!(String::from_utf8_lossy(&output.stdout), "answer octets\n0 -\n0 -\n? -\n1 -\n");
+    assert!(String::from_utf8_lossy(&output.stderr).contains("\nline 7: "));
 }
 
 #[test]

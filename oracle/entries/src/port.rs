@@ -4,7 +4,7 @@ use crate::archive::signal_rest;
 use crate::faults::{Fault, Kept, Scene};
 use crate::memory::{lines, Asked, Memory};
 use crate::row::row;
-use language::{Answer, Call, Row};
+use language::{played, Answer, Call, Row};
 use oracle::compare::Difference;
 use oracle::port::Port;
 use oracle::script::{Script, Step};
@@ -96,7 +96,7 @@ impl Entries {
 impl Port for Entries {
     fn rows(&mut self, script: &str) -> Result<Vec<String>, String> {
         let mut rows = Vec::new();
-        for line in script.lines() {
+        for (_, line) in played(script) {
             self.line(&Call::parse(line), |more, _| {
                 rows.extend(more);
                 true

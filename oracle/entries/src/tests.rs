@@ -30,6 +30,12 @@ fn the_sample_of_document_01() {
 }
 
 #[test]
+fn what_is_no_call_has_no_row() {
+    let rows = Entries::new(None).rows("# a scene\r\n\nT 2 1 64\r\n#\nR 128\n x").unwrap();
+    assert_eq!(rows, ["0 -", "0 -", "? -"]);
+}
+
+#[test]
 fn octets_spell_the_table_that_is_read_from_them() {
     quiet();
     for number in 0..40 {

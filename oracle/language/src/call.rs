@@ -1,6 +1,7 @@
 //! A line of a script as a call, and back.
 
-use crate::row::hex;
+use crate::row::{hex, unhex};
+use crate::wrong::Wrong;
 use std::fmt;
 
 /// How credits are granted: `eK` or `mT`.
@@ -121,7 +122,17 @@ pub enum Call {
 
 impl Call {
     pub fn parse(line: &str) -> Call {
-        read(line).unwrap_or_else(|| Call::Unread(line.to_string()))
+        Call::read(line).unwrap_or_else(|_| Call::Unread(line.to_string()))
+    }
+
+    /// The call that a line asks for, or why it cannot be read.
+    pub fn read(line: &str) -> Result<Call, Wrong> {
+        let mut words = line.split(' ');
+        let letter = words.next().unwrap_or_default();
+        let mut words = Words(words);
+        let call = words.call(letter)?;
+        words.end()?;
+        Ok(call)
     }
 
     /// The slot that the call names, if it names one.
@@ -177,111 +188,119 @@ pub fn signals(pdu: &[u8]) -> Option<Vec<&[u8]>> {
     Some(parts)
 }
 
-fn read(line: &str) -> Option<Call> {
-    let mut words = line.split(' ');
-    let letter = words.next()?;
-    let mut words = Words(words);
-    let w = &mut words;
-    let call = match letter {
-        "T" => Call::Make { n: w.number()?, d: w.number()?, m: w.number()? },
-        "R" => Call::Register { spsm: w.number()? },
-        "S" => Call::Signal { link: w.number()?, listening: w.flag()?, central: w.role()?, pdu: w.octets()? },
-        "P" => Call::NextPending { link: w.number()?, up: w.flag()? },
-        "J" => Call::RejectStep { link: w.number()? },
-        "A" => Call::Accept { slot: w.number()?, config: w.config()? },
-        "X" => Call::Reject { slot: w.number()?, result: w.number()? },
-        "Z" => Call::DropPending { slot: w.number()? },
-        "C" => Call::Create { link: w.number()?, spsm: w.number()?, config: w.config()? },
-        "O" => Call::Opened { slot: w.number()?, link: w.number()?, up: w.flag()? },
-        "G" => Call::GiveUp { slot: w.number()? },
-        "H" => Call::AddHold { slot: w.number()? },
-        "L" => Call::Release { slot: w.number()? },
-        "D" => Call::Disconnect { slot: w.number()? },
-        "E" => Call::DisconnectByCid { cid: w.number()? },
-        "W" => Call::LinkDown { link: w.number()? },
-        "Q" => Call::NextDisconnect,
-        "F" => Call::Frame { link: w.number()?, cid: w.number()?, payload: w.octets()? },
-        "K" => Call::Send { slot: w.number()?, sdu: w.octets()? },
-        "B" => Call::Take { slot: w.number()?, size: w.number()? },
-        "I" => Call::Attention,
-        "U" => Call::Queries { slot: w.number()? },
-        "Y" => Call::ParameterRequest { link: w.number()?, min: w.number()?, max: w.number()?, latency: w.number()?, timeout: w.number()? },
-        "y" => Call::ParameterResponse { link: w.number()?, result: w.number()? },
-        "V" => Call::View,
-        "M" => Call::Room { slot: w.number()? },
-        _ => return None,
-    };
-    w.0.next().is_none().then_some(call)
-}
-
-/// The words after the letter. Each reader takes one word and is strict: what `chanrun` prints `? -` for is none here.
+/// The words after the letter. Each reader takes one word and is strict: what `chanrun` prints `? -` for is wrong here. A word's name is that
+/// of docs/CHANRUN.md's table.
 struct Words<'a>(std::str::Split<'a, char>);
 
+/// What can stand as a word, as `Wrong` says it.
+const NUMBER: &str = "a number of 1 to 5 digits, at most 65535";
+const CHOICE: &str = "a number of 1 to 5 digits, at most 65535, or `-`";
+const FLAG: &str = "0 or 1";
+const ROLE: &str = "c or p";
+const OCTETS: &str = "an even number of digits 0 to 9 and a to f, at most 65535 octets, or `-`";
+const POLICY: &str = "e or m and a number of 1 to 5 digits, at most 65535, or `-`";
+
 impl<'a> Words<'a> {
-    fn number(&mut self) -> Option<u16> {
-        number(self.0.next()?)
+    fn call(&mut self, letter: &str) -> Result<Call, Wrong> {
+        let w = self;
+        Ok(match letter {
+            "T" => Call::Make { n: w.number("n")?, d: w.number("d")?, m: w.number("m")? },
+            "R" => Call::Register { spsm: w.number("spsm")? },
+            "S" => Call::Signal { link: w.number("link")?, listening: w.flag("listening")?, central: w.role()?, pdu: w.octets()? },
+            "P" => Call::NextPending { link: w.number("link")?, up: w.flag("up")? },
+            "J" => Call::RejectStep { link: w.number("link")? },
+            "A" => Call::Accept { slot: w.number("slot")?, config: w.config()? },
+            "X" => Call::Reject { slot: w.number("slot")?, result: w.number("result")? },
+            "Z" => Call::DropPending { slot: w.number("slot")? },
+            "C" => Call::Create { link: w.number("link")?, spsm: w.number("spsm")?, config: w.config()? },
+            "O" => Call::Opened { slot: w.number("slot")?, link: w.number("link")?, up: w.flag("up")? },
+            "G" => Call::GiveUp { slot: w.number("slot")? },
+            "H" => Call::AddHold { slot: w.number("slot")? },
+            "L" => Call::Release { slot: w.number("slot")? },
+            "D" => Call::Disconnect { slot: w.number("slot")? },
+            "E" => Call::DisconnectByCid { cid: w.number("cid")? },
+            "W" => Call::LinkDown { link: w.number("link")? },
+            "Q" => Call::NextDisconnect,
+            "F" => Call::Frame { link: w.number("link")?, cid: w.number("cid")?, payload: w.octets()? },
+            "K" => Call::Send { slot: w.number("slot")?, sdu: w.octets()? },
+            "B" => Call::Take { slot: w.number("slot")?, size: w.number("size")? },
+            "I" => Call::Attention,
+            "U" => Call::Queries { slot: w.number("slot")? },
+            "Y" => Call::ParameterRequest {
+                link: w.number("link")?,
+                min: w.number("min")?,
+                max: w.number("max")?,
+                latency: w.number("latency")?,
+                timeout: w.number("timeout")?,
+            },
+            "y" => Call::ParameterResponse { link: w.number("link")?, result: w.number("result")? },
+            "V" => Call::View,
+            "M" => Call::Room { slot: w.number("slot")? },
+            _ => return Err(Wrong::Letter(letter.to_string())),
+        })
     }
 
-    fn flag(&mut self) -> Option<bool> {
-        match self.0.next()? {
+    /// Nothing stands behind the last word.
+    fn end(&mut self) -> Result<(), Wrong> {
+        self.0.next().map_or(Ok(()), |word| Err(Wrong::More(word.to_string())))
+    }
+
+    /// The next word, read by `read`; `may` says what that takes.
+    fn word<T>(&mut self, name: &'static str, may: &'static str, read: impl Fn(&str) -> Option<T>) -> Result<T, Wrong> {
+        let word = self.0.next().ok_or(Wrong::Missing { name, may })?;
+        read(word).ok_or_else(|| Wrong::Word { name, word: word.to_string(), may })
+    }
+
+    fn number(&mut self, name: &'static str) -> Result<u16, Wrong> {
+        self.word(name, NUMBER, number)
+    }
+
+    fn flag(&mut self, name: &'static str) -> Result<bool, Wrong> {
+        self.word(name, FLAG, |word| match word {
             "0" => Some(false),
             "1" => Some(true),
             _ => None,
-        }
+        })
     }
 
-    fn role(&mut self) -> Option<bool> {
-        match self.0.next()? {
+    fn role(&mut self) -> Result<bool, Wrong> {
+        self.word("role", ROLE, |word| match word {
             "c" => Some(true),
             "p" => Some(false),
             _ => None,
-        }
+        })
     }
 
-    fn octets(&mut self) -> Option<Vec<u8>> {
-        let word = self.0.next()?;
-        if word == "-" {
-            return Some(Vec::new());
-        }
-        let digit = |c: u8| match c {
-            b'0'..=b'9' => Some(c - b'0'),
-            b'a'..=b'f' => Some(c - b'a' + 10),
-            _ => None,
-        };
-        let digits = word.as_bytes();
-        if digits.is_empty() || digits.len() % 2 != 0 || digits.len() / 2 > usize::from(u16::MAX) {
-            return None;
-        }
-        digits.chunks(2).map(|two| Some(digit(two[0])? * 16 + digit(two[1])?)).collect()
+    fn octets(&mut self) -> Result<Vec<u8>, Wrong> {
+        self.word("hex", OCTETS, |word| unhex(word).filter(|octets| octets.len() <= usize::from(u16::MAX)))
     }
 
     /// A number, or `-` for the default.
-    fn choice(&mut self) -> Option<Option<u16>> {
-        match self.0.next()? {
-            "-" => Some(None),
-            word => number(word).map(Some),
-        }
+    fn choice(&mut self, name: &'static str) -> Result<Option<u16>, Wrong> {
+        self.word(name, CHOICE, |word| if word == "-" { Some(None) } else { number(word).map(Some) })
     }
 
-    fn policy(&mut self) -> Option<Option<Policy>> {
-        let word = self.0.next()?;
-        if word == "-" {
-            return Some(None);
-        }
-        let policy = match word.split_at_checked(1)? {
-            ("e", count) => Policy::Every(number(count)?),
-            ("m", threshold) => Policy::MinThreshold(number(threshold)?),
-            _ => return None,
-        };
-        Some(Some(policy))
+    fn policy(&mut self) -> Result<Option<Policy>, Wrong> {
+        self.word("policy", POLICY, |word| if word == "-" { Some(None) } else { Policy::parse(word).map(Some) })
     }
 
-    fn config(&mut self) -> Option<Config> {
-        Some(Config { mtu: self.choice()?, mps: self.choice()?, policy: self.policy()?, credits: self.choice()? })
+    fn config(&mut self) -> Result<Config, Wrong> {
+        Ok(Config { mtu: self.choice("mtu")?, mps: self.choice("mps")?, policy: self.policy()?, credits: self.choice("credits")? })
     }
 }
 
-fn number(word: &str) -> Option<u16> {
+impl Policy {
+    pub fn parse(word: &str) -> Option<Policy> {
+        match word.split_at_checked(1)? {
+            ("e", count) => Some(Policy::Every(number(count)?)),
+            ("m", threshold) => Some(Policy::MinThreshold(number(threshold)?)),
+            _ => None,
+        }
+    }
+}
+
+/// A number as the language writes them.
+pub(crate) fn number(word: &str) -> Option<u16> {
     let digits = (1..=5).contains(&word.len()) && word.bytes().all(|c| c.is_ascii_digit());
     if digits {
         word.parse().ok()
@@ -412,6 +431,31 @@ mod tests {
             assert!(matches!(Call::parse(line), Call::Unread(_)), "{line}");
         }
         assert_eq!(Call::parse("R 00128"), Call::Register { spsm: 128 });
+    }
+
+    #[test]
+    fn the_first_wrong_word_is_named() {
+        for (line, why) in [
+            ("", "no letter stands at the start of the line"),
+            (" T 2 1 64", "no letter stands at the start of the line"),
+            ("q", "no call has the letter `q`"),
+            ("T 2 1", "the word `m` is missing: a number of 1 to 5 digits, at most 65535"),
+            ("T 2 1 64 ", "a space stands at the end of the line, or two together"),
+            ("T  2 1 64", "the word `n` is empty: one space stands between words"),
+            ("R 65536", "`65536` can't be the word `spsm`: a number of 1 to 5 digits, at most 65535"),
+            ("S 1 2 x -", "`2` can't be the word `listening`: 0 or 1"),
+            ("S 1 1 x -", "`x` can't be the word `role`: c or p"),
+            ("F 1 64 0", "`0` can't be the word `hex`: an even number of digits 0 to 9 and a to f, at most 65535 octets, or `-`"),
+            ("A 0 - - x1 -", "`x1` can't be the word `policy`: e or m and a number of 1 to 5 digits, at most 65535, or `-`"),
+            ("A 0 x", "`x` can't be the word `mtu`: a number of 1 to 5 digits, at most 65535, or `-`"),
+            ("Q 1", "`1` is a word too many"),
+            (
+                "R \u{1b}[2J5555555555555555555555",
+                "`\\u{1b}[2J555555555555555…` can't be the word `spsm`: a number of 1 to 5 digits, at most 65535",
+            ),
+        ] {
+            assert_eq!(Call::read(line).map_err(|wrong| wrong.to_string()), Err(why.to_string()), "{line}");
+        }
     }
 
     #[test]

@@ -1,13 +1,17 @@
-//! The script language of `chanrun` (docs/CHANRUN.md): calls as they are written, rows as they are printed, the view of a table, and the
-//! edge between a driver and whoever feeds it calls. Nothing here knows the original or the port.
+//! The script language of `chanrun` (docs/CHANRUN.md): lines and calls as they are written, rows as they are printed, the view of a
+//! table, and the edge between a driver and whoever feeds it calls. Nothing here knows the original or the port.
 
 mod call;
 mod row;
+mod script;
 mod view;
+mod wrong;
 
 pub use call::{signals, Call, Config, Policy};
-pub use row::{hex, Answer, Reply, Row};
+pub use row::{hex, unhex, Answer, Reply, Row};
+pub use script::{is_played, lines, played};
 pub use view::{Sight, SlotView, Stale, State, View};
+pub use wrong::Wrong;
 
 /// The limits of document 01, and the room that `chanrun` lends at most.
 pub const SLOTS: u16 = 16;

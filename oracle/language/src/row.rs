@@ -1,5 +1,6 @@
 //! What a call prints.
 
+use crate::call::number;
 use crate::view::{Sight, View};
 use std::fmt;
 
@@ -42,6 +43,16 @@ impl Row {
     pub fn column(mut self, column: impl fmt::Display) -> Self {
         self.columns.push(column.to_string());
         self
+    }
+
+    /// The row that a line of output is.
+    pub fn parse(line: &str) -> Option<Self> {
+        let mut words = line.split(' ');
+        let answer = Answer::parse(words.next()?)?;
+        let octets = words.next().and_then(unhex)?;
+        let columns: Vec<String> = words.map(str::to_string).collect();
+        let full = columns.iter().all(|column| !column.is_empty());
+        full.then_some(Self { answer, octets, columns, not_run: None })
     }
 
     pub fn not_run(mut self, why: &'static str) -> Self {
@@ -90,6 +101,17 @@ impl From<View> for Reply {
     }
 }
 
+impl Answer {
+    fn parse(word: &str) -> Option<Self> {
+        match word {
+            "panic" => Some(Answer::Panic),
+            "?" => Some(Answer::Unread),
+            "~" => Some(Answer::Skipped),
+            _ => number(word).map(Answer::Number),
+        }
+    }
+}
+
 impl fmt::Display for Answer {
     fn fmt(&self, f: &mut fmt::Formatter<'_>) -> fmt::Result {
         match self {
@@ -115,4 +137,36 @@ pub fn hex(octets: &[u8]) -> String {
     }
     let digit = |value: u8| char::from_digit(u32::from(value), 16).expect("below 16");
     octets.iter().flat_map(|octet| [digit(octet >> 4), digit(octet & 15)]).collect()
+}
+
+/// The octets of a word as the language writes them.
+pub fn unhex(word: &str) -> Option<Vec<u8>> {
+    if word == "-" {
+        return Some(Vec::new());
+    }
+    let digit = |c: u8| match c {
+        b'0'..=b'9' => Some(c - b'0'),
+        b'a'..=b'f' => Some(c - b'a' + 10),
+        _ => None,
+    };
+    let octets = word.as_bytes().chunks_exact(2);
+    if word.is_empty() || !octets.remainder().is_empty() {
+        return None;
+    }
+    octets.map(|two| Some(digit(two[0])? * 16 + digit(two[1])?)).collect()
+}
+
+#[cfg(test)]
+mod tests {
+    use super::*;
+
+    #[test]
+    fn a_row_is_read_as_it_is_printed() {
+        for line in ["0 -", "? -", "panic -", "~ -", "23 -", "0 010203 3 3 080005001601040040000100", "0 - 6 12 0 100"] {
+            assert_eq!(Row::parse(line).map(|row| row.to_string()), Some(line.to_string()));
+        }
+        for line in ["", "0", "0 ", "0  -", "0 - ", "0 0", "0 AA", "-1 -", "answer octets", "= 0 connected"] {
+            assert_eq!(Row::parse(line), None, "{line}");
+        }
+    }
 }

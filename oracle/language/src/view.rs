@@ -1,6 +1,6 @@
 //! The view of a table: what `V` prints.
 
-use crate::call::Policy;
+use crate::call::{number, Policy};
 use crate::BASE_ID;
 use std::fmt;
 
@@ -196,6 +196,43 @@ impl SlotView {
         }
     }
 
+    /// The slot that a line of a view shows, where it is this slot's line.
+    pub fn parse(line: &str, slot: usize) -> Option<Self> {
+        let mut words = line.split(' ');
+        let mut next = || words.next();
+        let is = |word: Option<&str>, value: usize| word.and_then(number).is_some_and(|number| usize::from(number) == value);
+        if next() != Some("=") || !is(next(), slot) {
+            return None;
+        }
+        let state = State::parse(next()?)?;
+        let link = number(next()?)?;
+        if !is(next(), usize::from(BASE_ID) + slot) {
+            return None;
+        }
+        let mut record = Self {
+            state,
+            link,
+            spsm: number(next()?)?,
+            mps: number(next()?)?,
+            mtu: number(next()?)?,
+            policy: Policy::parse(next()?)?,
+            credits: number(next()?)?,
+            received: number(next()?)?,
+            peer_cid: number(next()?)?,
+            peer_mps: number(next()?)?,
+            peer_mtu: number(next()?)?,
+            peer_credits: number(next()?)?,
+            hold: number(next()?)?,
+            have: number(next()?)?,
+            want: number(next()?)?,
+            jobs: Vec::new(),
+            stale: Stale::Nothing,
+        };
+        let queued = number(next()?)?;
+        record.jobs = words.map(number).collect::<Option<_>>()?;
+        (record.jobs.len() == usize::from(queued)).then_some(record)
+    }
+
     /// The slot's line of a view.
     pub fn line(&self, slot: usize) -> String {
         let mut line = format!(
@@ -225,6 +262,23 @@ impl SlotView {
     }
 }
 
+impl State {
+    fn parse(word: &str) -> Option<Self> {
+        let identifier = |word: &str| number(word).and_then(|number| u8::try_from(number).ok());
+        match word.split_once(':') {
+            None if word == "disconnected" => Some(State::Disconnected),
+            None if word == "connected" => Some(State::Connected),
+            None if word == "disconnecting" => Some(State::Disconnecting { announced: false }),
+            Some(("connecting", word)) => identifier(word).map(State::Connecting),
+            Some(("peer-connecting", word)) => identifier(word).map(State::PeerConnecting),
+            Some(("connect-failed", word)) => number(word).map(State::ConnectFailed),
+            Some(("peer-disconnecting", word)) => identifier(word).map(State::PeerDisconnecting),
+            Some(("disconnecting", "announced")) => Some(State::Disconnecting { announced: true }),
+            _ => None,
+        }
+    }
+}
+
 impl fmt::Display for State {
     fn fmt(&self, f: &mut fmt::Formatter<'_>) -> fmt::Result {
         match self {
@@ -236,6 +290,40 @@ impl fmt::Display for State {
             State::PeerDisconnecting(identifier) => write!(f, "peer-disconnecting:{identifier}"),
             State::Disconnecting { announced: false } => write!(f, "disconnecting"),
             State::Disconnecting { announced: true } => write!(f, "disconnecting:announced"),
+        }
+    }
+}
+
+#[cfg(test)]
+mod tests {
+    use super::*;
+
+    #[test]
+    fn a_slot_is_read_as_it_is_printed() {
+        for line in [
+            "= 2 disconnected 0 66 0 0 0 e1 0 0 0 0 0 0 0 0 0 0",
+            "= 2 connecting:3 1 66 129 60 58 m2 1 0 0 0 0 0 0 0 0 0",
+            "= 2 peer-connecting:255 1 66 128 0 0 e1 0 0 80 23 100 5 1 0 0 0",
+            "= 2 connected 3839 66 128 60 58 e1 2 3 80 23 100 18 1 4 6 2 58 0",
+            "= 2 connect-failed:4 1 66 128 60 58 e1 2 0 0 0 0 0 0 0 0 0",
+            "= 2 peer-disconnecting:8 1 66 128 60 58 e1 2 0 80 23 100 5 1 0 0 0",
+            "= 2 disconnecting 1 66 128 60 58 e1 2 0 80 23 100 5 1 0 0 0",
+            "= 2 disconnecting:announced 1 66 128 60 58 e1 2 0 80 23 100 5 1 0 0 0",
+        ] {
+            assert_eq!(SlotView::parse(line, 2).map(|record| record.line(2)), Some(line.to_string()));
+            assert_eq!(SlotView::parse(line, 1), None);
+        }
+        for line in [
+            "",
+            "= 2",
+            "= 2 disconnected 0 65 0 0 0 e1 0 0 0 0 0 0 0 0 0 0",
+            "= 2 connecting:256 1 66 129 60 58 m2 1 0 0 0 0 0 0 0 0 0",
+            "= 2 open 0 66 0 0 0 e1 0 0 0 0 0 0 0 0 0 0",
+            "= 2 disconnected 0 66 0 0 0 1 0 0 0 0 0 0 0 0 0 0",
+            "= 2 disconnected 0 66 0 0 0 e1 0 0 0 0 0 0 0 0 0 1",
+            "= 2 disconnected 0 66 0 0 0 e1 0 0 0 0 0 0 0 0 0 0 7",
+        ] {
+            assert_eq!(SlotView::parse(line, 2), None, "{line}");
         }
     }
 }

@@ -1,9 +1,9 @@
 //! `chanrun` with the original inside: reads a script from standard input and prints a row for each call. Rows that the original was not
 //! asked for are named on standard error.
 
-use language::{Call, Manner};
+use language::{played, Call, Manner};
 use oracle::play::{play, quiet};
-use std::io::{BufRead, BufWriter, Write};
+use std::io::{BufWriter, Write};
 
 const USAGE: &str = "usage: original [--confirm-at-once] [--quiet] < script
   --confirm-at-once  a disconnect of our own is confirmed when its request is sent, as the original's host does
@@ -22,12 +22,13 @@ fn main() {
         }
     }
     quiet();
-    let lines = std::io::stdin().lock().lines().map(|line| Call::parse(&line.expect("standard input is text")));
+    let script = std::io::read_to_string(std::io::stdin()).expect("standard input is text");
+    let lines = played(&script).map(|(_, line)| Call::parse(line));
+    let mut numbers = played(&script).map(|(number, _)| number);
     let mut out = BufWriter::new(std::io::stdout().lock());
     writeln!(out, "answer octets").expect("standard output takes rows");
-    let mut number = 0;
     play(lines, manner, |_, reply| {
-        number += 1;
+        let number = numbers.next().unwrap_or_default();
         for line in reply.lines() {
             writeln!(out, "{line}").expect("standard output takes rows");
         }

@@ -1,0 +1,346 @@
+//! Runs told from rows given by hand: what a good program prints, and what a broken one might.
+
+mod common;
+
+use common::told;
+
+const FREE: &str = "disconnected 0 64 0 0 0 e1 0 0 0 0 0 0 0 0 0 0";
+const PENDING: &str = "peer-connecting:7 1 64 128 0 0 e1 0 0 80 23 100 5 1 0 0 0";
+const OPEN: &str = "connected 1 64 128 25 23 e1 9 0 80 23 100 5 1 0 0 0";
+/// Three of four octets have come; in `FULL` another job waits beside.
+const HALF: &str = "connected 1 64 128 25 23 e1 8 1 80 23 100 5 1 3 4 0";
+const FULL: &str = "connected 1 64 128 25 23 e1 7 2 80 23 100 5 1 3 4 1 2";
+
+/// The octets of a place that arrive or wait.
+const NONE: &str = "";
+const ARRIVED: &str = "aa00cc";
+const WAITING: &str = "1122";
+
+/// A step: the line, its row, the slot after it, and what stands in the slot's two places.
+type Step<'a> = (&'a str, &'a str, &'a str, [&'a str; 2]);
+
+/// The row of an `M` on places of 23 octets.
+fn room(places: [&str; 2]) -> String {
+    format!("0 {:0<46}{:0<46}", places[0], places[1])
+}
+
+/// What is told of the steps of a table of one slot, behind its making.
+fn steps(steps: &[Step<'_>]) -> String {
+    let mut script = String::new();
+    let mut rows = "answer octets\n".to_string();
+    for (line, row, slot, places) in [&[("T 1 1 29", "0 -", FREE, [NONE; 2])], steps].concat() {
+        script += &format!("{line}\n");
+        rows += &format!("{row}\n0 - 1 1 29 1\n= 0 {slot}\n{}\n", room(places));
+    }
+    let (text, all_read) = told(&script, &rows).expect("rows that fit");
+    assert!(all_read);
+    text.split_inclusive('\n').skip(4).collect()
+}
+
+/// What is told of one step from a slot with these octets in its places.
+fn step(from: (&str, [&str; 2]), step: Step<'_>) -> String {
+    let text = steps(&[("H 0", "0 -", from.0, from.1), step]);
+    let start = text.find("   3  ").expect("a third line");
+    text[start..].to_string()
+}
+
+#[test]
+fn a_phone_closes_in_mid_job() {
+    let closed = "peer-disconnecting:8 1 64 128 25 23 e1 8 1 80 23 100 5 1 0 0 0";
+    let line = "S 1 1 c 0608040040005000";
+    assert_eq!(
+        step((HALF, [ARRIVED, NONE]), (line, "0 -", closed, [NONE; 2])),
+        "   3  S 1 1 c 0608040040005000
+      asked    the phone on link 1 sends disconnect request 8: our CID 64 (slot 0), its CID 80
+      answer   0 done
+      changed  slot 0: phone on link 1 closed in mid-job: 3 of 4 octets were here, 3 octets wiped
+               slot 0: open → closed by the phone (request 8), our response is due
+"
+    );
+    // A program that forgets to wipe is told.
+    let forgotten = step((HALF, [ARRIVED, NONE]), (line, "0 -", closed, [ARRIVED, NONE]));
+    assert!(forgotten.contains("3 of 4 octets were here, only 1 of 3\n               octets wiped\n"), "{forgotten}");
+    assert!(forgotten.ends_with("               slot 0: its room has 2 octets of no job\n"), "{forgotten}");
+}
+
+#[test]
+fn a_link_goes_down_with_a_job_arriving_and_one_waiting() {
+    let held = "disconnected 0 64 0 0 0 e1 0 0 0 0 0 0 1 0 0 0";
+    assert_eq!(
+        step((FULL, [ARRIVED, WAITING]), ("W 1", "0 -", held, [NONE; 2])),
+        "   3  W 1
+      asked    link 1 is down: its phone is gone
+      answer   0 done
+      changed  slot 0: phone on link 1 left in mid-job: 3 of 4 octets were here, 3 octets wiped
+               slot 0: 1 job that waited is lost: 2 octets wiped
+               slot 0: open → freed but held once, so no phone gets it yet
+"
+    );
+}
+
+#[test]
+fn how_a_job_ends_before_its_time() {
+    let closing = "disconnecting 1 64 128 25 23 e1 8 1 80 23 100 5 0 0 0 0";
+    let released = step((HALF, [ARRIVED, NONE]), ("L 0", "0 -", closing, [NONE; 2]));
+    assert!(released.contains("changed  slot 0: we close in mid-job: 3 of 4 octets were here, 3 octets wiped\n"), "{released}");
+    assert!(released.ends_with("slot 0: open → closing, our request is due; no hold left\n"), "{released}");
+    let broken = step((HALF, [ARRIVED, NONE]), ("F 1 64 0102", "9 -", closing, [NONE; 2]));
+    assert!(broken.contains("changed  slot 0: the job is broken off: 3 of 4 octets were here, 3 octets wiped\n"), "{broken}");
+    let dropped = "connected 1 64 128 25 23 e1 6 3 80 23 100 5 1 0 0 1 2";
+    let dropped = step((FULL, [ARRIVED, WAITING]), ("F 1 64 01", "21 -", dropped, [NONE, WAITING]));
+    assert!(dropped.contains("changed  slot 0: the job is dropped: 3 of 4 octets were here, 3 octets wiped\n"), "{dropped}");
+    assert!(dropped.ends_with("slot 0: the phone's credits 7 → 6\n"), "{dropped}");
+}
+
+#[test]
+fn a_job_arrives_waits_and_is_taken() {
+    let waits = "connected 1 64 128 25 23 e1 7 2 80 23 100 5 1 0 0 1 4";
+    let text = steps(&[
+        ("H 0", "0 -", OPEN, [NONE; 2]),
+        ("F 1 64 0400aa00cc", "0 -", HALF, [ARRIVED, NONE]),
+        ("F 1 64 dd", "0 -", waits, [NONE, "aa00ccdd"]),
+        ("B 0 3", "0 aa00cc 3 4 080005001601040040000200", OPEN, [NONE; 2]),
+        ("B 0 3", "0 -", OPEN, [NONE; 2]),
+    ]);
+    let expected = "   3  F 1 64 0400aa00cc
+      asked    the phone on link 1 sends a frame to CID 64 (slot 0): the first 3 of a job's 4 octets
+      answer   0 done
+      changed  slot 0: 3 of 4 octets of a job are here; the phone's credits 9 → 8
+   4  F 1 64 dd
+      asked    the phone on link 1 sends a frame to CID 64 (slot 0): 1 octet more of the job
+      answer   0 done
+      changed  slot 0: a job of 4 octets is whole and waits; the phone's credits 8 → 7
+   5  B 0 3
+      asked    take the oldest job of the phone on link 1 (slot 0) into a buffer of 3 octets
+      answer   0 done: the first 3 of the job's 4 octets: aa00cc; the rest is lost
+      out      to the phone on link 1: credit signal 1: 2 credits for the phone, our CID 64 (slot 0)
+      changed  slot 0: the job is out of the room, no job waits; the phone's credits 7 → 9
+   6  B 0 3
+      asked    take the oldest job of the phone on link 1 (slot 0) into a buffer of 3 octets
+      answer   0 done: no job waits
+      changed  nothing
+";
+    assert!(text.ends_with(expected), "{text}");
+}
+
+#[test]
+fn a_phone_connects_and_a_job_goes_out() {
+    let text = steps(&[
+        ("S 1 0 c 14070a0080005000640017000500", "0 -", &PENDING.replace(" 5 1 ", " 5 0 "), [NONE; 2]),
+        ("P 1 1", "0 - 0", PENDING, [NONE; 2]),
+        ("A 0 - 25 m2 9", "0 0e00050015070a00400017001900090000", OPEN, [NONE; 2]),
+        ("K 0 0102", "0 0400500002000102 1", &OPEN.replace(" 5 1 ", " 4 2 "), [NONE; 2]),
+    ]);
+    assert_eq!(
+        text,
+        "   2  S 1 0 c 14070a0080005000640017000500
+      asked    the phone on link 1 sends connect request 7 for SPSM 128: its CID 80, jobs up to 100
+               octets in frames up to 23, 5 credits for us (nobody listens)
+      answer   0 done
+      changed  slot 0: free → pending (request 7) for the phone on link 1
+   3  P 1 1
+      asked    does the phone on link 1 wait for an answer? (the link is up)
+      answer   0 done: yes, at slot 0
+      changed  slot 0: held once
+   4  A 0 - 25 m2 9
+      asked    accept the phone on link 1 (slot 0), with frames up to 25 octets, 9 credits, more
+               when fewer than 2 are left, the rest as usual
+      answer   0 done
+      out      to the phone on link 1: 17 octets that are no signal:
+               0e00050015070a004000170019000900…
+      changed  slot 0: pending → open
+   5  K 0 0102
+      asked    send a job of 2 octets to the phone on link 1 (slot 0)
+      answer   0 done: sent in 1 frame
+      out      to the phone on link 1: 1 frame to its CID 80, of 4 octets: a job of 2 octets, and
+               its length
+      changed  slot 0: our credits 5 → 4; held twice
+"
+    );
+}
+
+#[test]
+fn a_slot_that_stays_says_so_and_what_has_no_words_too() {
+    let text = step((FREE, [NONE; 2]), ("Z 0", "22 -", FREE, [NONE; 2]));
+    assert!(text.ends_with("changed  nothing\n"), "{text}");
+    let unknown = "changed  slot 0: its numbers or its room changed in a way that has no words here: see V and M\n";
+    let text = step((OPEN, [NONE; 2]), ("E 64", "0 -", &OPEN.replace(" 128 ", " 129 "), [NONE; 2]));
+    assert!(text.ends_with(unknown), "{text}");
+    let text = step((HALF, [ARRIVED, NONE]), ("E 64", "0 -", HALF, ["aa00cd", NONE]));
+    assert!(text.ends_with(unknown), "{text}");
+    let text = step((FREE, [NONE; 2]), ("H 0", "22 -", FREE, [NONE, "01"]));
+    assert!(text.ends_with("changed  slot 0: its room has 1 octet of no job\n"), "{text}");
+    let text = step((FREE, [NONE, "01"]), ("H 0", "22 -", FREE, [NONE, "01"]));
+    assert!(text.ends_with("changed  nothing\n"), "{text}");
+}
+
+#[test]
+fn an_attempt_of_ours_is_refused() {
+    let attempt = "connecting:1 1 64 129 25 23 e1 1 0 0 0 0 0 0 0 0 0";
+    let failed = "connect-failed:4 1 64 129 25 23 e1 1 0 0 0 0 0 0 0 0 0";
+    let text = steps(&[
+        ("C 1 129 - - - -", "0 - 0", attempt, [NONE; 2]),
+        ("S 1 1 c 15010a0000000000000000000400", "17 - 4", failed, [NONE; 2]),
+        ("O 0 1 1", "17 - 4", FREE, [NONE; 2]),
+    ]);
+    let changed: Vec<&str> = text.lines().filter(|line| line.contains("changed") || line.contains("answer")).collect();
+    assert_eq!(
+        changed,
+        [
+            "      answer   0 done: at slot 0",
+            "      changed  slot 0: free → an attempt of ours (request 1) for the phone on link 1",
+            "      answer   17 ConnectError: the phone refused the channel, result 4 NoResources",
+            "      changed  slot 0: an attempt of ours → failed (result 4 NoResources)",
+            "      answer   17 ConnectError: the phone refused the channel, result 4 NoResources",
+            "      changed  slot 0: failed → free",
+        ]
+    );
+}
+
+#[test]
+fn a_frame_of_another_phone_says_nothing_of_the_job() {
+    let text = step((HALF, [ARRIVED, NONE]), ("F 2 64 dd", "8 -", HALF, [ARRIVED, NONE]));
+    assert!(text.contains("asked    the phone on link 2 sends a frame to CID 64 (slot 0): 1 octet\n"), "{text}");
+    let text = step((FREE, [NONE; 2]), ("F 2 64 dd", "0 -", FREE, [NONE; 2]));
+    assert!(text.contains("answer   0 done: dropped, since the slot isn't open\n"), "{text}");
+}
+
+#[test]
+fn looking_lines_show_table_and_room() {
+    let free = |slot: usize| format!("= {slot} disconnected 0 {} 0 0 0 e1 0 0 0 0 0 0 0 0 0 0\n", 64 + slot);
+    let view = format!(
+        "0 - 5 1 29 4\n= 0 {FULL}\n{}{}= 3 connecting:3 2 67 129 25 23 e2 1 0 0 0 0 0 0 0 0 0\n= 4 {}\n",
+        free(1),
+        free(2),
+        PENDING.replace(" 64 ", " 68 ")
+    );
+    let full = room([ARRIVED, WAITING]);
+    let rooms = format!("{full}\n{zeros}\n{zeros}\n{zeros}\n{zeros}\n", zeros = room([NONE; 2]));
+    let looks =
+        format!("{full}\n{}\n{}\n6 -\n0 - 0 0 4\n0 - 1 1 0\n0 - 9 2 0\n0 - 128 23 25 100 23\n", room([NONE; 2]), room([NONE, "01"]));
+    let script = "# a scene\n\nT 5 1 29\r\nV\nM 0\nM 1\nM 2\nM 5\nI\nI\nI\nU 0\n#";
+    let (text, _) = told(script, &format!("answer octets\n0 -\n{view}{rooms}{view}{looks}")).expect("rows that fit");
+    assert_eq!(
+        text,
+        "# a scene
+
+   3  T 5 1 29
+      asked    make a table: 5 slots, 1 job can wait at a slot, packets of 29 octets
+      answer   0 done
+      changed  5 slots, only 2 free; a room of 230 octets, only 226 zero
+   4  V
+      asked    show the table
+      answer   0 done
+               slot 0: open, held once; the phone on link 1, SPSM 128, our CID 64, its CID 80; to us
+               jobs up to 23 octets in frames up to 25, 7 credits left; to it jobs up to 100 octets
+               in frames up to 23, 5 credits left; 3 of 4 octets of a job are here; a job of 2
+               octets waits
+               slots 1 to 2: free
+               slot 3: an attempt of ours (request 3); the phone on link 2, SPSM 129, our CID 67,
+               its CID 0; to us jobs up to 23 octets in frames up to 25, 1 credit left, more after
+               every 2 frames
+               slot 4: pending (request 7), held once; the phone on link 1, SPSM 128, our CID 68,
+               its CID 80; to it jobs up to 100 octets in frames up to 23, 5 credits left
+   5  M 0
+      asked    show the room of slot 0
+      answer   0 done: 3 octets of a job that is arriving: aa00cc; a job of 2 octets waits: 1122;
+               zeros behind
+   6  M 1
+      asked    show the room of slot 1
+      answer   0 done: all 46 octets are zero
+   7  M 2
+      asked    show the room of slot 2
+      answer   0 done: 1 octet of no job
+   8  M 5
+      asked    show the room of slot 5
+      answer   6 BadSlot: the table has no such slot
+   9  I
+      asked    which slots call for attention?
+      answer   0 done: no slot calls
+  10  I
+      asked    which slots call for attention?
+      answer   0 done: slot 0 calls
+  11  I
+      asked    which slots call for attention?
+      answer   0 done: slots 0 and 3 call
+  12  U 0
+      asked    the numbers of slot 0
+      answer   0 done: SPSM 128; we take jobs up to 23 octets in frames up to 25; the phone takes
+               jobs up to 100 octets in frames up to 23
+#
+"
+    );
+}
+
+#[test]
+fn tables_come_and_go() {
+    let none = "0 - 0 0 0 1\n";
+    let one = format!("0 - 1 1 29 1\n= 0 {FREE}\n{}\n", room([NONE; 2]));
+    let open = format!("0 - 1 1 29 1\n= 0 {OPEN}\n{}\n", room([NONE; 2]));
+    let rows = format!("answer octets\n1 -\n{none}1 -\n{none}0 -\n{one}0 -\n{one}0 -\n{open}1 -\n{none}");
+    let (text, _) = told("T 0 1 64\nL 0\nT 1 1 29\nR 128\nH 0\nT 1 9 29", &rows).expect("rows that fit");
+    let changed: Vec<&str> = text.lines().filter_map(|line| line.strip_prefix("      changed  ")).collect();
+    assert_eq!(
+        changed,
+        [
+            "there is still no table: every call is refused by 1",
+            "nothing",
+            "1 slot, free; a room of 46 octets, all zero",
+            "SPSM 128 is registered",
+            "slot 0: free → open for the phone on link 1; held once",
+            "there is no table any more: every call is refused by 1; the table before, with 1 slot",
+        ]
+    );
+}
+
+#[test]
+fn lines_that_cannot_be_read_say_why() {
+    let (text, all_read) = told("q\nQ\n", "answer octets\n? -\n1 -\n0 - 0 0 0 1\n").expect("rows that fit");
+    assert!(!all_read);
+    assert!(text.starts_with("   1  q\n      answer   ? cannot be read: no call has the letter `q`\n   2  Q\n"), "{text}");
+}
+
+#[test]
+fn signals_of_one_pdu_are_told_one_by_one() {
+    let slot = |credits: usize| OPEN.replace(" 5 1 ", &format!(" {credits} 1 "));
+    let after = |slot: &str| format!("0 - 1 1 29 1\n= 0 {slot}\n{}\n", room([NONE; 2]));
+    let rows = format!("answer octets\n0 -\n{}0 -\n{}0 -\n{}8 -\n{}", after(FREE), after(OPEN), after(&slot(15)), after(&slot(15)));
+    let (text, _) = told("T 1 1 29\nH 0\nS 1 1 c 1610040050000a001611040051000500\n", &rows).expect("rows that fit");
+    assert!(
+        text.ends_with(
+            "   3  S 1 1 c 1610040050000a001611040051000500
+      asked    signal 1 of 2: the phone on link 1 sends credit signal 16: 10 credits for us, its CID
+               80
+      answer   0 done
+      changed  slot 0: our credits 5 → 15
+      asked    signal 2 of 2: the phone on link 1 sends credit signal 17: 5 credits for us, its CID
+               81
+      answer   8 NotFound: no slot fits
+      changed  nothing
+"
+        ),
+        "{text}"
+    );
+}
+
+#[test]
+fn rows_that_are_not_the_scripts_are_refused() {
+    let made = format!("answer octets\n0 -\n0 - 1 1 29 1\n= 0 {FREE}\n{}\n", room([NONE; 2]));
+    let trouble = |script: &str, rows: &str| told(script, rows).expect_err("rows that don't fit").to_string();
+    assert_eq!(trouble("Q", ""), "the program's rows end where the head line `answer octets` must stand");
+    assert_eq!(trouble("Q", "0 -\n"), "the program printed `0 -` where the head line `answer octets` must stand");
+    assert_eq!(trouble("Q", "answer octets\n"), "line 1: the program's rows end where the row of its call must stand");
+    assert_eq!(trouble("#\nQ", "answer octets\n? -\n"), "line 2: the program printed `? -` where the row of its call must stand");
+    assert_eq!(
+        trouble("q", "answer octets\n0 -\n"),
+        "line 1: the program printed `0 -` where `? -`, for a line that cannot be read, must stand"
+    );
+    assert_eq!(trouble("Q", "answer octets\n1 -\n0 -\n"), "line 1: the program printed `0 -` where a view must stand");
+    assert_eq!(trouble("Q", "answer octets\n1 -\n0 - 0 0 0 256\n"), "line 1: the program printed `0 - 0 0 0 256` where a view must stand");
+    assert_eq!(trouble("T 1 1 29", &made.replace("= 0", "= 1")).split(" where ").last(), Some("slot 0 of a view must stand"));
+    assert_eq!(trouble("T 2 1 29", &made), "line 1: the program shows 1 slot, where 2 must be");
+    assert_eq!(trouble("T 1 1 29", &made.replace("1 1 29", "1 2 29")).split(" where ").last(), Some("the room of slot 0 must stand"));
+    assert_eq!(trouble("T 1 1 29", &format!("{made}0 -\n")), "the program printed more rows than the script asks for");
+    assert_eq!(trouble("V", "answer octets\n0 - 1 1 29 1\n"), "line 1: the program's rows end where slot 0 of a view must stand");
+    assert_eq!(trouble("Q", "answer octets\n\u{1b}[2J\n"), "line 1: the program printed `\\u{1b}[2J` where the row of its call must stand");
+}

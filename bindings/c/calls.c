@@ -1,13 +1,13 @@
-/* What a call costs through the archive: its time, and how often it copies a whole table. It is no test: nothing is asserted.
+/* What a call costs through the archive: its time, and how often it copies a whole table; and what a PDU of many signals costs, fed one by one. It is no test: nothing is asserted.
  * gcc -O2 -Wl,--wrap=memcpy -o calls bindings/c/calls.c target/staticlib/libentries.a && ./calls */
 #include "l2cap_channels.h"
 #include <stdio.h>
 #include <string.h>
 #include <time.h>
 
-enum { N = 4, D = 1, M = 64, ROOM = N * (D + 1) * (M - 6), TABLE = 600, TURNS = 1000, SAMPLES = 101 };
+enum { N = 4, D = 1, M = 64, ROOM = N * (D + 1) * (M - 6), TABLE = 600, TURNS = 1000, SAMPLES = 101, SIGNALS = 16383 };
 
-static uint8_t kept[L2CAP_TABLE_OCTETS], table[L2CAP_TABLE_OCTETS], answer[L2CAP_ANSWER_OCTETS], room[ROOM], signal[L2CAP_SIGNAL_OCTETS], out[64], job[64];
+static uint8_t kept[L2CAP_TABLE_OCTETS], table[L2CAP_TABLE_OCTETS], answer[L2CAP_ANSWER_OCTETS], room[ROOM], signal[L2CAP_SIGNAL_OCTETS], out[64], job[64], pdu[4 * SIGNALS];
 static unsigned copies;
 
 /* A copy of so many octets is one of a table: nothing else in a call on these sizes is as long. */
@@ -45,6 +45,23 @@ static void again(void) { __real_memcpy(table, kept, sizeof table); }
 #define LENT table, sizeof table, answer, sizeof answer
 #define IN(octets) octets, sizeof octets
 
+/* A PDU of so many signals, the shortest that there are, fed one by one: the fastest of some samples, in all and for each signal. */
+static void fed(unsigned signals) {
+    double best = 1e18;
+    for (unsigned k = 0; k < signals; k++) pdu[4 * k] = 0x30, pdu[4 * k + 1] = 1;
+    for (int s = 0; s < 21 + 1000 / (int)signals; s++) {
+        double from = now(), took;
+        for (size_t left = 4 * signals; left;) {
+            const uint8_t *rest = pdu + 4 * signals - left;
+            l2cap_signal(LENT, IN(room), IN(signal), 1, 1, 0, rest, left);
+            left = l2cap_signal_rest(rest, left);
+        }
+        took = now() - from;
+        if (took < best) best = took;
+    }
+    printf("| %u | %u | %.1f | %.2f |\n", signals, 4 * signals, best / 1e3, best / 1e3 / signals);
+}
+
 int main(void) {
     static const uint8_t request[] = {0x14, 7, 10, 0, 0x80, 0, 0x50, 0, 100, 0, 23, 0, 5, 0};
     static const uint8_t credits[] = {0x16, 8, 4, 0, 0x50, 0, 3, 0};
@@ -56,7 +73,7 @@ int main(void) {
     CALL("register_spsm", l2cap_register_spsm(LENT, 0x80));
     CALL("signal, a connect request", l2cap_signal(LENT, IN(room), IN(signal), 1, 1, 0, IN(request)));
     CALL("next_pending", l2cap_next_pending(LENT, 1, 1));
-    CALL("accept_pending", l2cap_accept_pending(LENT, IN(signal), 0, 65536, 65536, 0, 1, 65536));
+    CALL("accept_pending", l2cap_accept_pending(LENT, IN(signal), 0, L2CAP_DEFAULT, L2CAP_DEFAULT, L2CAP_EVERY, 1, L2CAP_DEFAULT));
     CALL("signal, credits", l2cap_signal(LENT, IN(room), IN(signal), 1, 1, 0, IN(credits)));
     CALL("signal, unknown", l2cap_signal(LENT, IN(room), IN(signal), 1, 1, 0, IN(unknown)));
     CALL("dispatch, a whole job", l2cap_dispatch(LENT, IN(room), 1, 0x40, IN(frame)));
@@ -67,7 +84,7 @@ int main(void) {
     CALL("send", l2cap_send(LENT, IN(out), 0, IN(frame)));
     CALL("inc_ref", l2cap_inc_ref(LENT, 0));
     CALL("dec_ref", l2cap_dec_ref(LENT, IN(room), 0));
-    CALL("create", l2cap_create(LENT, IN(signal), 1, 0x80, 65536, 65536, 0, 1, 65536));
+    CALL("create", l2cap_create(LENT, IN(signal), 1, 0x80, L2CAP_DEFAULT, L2CAP_DEFAULT, L2CAP_EVERY, 1, L2CAP_DEFAULT));
     CALL("opened, no answer yet", l2cap_opened(LENT, IN(room), 1, 1, 1));
     CALL("give_up", l2cap_give_up(LENT, IN(room), 1));
     CALL("disconnect", l2cap_disconnect(LENT, IN(room), 0));
@@ -75,5 +92,9 @@ int main(void) {
     CALL("disconnected", l2cap_disconnected(LENT, IN(room), 1));
     kept[0] = 99;
     CALL("attention, no table", l2cap_attention(LENT));
+
+    puts("\n| signals | octets | µs in all | µs a signal |\n|---|---|---|---|");
+    l2cap_make(LENT, IN(room), N, D, M);
+    fed(1), fed(5), fed(20), fed(100), fed(250), fed(1000), fed(SIGNALS);
     return 0;
 }

@@ -1,120 +1,386 @@
-/* The channel manager's calls. Link with target/staticlib/libentries.a (rt staticlib entries), which is x86-64 code.
+/* The channel manager's calls, from C and C++. Link with the archive of the proved entries (rt staticlib entries, or bindings/unproved to try it), which is x86-64 code.
  *
- * Every call is given the table and a buffer for its answer, each as pointer and length, and the memory that it needs.
- * It returns 0 or the refusal's number (1 to 23). No call keeps a pointer, allocates, or reads past a length. Lent memories must not overlap.
+ * Every call is given the table and a buffer for its answer, each as pointer and length, and the memory that it needs. It returns 0 or the number of a refusal
+ * (enum l2cap_refusal). No call keeps a pointer, allocates, waits, or reads or writes past a length; the archive has no data of its own. Two tables are two managers. Calls on one
+ * table must not run at the same time, unless all of them are questions.
  *
- * table   L2CAP_TABLE_OCTETS octets, written by l2cap_make. Octets that spell no table are refusal 1, and stay as they are.
- * answer  L2CAP_ANSWER_OCTETS octets, numbers with the lower octet first; a shorter buffer gets as many as it has.
- *           0       kind: 0 Done, 1 Refused, 2 At, 3 Link, 4 Opened, 5 Due, 6 Frames, 7 Job, 8 Attention, 9 Number, 10 Event
+ * table   L2CAP_TABLE_OCTETS octets, written by l2cap_make. Octets that spell no table, and another length, are refusal 1 in every call, and stay as they are.
+ * answer  L2CAP_ANSWER_OCTETS octets, written by every call, refused or not; a shorter buffer gets as many as it has. The l2cap_answer_ functions below read it.
+ *           0       its kind (enum l2cap_answer)
  *           1       the refusal's number, or 0
  *           2..6    how many octets were written at the start of `signal` or `out`
- *           6..14   four numbers: At slot; Link link; Due link, slot; Frames link, count; Job link, copied, length;
- *                   Attention set, count, lowest; Number n; Event min, max, latency, timeout; refusal 17: the result code
+ *           6..14   four numbers, by the kind
  *           14..16  zeros
- * room    l2cap_make's room: n * (d + 1) * (m - 6) octets. Another length is refusal 2.
- * signal  at least L2CAP_SIGNAL_OCTETS octets, else refusal 3.
+ *         Numbers have the lower octet first.
+ * room    the memory in which jobs arrive and wait: L2CAP_ROOM_OCTETS(n, d, m) octets, zeroed by l2cap_make. Another length is refusal 2. Octets of no live job are zero.
+ * signal  what goes out on the signalling channel is written here, with its L2CAP header: at least L2CAP_SIGNAL_OCTETS octets, else refusal 3.
  *
- * Limits: n 1 to 16 slots, d 1 to 4 waiting jobs a slot, packets of m 29 to 1,024 octets; links 0 to 0x0EFF; a slot's CID is 0x40 + slot.
- * Flags are 0 or 1. */
+ * Overlap. No two memories of one call may overlap. That holds of those that are only read too (pdu, payload, sdu, a const table): l2cap_send with sdu == out scrambles the job.
+ * Null. A memory of length 0 may be a null pointer: it is not looked at. (A room or signal of length 0 is refused by its length, as above.)
+ * Limits. n 1 to 16 slots, d 1 to 4 waiting jobs a slot, packets of m 29 to 1,024 octets; links 0 to 0x0EFF, a higher one is refusal 4; slots 0 to n - 1, a higher one is refusal 6;
+ * a slot's CID is L2CAP_CID_BASE + slot. A flag is 0 for no; every other number is yes.
+ *
+ * Refusals. Each call's comment has them in the order in which they are tested: the first that fits is given; a number stands twice where it is tested twice. Where the comment says no more, a refused call has changed
+ * nothing but the answer. docs/REFUSALS.md has what to do next.
+ *
+ * Holds. A slot whose channel has ended is used again once nobody holds it. l2cap_next_pending takes a hold on the slot that it gives, l2cap_opened on the channel that it finds open; l2cap_inc_ref takes one more.
+ * Whoever got a hold gives it back by l2cap_dec_ref, when it has no more use for the channel, and also after the channel has ended: a peer's disconnect and l2cap_disconnected leave holds as they are. Only l2cap_reject_pending and
+ * l2cap_drop_pending give one back by themselves. 16 phones that come and go without l2cap_dec_ref leave no slot for the 17th.
+ *
+ * Credits. The peer gets new credits when a job of its is taken (l2cap_receive), and at no other time. So a job that needs more frames than the peer has credits is never finished, and its channel
+ * stands still. A job of mtu octets needs n = (mtu + 2 + mps - 1) / mps frames, if the peer fills them. With L2CAP_EVERY k give at least n + k - 1 credits, with L2CAP_MIN_THRESHOLD t at least n, and a t of at least n. The defaults do:
+ * there n is 1. */
 #ifndef L2CAP_CHANNELS_H
 #define L2CAP_CHANNELS_H
 
 #include <stddef.h>
 #include <stdint.h>
 
+#ifdef __cplusplus
+extern "C" {
+#endif
+
+/* It goes up when an entry's parameters, the table's layout or the answer's change. The archive has it in the name of an entry, l2cap_version_1. */
+#define L2CAP_CHANNELS_VERSION 1
+
 #define L2CAP_TABLE_OCTETS 672
 #define L2CAP_ANSWER_OCTETS 16
 #define L2CAP_SIGNAL_OCTETS 18
+#define L2CAP_CID_BASE 0x40
 
-/* Makes a table of n slots, d waiting jobs a slot and packets of m octets, and zeroes the room. A table of another length than
- * L2CAP_TABLE_OCTETS is refusal 1, and nothing changes; a refused making of a table of that length leaves a table of no slots. */
+/* The room of n slots, d waiting jobs a slot and packets of m octets: in each slot a place for the job that arrives, and one for each that waits. */
+#define L2CAP_ROOM_OCTETS(n, d, m) ((size_t)(n) * ((size_t)(d) + 1) * ((size_t)(m) - 6))
+
+/* For mtu, mps and credits of l2cap_accept_pending and l2cap_create: the default, m - 6, m - 4 and d. Every number above 65,535 is. */
+#define L2CAP_DEFAULT 0x10000u
+
+/* What a call refuses with, and what that leaves where it isn't nothing. */
+enum l2cap_refusal {
+    L2CAP_BAD_TABLE = 1,             /* sizes outside the limits, or octets that spell no well-formed table */
+    L2CAP_BAD_ROOM = 2,              /* the room's length isn't the table's */
+    L2CAP_NO_ROOM = 3,               /* a signal buffer under 18 octets, or an output too short for the frames */
+    L2CAP_BAD_HANDLE = 4,            /* a link above 0x0EFF */
+    L2CAP_BAD_SPSM = 5,              /* an SPSM outside 1 to 255 */
+    L2CAP_BAD_SLOT = 6,              /* the table has no such slot */
+    L2CAP_INVALID_CHANNEL_ID = 7,    /* a frame's CID is no slot's */
+    L2CAP_NOT_FOUND = 8,             /* no slot fits; an unmatched connect response has freed every attempt of its link */
+    L2CAP_INVALID_VALUE = 9,         /* a signal longer than its PDU: a reject is written; credits above 65,535, a job above our MTU or a frame past its job's end: the channel is disconnecting */
+    L2CAP_OUT_OF_MEMORY = 10,        /* a frame for which the peer had no credit */
+    L2CAP_CHANNEL_CLOSED = 11,       /* the channel isn't open */
+    L2CAP_INSUFFICIENT_SPACE = 12,   /* our MPS above m - 4 or our MTU above m - 6; a job above the peer's MTU; a create has used an identifier */
+    L2CAP_NO_CHANNEL_AVAILABLE = 13, /* no slot is free; the create has used an identifier */
+    L2CAP_BUSY = 14,                 /* the job needs more frames than we have credits */
+    L2CAP_DECODE = 15,               /* a signal that can't be read: a reject is written where its header can; a result that is no result code */
+    L2CAP_NOT_SUPPORTED = 16,        /* an unknown signal: a reject is written */
+    L2CAP_CONNECT_ERROR = 17,        /* the peer refused our request, with a result code: l2cap_signal leaves the slot failed, l2cap_opened has freed it */
+    L2CAP_DISCONNECTED = 18,         /* the link or the channel is down; where it wasn't before, l2cap_opened has freed the slot */
+    L2CAP_SHORT_FRAME = 19,          /* a job's first frame without its two length octets: the channel is disconnecting */
+    L2CAP_BAD_MPS = 20,              /* the peer's MPS is under 23 */
+    L2CAP_QUEUE_FULL = 21,           /* a job is complete, but d wait already: it is dropped, and its credit used */
+    L2CAP_HELD = 22,                 /* the hold count isn't what the step needs, or would pass 0 or 255 */
+    L2CAP_TOO_LONG = 23              /* a job of 65,534 or 65,535 octets */
+};
+
+/* An answer's kind, and its numbers. */
+enum l2cap_answer {
+    L2CAP_ANSWER_DONE = 0,
+    L2CAP_ANSWER_REFUSED = 1,   /* of refusal 17: the result code */
+    L2CAP_ANSWER_AT = 2,        /* slot */
+    L2CAP_ANSWER_LINK = 3,      /* link */
+    L2CAP_ANSWER_OPENED = 4,
+    L2CAP_ANSWER_DUE = 5,       /* link, slot */
+    L2CAP_ANSWER_FRAMES = 6,    /* link, count */
+    L2CAP_ANSWER_JOB = 7,       /* link, octets copied, octets in all */
+    L2CAP_ANSWER_ATTENTION = 8, /* set, count, lowest */
+    L2CAP_ANSWER_NUMBER = 9,    /* the number asked for */
+    L2CAP_ANSWER_EVENT = 10     /* min, max, latency, timeout */
+};
+
+/* The result of a connect response (Core, Vol 3 Part A, 4.23). */
+enum l2cap_result {
+    L2CAP_RESULT_SUCCESS = 0,
+    L2CAP_RESULT_SPSM_NOT_SUPPORTED = 2,
+    L2CAP_RESULT_NO_RESOURCES = 4,
+    L2CAP_RESULT_INSUFFICIENT_AUTHENTICATION = 5,
+    L2CAP_RESULT_INSUFFICIENT_AUTHORIZATION = 6,
+    L2CAP_RESULT_ENCRYPTION_KEY_TOO_SHORT = 7,
+    L2CAP_RESULT_INSUFFICIENT_ENCRYPTION = 8,
+    L2CAP_RESULT_INVALID_SOURCE_ID = 9,
+    L2CAP_RESULT_SCID_ALREADY_ALLOCATED = 10,
+    L2CAP_RESULT_UNACCEPTABLE_PARAMETERS = 11
+};
+
+/* How the peer gets new credits when a job is taken: the kind of l2cap_accept_pending and l2cap_create, with its value. */
+enum l2cap_policy {
+    L2CAP_EVERY = 0,        /* once so many frames came since the last grant; 0 is as 1 */
+    L2CAP_MIN_THRESHOLD = 1 /* once the peer has fewer credits than that; 0 never grants */
+};
+
+/* ---- an answer read. The buffer has all L2CAP_ANSWER_OCTETS octets. */
+
+static inline unsigned l2cap_answer_kind(const uint8_t *answer) { return answer[0]; }
+
+static inline unsigned l2cap_answer_refusal(const uint8_t *answer) { return answer[1]; }
+
+/* How many octets go out: those at the start of `signal` or `out`. A refused signal can have a reply too. */
+static inline uint32_t l2cap_answer_written(const uint8_t *answer) {
+    return answer[2] | (uint32_t)answer[3] << 8 | (uint32_t)answer[4] << 16 | (uint32_t)answer[5] << 24;
+}
+
+/* Number k, 0 to 3. */
+static inline uint16_t l2cap_answer_number(const uint8_t *answer, unsigned k) {
+    return (uint16_t)(answer[6 + 2 * k] | answer[7 + 2 * k] << 8);
+}
+
+/* The slot of At and of Due. */
+static inline uint8_t l2cap_answer_slot(const uint8_t *answer) {
+    return (uint8_t)l2cap_answer_number(answer, l2cap_answer_kind(answer) == L2CAP_ANSWER_DUE ? 1 : 0);
+}
+
+/* The link of Link, Due, Frames and Job: what was written goes out on it. */
+static inline uint16_t l2cap_answer_link(const uint8_t *answer) { return l2cap_answer_number(answer, 0); }
+
+/* The result code of refusal 17 (enum l2cap_result). */
+static inline uint16_t l2cap_answer_result(const uint8_t *answer) { return l2cap_answer_number(answer, 0); }
+
+/* What a question asked for: an MTU, an MPS, an SPSM. */
+static inline uint16_t l2cap_answer_value(const uint8_t *answer) { return l2cap_answer_number(answer, 0); }
+
+/* How many frames a job was cut into. */
+static inline uint16_t l2cap_answer_frame_count(const uint8_t *answer) { return l2cap_answer_number(answer, 1); }
+
+/* How many of a job's octets were copied, and how many it had. */
+static inline uint16_t l2cap_answer_job_copied(const uint8_t *answer) { return l2cap_answer_number(answer, 1); }
+static inline uint16_t l2cap_answer_job_length(const uint8_t *answer) { return l2cap_answer_number(answer, 2); }
+
+/* The slots that call: a bit for each, slot 0's the lowest; how many they are; the lowest, n where none calls. */
+static inline uint16_t l2cap_answer_attention_set(const uint8_t *answer) { return l2cap_answer_number(answer, 0); }
+static inline uint16_t l2cap_answer_attention_count(const uint8_t *answer) { return l2cap_answer_number(answer, 1); }
+static inline uint16_t l2cap_answer_attention_lowest(const uint8_t *answer) { return l2cap_answer_number(answer, 2); }
+
+/* The connection parameters that the peer of an Event wishes: intervals in 1.25 ms, events that may be skipped, timeout in 10 ms. */
+static inline uint16_t l2cap_answer_interval_min(const uint8_t *answer) { return l2cap_answer_number(answer, 0); }
+static inline uint16_t l2cap_answer_interval_max(const uint8_t *answer) { return l2cap_answer_number(answer, 1); }
+static inline uint16_t l2cap_answer_latency(const uint8_t *answer) { return l2cap_answer_number(answer, 2); }
+static inline uint16_t l2cap_answer_timeout(const uint8_t *answer) { return l2cap_answer_number(answer, 3); }
+
+/* ---- making a table */
+
+/* The archive's version: 1. An archive of another version has another name for it. */
+uint32_t l2cap_version_1(void);
+
+/* Makes a table of n slots, d waiting jobs a slot and packets of m octets.
+ * Refusals: 1 2. They leave a table of no slots, which every call refuses by 1; the room, and a table of another length than L2CAP_TABLE_OCTETS, stay as they are.
+ * Writes: the whole table; the room, all zeros.
+ * Answer: Done. */
 uint32_t l2cap_make(uint8_t *table, size_t table_len, uint8_t *answer, size_t answer_len, uint8_t *room, size_t room_len, uint16_t n, uint16_t d, uint16_t m);
 
-/* Registers an SPSM, 1 to 255. */
+/* Whoever makes a table calls l2cap_version_1 before it: so no program links with an archive of another version, and the linker's message names the entry. It is a function behind the entry's name,
+ * and not a pointer that each file would hold, because linkers for firmware drop data that nobody reads. It takes one empty call. */
+static inline uint32_t l2cap_make_of_this_version(uint8_t *table, size_t table_len, uint8_t *answer, size_t answer_len, uint8_t *room, size_t room_len, uint16_t n, uint16_t d, uint16_t m) {
+    (void)l2cap_version_1();
+    return l2cap_make(table, table_len, answer, answer_len, room, room_len, n, d, m);
+}
+#define l2cap_make l2cap_make_of_this_version
+
+/* Lets peers connect to an SPSM, on every link. It stays so until the next l2cap_make; twice is once.
+ * Refusals: 1 5.
+ * Writes: the table.
+ * Answer: Done. */
 uint32_t l2cap_register_spsm(uint8_t *table, size_t table_len, uint8_t *answer, size_t answer_len, uint16_t spsm);
 
-/* A slot's SPSM. */
-uint32_t l2cap_spsm(const uint8_t *table, size_t table_len, uint8_t *answer, size_t answer_len, uint8_t slot);
+/* ---- signals */
 
-/* A slot's MTU. */
-uint32_t l2cap_mtu(const uint8_t *table, size_t table_len, uint8_t *answer, size_t answer_len, uint8_t slot);
-
-/* A slot's MPS. */
-uint32_t l2cap_mps(const uint8_t *table, size_t table_len, uint8_t *answer, size_t answer_len, uint8_t slot);
-
-/* The MTU of a slot's peer. */
-uint32_t l2cap_peer_mtu(const uint8_t *table, size_t table_len, uint8_t *answer, size_t answer_len, uint8_t slot);
-
-/* The MPS of a slot's peer. */
-uint32_t l2cap_peer_mps(const uint8_t *table, size_t table_len, uint8_t *answer, size_t answer_len, uint8_t slot);
-
-/* The slots that call. */
-uint32_t l2cap_attention(const uint8_t *table, size_t table_len, uint8_t *answer, size_t answer_len);
-
-/* The lowest pending of a link; up: is the link up? */
-uint32_t l2cap_next_pending(uint8_t *table, size_t table_len, uint8_t *answer, size_t answer_len, uint16_t link, uint8_t up);
-
-/* One hold more. */
-uint32_t l2cap_inc_ref(uint8_t *table, size_t table_len, uint8_t *answer, size_t answer_len, uint8_t slot);
-
-/* Writes a request for connection parameters. */
-uint32_t l2cap_send_conn_param_update_req(uint8_t *table, size_t table_len, uint8_t *answer, size_t answer_len, uint8_t *signal, size_t signal_len, uint16_t link, uint16_t min, uint16_t max, uint16_t latency, uint16_t timeout);
-
-/* Writes the response to a request for connection parameters. */
-uint32_t l2cap_send_conn_param_update_res(uint8_t *table, size_t table_len, uint8_t *answer, size_t answer_len, uint8_t *signal, size_t signal_len, uint16_t link, uint16_t result);
-
-/* Accepts the pending of a slot. mtu, mps, credits above 65,535: the default; kind 0 Every, else MinThreshold. */
-uint32_t l2cap_accept_pending(uint8_t *table, size_t table_len, uint8_t *answer, size_t answer_len, uint8_t *signal, size_t signal_len, uint8_t slot, uint32_t mtu, uint32_t mps, uint8_t kind, uint16_t value, uint32_t credits);
-
-/* Asks the peer for a channel. mtu, mps, credits above 65,535: the default; kind 0 Every, else MinThreshold. */
-uint32_t l2cap_create(uint8_t *table, size_t table_len, uint8_t *answer, size_t answer_len, uint8_t *signal, size_t signal_len, uint16_t link, uint16_t spsm, uint32_t mtu, uint32_t mps, uint8_t kind, uint16_t value, uint32_t credits);
-
-/* Drops the pending of a slot. */
-uint32_t l2cap_drop_pending(uint8_t *table, size_t table_len, uint8_t *answer, size_t answer_len, uint8_t *room, size_t room_len, uint8_t slot);
-
-/* Is the channel of a slot open? */
-uint32_t l2cap_opened(uint8_t *table, size_t table_len, uint8_t *answer, size_t answer_len, uint8_t *room, size_t room_len, uint8_t slot, uint16_t link, uint8_t up);
-
-/* Gives up an attempt. */
-uint32_t l2cap_give_up(uint8_t *table, size_t table_len, uint8_t *answer, size_t answer_len, uint8_t *room, size_t room_len, uint8_t slot);
-
-/* One hold less. */
-uint32_t l2cap_dec_ref(uint8_t *table, size_t table_len, uint8_t *answer, size_t answer_len, uint8_t *room, size_t room_len, uint8_t slot);
-
-/* Disconnects a slot. */
-uint32_t l2cap_disconnect(uint8_t *table, size_t table_len, uint8_t *answer, size_t answer_len, uint8_t *room, size_t room_len, uint8_t slot);
-
-/* Disconnects the slot of a CID. */
-uint32_t l2cap_disconnect_by_cid(uint8_t *table, size_t table_len, uint8_t *answer, size_t answer_len, uint8_t *room, size_t room_len, uint16_t cid);
-
-/* A link is down. */
-uint32_t l2cap_disconnected(uint8_t *table, size_t table_len, uint8_t *answer, size_t answer_len, uint8_t *room, size_t room_len, uint16_t link);
-
-/* Rejects the lowest pending of a link that nobody holds. */
-uint32_t l2cap_reject_all_pending(uint8_t *table, size_t table_len, uint8_t *answer, size_t answer_len, uint8_t *room, size_t room_len, uint8_t *signal, size_t signal_len, uint16_t link);
-
-/* Rejects the pending of a slot with a result code; a number that is none is refusal 15. */
-uint32_t l2cap_reject_pending(uint8_t *table, size_t table_len, uint8_t *answer, size_t answer_len, uint8_t *room, size_t room_len, uint8_t *signal, size_t signal_len, uint8_t slot, uint16_t result);
-
-/* The next disconnect that is due. */
-uint32_t l2cap_next_disconnect(uint8_t *table, size_t table_len, uint8_t *answer, size_t answer_len, uint8_t *room, size_t room_len, uint8_t *signal, size_t signal_len);
-
-/* The first signal of a PDU. */
+/* Handles the first signal of a PDU that came on a link's signalling channel, CID 5, without its L2CAP header. Go on with the octets that l2cap_signal_rest tells, until there are none.
+ * listening: would somebody accept a channel on this link now? central: are we this link's central?
+ * Refusals: 1 2 3 4 15 9 16 15 8 17 9. First every header of the PDU is checked: 15 where fewer than 4 octets are left for one, 9 where a signal is longer than what is left, with a reject as reply; after these two nothing of the
+ * PDU is handled. Then by the signal's code, where a body of the wrong length is 15 with a reject as reply:
+ *   0x14  connect request: Done. A pending slot, and nothing goes back before l2cap_accept_pending or l2cap_reject_pending; or a refused response as reply: result 2 for an SPSM that isn't registered, 4 where nobody listens,
+ *         10 where the peer's CID is in use on this link, 4 where no slot is free
+ *   0x15  connect response: Done, the attempt with this identifier is open; 8 where there is none: every attempt of this link is freed; 17: the attempt has failed (l2cap_opened tells it, and frees the slot). A result that is no
+ *         result code is 15 with a reject
+ *   0x16  credits: Done, we have more; 8 where no open channel has this peer CID; 9 where they pass 65,535: the channel is disconnecting, and the job that arrives is wiped
+ *   0x06  disconnect request: Done. A disconnect is due (l2cap_next_disconnect), the job that arrives is wiped, and waiting jobs can be taken until then; or a reject as reply where the CID is no slot's of this link
+ *   0x07  disconnect response: Done. The slot that was disconnecting is freed; nothing for a CID of no such slot
+ *   0x12  parameter request: Event where we are central and they are valid (answer by l2cap_send_conn_param_update_res); Done with a reject where we are not, before the body is read, and with response 1 where they are not valid
+ *   0x01, 0x13  a reject, a parameter response: Done, nothing changes
+ *   another  16, with a reject as reply
+ * An empty PDU is Done.
+ * Writes: table; room; signal, the reply, which goes out on this link whether the signal was refused or not.
+ * Answer: Done or Event.
+ * Cost: each call checks every header of what it is given, so that a PDU fed so costs time by the square of its signals. Core's least signalling MTU on LE, 23 octets, holds each of its signals, and it has one signal a PDU:
+ * drop a longer PDU, or take at most one packet's (docs/PERFORMANCE.md has times). */
 uint32_t l2cap_signal(uint8_t *table, size_t table_len, uint8_t *answer, size_t answer_len, uint8_t *room, size_t room_len, uint8_t *signal, size_t signal_len, uint16_t link, uint8_t listening, uint8_t central, const uint8_t *pdu, size_t pdu_len);
 
-/* A frame that came in. */
-uint32_t l2cap_dispatch(uint8_t *table, size_t table_len, uint8_t *answer, size_t answer_len, uint8_t *room, size_t room_len, uint16_t link, uint16_t cid, const uint8_t *payload, size_t payload_len);
-
-/* Cuts a job into frames. */
-uint32_t l2cap_send(uint8_t *table, size_t table_len, uint8_t *answer, size_t answer_len, uint8_t *out, size_t out_len, uint8_t slot, const uint8_t *sdu, size_t sdu_len);
-
-/* Takes the oldest job that waits in a slot. */
-uint32_t l2cap_receive(uint8_t *table, size_t table_len, uint8_t *answer, size_t answer_len, uint8_t *room, size_t room_len, uint8_t *signal, size_t signal_len, uint8_t *job, size_t job_len, uint8_t slot);
-
-/* How many octets of a PDU stand behind its first signal: its last ones, which l2cap_signal is called with next. */
+/* How many octets of a PDU stand behind its first signal: its last ones, with which l2cap_signal is called next. 0 at its end, where its headers are bad, and for an empty PDU. It hangs on the PDU alone. */
 size_t l2cap_signal_rest(const uint8_t *pdu, size_t pdu_len);
 
-/* 1, the version of these calls. The number is in the name, so that an archive of another version isn't linked with this header. */
-uint32_t l2cap_version_1(void);
+/* Writes a request for connection parameters, with the next identifier. The numbers are not tested.
+ * Refusals: 1 3 4.
+ * Writes: table, an identifier used; signal.
+ * Answer: Done; the signal goes out on the link that was given. */
+uint32_t l2cap_send_conn_param_update_req(uint8_t *table, size_t table_len, uint8_t *answer, size_t answer_len, uint8_t *signal, size_t signal_len, uint16_t link, uint16_t min, uint16_t max, uint16_t latency, uint16_t timeout);
+
+/* Writes the response to a request for connection parameters, 0 to take them and 1 to refuse them, with the next identifier. The number is not tested.
+ * Refusals: 1 3 4.
+ * Writes: table, an identifier used; signal.
+ * Answer: Done; the signal goes out on the link that was given. */
+uint32_t l2cap_send_conn_param_update_res(uint8_t *table, size_t table_len, uint8_t *answer, size_t answer_len, uint8_t *signal, size_t signal_len, uint16_t link, uint16_t result);
+
+/* ---- channels that a peer opens */
+
+/* The lowest slot of a link in which a connect request waits. It is held once from now on: the hold becomes the channel's with l2cap_accept_pending, and is given back by l2cap_reject_pending, l2cap_drop_pending or l2cap_dec_ref.
+ * up: is the link up?
+ * Refusals: 1 4 18 22. 18 where none waits and the link is down; 22 where that slot is held already, also if a higher one waits unheld.
+ * Writes: the table, the hold.
+ * Answer: At; Done where none waits and the link is up. */
+uint32_t l2cap_next_pending(uint8_t *table, size_t table_len, uint8_t *answer, size_t answer_len, uint16_t link, uint8_t up);
+
+/* Opens the pending channel of a slot, with our numbers. The pending's hold stays: whoever uses the channel releases it by l2cap_dec_ref, which lets the channel disconnect, and also after the channel has ended.
+ * mtu, mps, credits: up to 65,535, or L2CAP_DEFAULT. kind, value: enum l2cap_policy; another kind than 0 is L2CAP_MIN_THRESHOLD. A job that needs more frames than the peer has credits is never finished: see Credits above.
+ * Refusals: 1 3 6 12 12 8 22. 12 for mps, then for mtu; 8 where nothing is pending in this slot, 22 where nobody holds it.
+ * Writes: table; signal, the response.
+ * Answer: Link. */
+uint32_t l2cap_accept_pending(uint8_t *table, size_t table_len, uint8_t *answer, size_t answer_len, uint8_t *signal, size_t signal_len, uint8_t slot, uint32_t mtu, uint32_t mps, uint8_t kind, uint16_t value, uint32_t credits);
+
+/* Refuses the pending channel of a slot with a result code (enum l2cap_result), releases one hold and frees the slot. Holds beyond that one stay. Result 0 is not refused: the peer then believes in a channel that isn't there.
+ * Refusals: 1 2 3 6 15 8 22. 15 for a number that is no result code, 8 where nothing is pending in this slot, 22 where nobody holds it.
+ * Writes: table; room, the slot's part zeroed; signal, the response.
+ * Answer: Link. */
+uint32_t l2cap_reject_pending(uint8_t *table, size_t table_len, uint8_t *answer, size_t answer_len, uint8_t *room, size_t room_len, uint8_t *signal, size_t signal_len, uint8_t slot, uint16_t result);
+
+/* Refuses the lowest pending channel of a link that nobody holds, with result 4, and frees its slot. Call it until the answer is Done.
+ * Refusals: 1 2 3 4.
+ * Writes: table; room, the slot's part zeroed; signal, the response, which goes out on the link that was given.
+ * Answer: At; Done where none is left, and nothing is written. */
+uint32_t l2cap_reject_all_pending(uint8_t *table, size_t table_len, uint8_t *answer, size_t answer_len, uint8_t *room, size_t room_len, uint8_t *signal, size_t signal_len, uint16_t link);
+
+/* Lets go of the pending channel of a slot: releases one hold and frees the slot. Nothing goes to the peer. In an open channel it does nothing, and the hold stays; in every other state it releases the hold alone.
+ * Refusals: 1 2 6 22. 22 where nobody holds it.
+ * Writes: table; room, the slot's part zeroed where it is freed.
+ * Answer: Done. */
+uint32_t l2cap_drop_pending(uint8_t *table, size_t table_len, uint8_t *answer, size_t answer_len, uint8_t *room, size_t room_len, uint8_t slot);
+
+/* ---- channels that we open */
+
+/* Takes the lowest free slot and writes a connect request. Nobody holds the slot until l2cap_opened finds the channel open. The SPSM is not tested.
+ * mtu, mps, credits, kind, value: as in l2cap_accept_pending. A job that needs more frames than the peer has credits is never finished: see Credits above.
+ * Refusals: 1 3 4 12 12 13. 12 for mps, then for mtu; 13 where no slot is free. 12 and 13 have used an identifier: the table is written.
+ * Writes: table; signal, the request, which goes out on the link that was given.
+ * Answer: At. */
+uint32_t l2cap_create(uint8_t *table, size_t table_len, uint8_t *answer, size_t answer_len, uint8_t *signal, size_t signal_len, uint16_t link, uint16_t spsm, uint32_t mtu, uint32_t mps, uint8_t kind, uint16_t value, uint32_t credits);
+
+/* Is the channel that we asked for open? Where it is, it is held once from now on: whoever uses it releases the hold by l2cap_dec_ref, which lets the channel disconnect, and also after the channel has ended.
+ * up: is the link up?
+ * Refusals: 1 2 4 6 18 8 18 17 22. 18 where the slot has no channel, 8 where it is another link's; then 18 where the link is down or the channel is disconnecting, and 17 where the peer refused: these two have freed the slot and
+ * zeroed its part of the room, a disconnect that was due is written no more, and holds stay; 22 where it is open and held already.
+ * Writes: the table, the hold.
+ * Answer: Opened; Done where the peer hasn't answered yet, and in a pending slot. */
+uint32_t l2cap_opened(uint8_t *table, size_t table_len, uint8_t *answer, size_t answer_len, uint8_t *room, size_t room_len, uint8_t slot, uint16_t link, uint8_t up);
+
+/* Gives up an attempt of ours: frees the slot, whether the peer hasn't answered, has refused, or has opened a channel that nobody holds. Nothing goes to the peer.
+ * Refusals: 1 2 6 8. 8 in every other state.
+ * Writes: table; room, the slot's part zeroed.
+ * Answer: Done. */
+uint32_t l2cap_give_up(uint8_t *table, size_t table_len, uint8_t *answer, size_t answer_len, uint8_t *room, size_t room_len, uint8_t slot);
+
+/* ---- holds and ends */
+
+/* One hold more, in any state. Each is given back by its own l2cap_dec_ref; a slot without a channel that is held is not used until then.
+ * Refusals: 1 6 22. 22 at 255 holds.
+ * Writes: the table.
+ * Answer: Done. */
+uint32_t l2cap_inc_ref(uint8_t *table, size_t table_len, uint8_t *answer, size_t answer_len, uint8_t slot);
+
+/* One hold less: the one that l2cap_next_pending, l2cap_opened or l2cap_inc_ref took. The last one of an open channel lets it disconnect (l2cap_next_disconnect writes the request); the last one of a slot whose
+ * channel has ended makes it free for the next.
+ * Refusals: 1 2 6 22. 22 where nobody holds it.
+ * Writes: table; room, the job that arrives zeroed where the channel disconnects.
+ * Answer: Done. */
+uint32_t l2cap_dec_ref(uint8_t *table, size_t table_len, uint8_t *answer, size_t answer_len, uint8_t *room, size_t room_len, uint8_t slot);
+
+/* Lets the open channel of a slot disconnect; nothing in another state. l2cap_next_disconnect writes the request. Waiting jobs can be taken until the peer's response; holds stay.
+ * Refusals: 1 2 6.
+ * Writes: table; room, the job that arrives zeroed.
+ * Answer: Done. */
+uint32_t l2cap_disconnect(uint8_t *table, size_t table_len, uint8_t *answer, size_t answer_len, uint8_t *room, size_t room_len, uint8_t slot);
+
+/* The same by our CID, whatever the link; nothing for a CID of no slot.
+ * Refusals: 1 2.
+ * Writes and answer: as l2cap_disconnect. */
+uint32_t l2cap_disconnect_by_cid(uint8_t *table, size_t table_len, uint8_t *answer, size_t answer_len, uint8_t *room, size_t room_len, uint16_t cid);
+
+/* A link is down: frees all its slots, and zeroes what they held in the room, waiting jobs too. Holds stay: whoever has one releases it by l2cap_dec_ref, or the slot is not used again.
+ * Refusals: 1 2 4.
+ * Writes: table; room.
+ * Answer: Done, also where the link has no slot. */
+uint32_t l2cap_disconnected(uint8_t *table, size_t table_len, uint8_t *answer, size_t answer_len, uint8_t *room, size_t room_len, uint16_t link);
+
+/* Writes the next disconnect that is due, the lowest slot's: the response to a peer's request, which frees the slot, or our request, once a slot, with the next identifier; that slot is freed by the peer's response. Call it until
+ * the answer is Done. Jobs that wait in a slot are gone with a response: take them first.
+ * Refusals: 1 2 3.
+ * Writes: table; room, a freed slot's part zeroed; signal.
+ * Answer: Due; Done where none is due, and nothing is written. */
+uint32_t l2cap_next_disconnect(uint8_t *table, size_t table_len, uint8_t *answer, size_t answer_len, uint8_t *room, size_t room_len, uint8_t *signal, size_t signal_len);
+
+/* ---- jobs */
+
+/* Takes in a frame that came on a link: its CID, and its payload behind the L2CAP header.
+ * Refusals: 1 2 4 7 8 10 19 9 9 21. 7 for a CID of no slot; where the channel isn't open the frame is dropped, Done; 8 where it is another link's, 10 where the peer has no credit. Then a credit is used, and the table written: 19 for
+ * a job's first frame under 2 octets, 9 for a job above our MTU, then for more octets than the job has: these leave the channel disconnecting, and the job that arrives zeroed; waiting jobs stay. 21 where the job is complete and d
+ * wait already: it is dropped and zeroed, and the channel stays open.
+ * Writes: table; room.
+ * Answer: Done, whether a job is complete or not: l2cap_attention tells. */
+uint32_t l2cap_dispatch(uint8_t *table, size_t table_len, uint8_t *answer, size_t answer_len, uint8_t *room, size_t room_len, uint16_t link, uint16_t cid, const uint8_t *payload, size_t payload_len);
+
+/* Cuts a job into frames, each with its L2CAP header, one behind the other, and uses a credit for each.
+ * Refusals: 1 6 11 12 23 20 14 3. 11 where the channel isn't open, 12 where the job is above the peer's MTU, 23 for 65,534 and 65,535 octets, 20 where the peer's MPS is under 23, 14 where the frames are more than our credits,
+ * 3 where out has fewer octets than the job, its 2 length octets and 4 a frame. Nothing is sent by halves.
+ * Writes: table; out.
+ * Answer: Frames. */
+uint32_t l2cap_send(uint8_t *table, size_t table_len, uint8_t *answer, size_t answer_len, uint8_t *out, size_t out_len, uint8_t slot, const uint8_t *sdu, size_t sdu_len);
+
+/* Takes the oldest job that waits in a slot: copies as much of it as the buffer holds (the rest is gone), moves later jobs up, and grants the peer new credits where they are due. A job finished before can be taken while the channel
+ * disconnects; it grants nothing then.
+ * Refusals: 1 2 3 6 11. 11 where no channel is open or disconnecting in this slot.
+ * Writes: table; room; job; signal, the grant, which uses an identifier. l2cap_answer_written is 0 where none is due.
+ * Answer: Job; Done where no job waits, and nothing is written. */
+uint32_t l2cap_receive(uint8_t *table, size_t table_len, uint8_t *answer, size_t answer_len, uint8_t *room, size_t room_len, uint8_t *signal, size_t signal_len, uint8_t *job, size_t job_len, uint8_t slot);
+
+/* ---- questions: the table is only read */
+
+/* The slots that call: a job waits (take it), a disconnect is due (l2cap_next_disconnect), or an attempt of ours has failed (l2cap_opened). A pending does not call.
+ * Refusals: 1.
+ * Answer: Attention. */
+uint32_t l2cap_attention(const uint8_t *table, size_t table_len, uint8_t *answer, size_t answer_len);
+
+/* The SPSM of a slot's channel; 0 where it has none.
+ * Refusals: 1 6.
+ * Answer: Number. */
+uint32_t l2cap_spsm(const uint8_t *table, size_t table_len, uint8_t *answer, size_t answer_len, uint8_t slot);
+
+/* The longest job that we take in a slot; 0 where it has no channel, or a pending one.
+ * Refusals: 1 6.
+ * Answer: Number. */
+uint32_t l2cap_mtu(const uint8_t *table, size_t table_len, uint8_t *answer, size_t answer_len, uint8_t slot);
+
+/* The longest frame payload that we take in a slot; 0 where it has no channel, or a pending one.
+ * Refusals: 1 6.
+ * Answer: Number. */
+uint32_t l2cap_mps(const uint8_t *table, size_t table_len, uint8_t *answer, size_t answer_len, uint8_t slot);
+
+/* The longest job that a slot's peer takes; 0 where it has no channel, or our attempt isn't open.
+ * Refusals: 1 6.
+ * Answer: Number. */
+uint32_t l2cap_peer_mtu(const uint8_t *table, size_t table_len, uint8_t *answer, size_t answer_len, uint8_t slot);
+
+/* The longest frame payload that a slot's peer takes; 0 where it has no channel, or our attempt isn't open.
+ * Refusals: 1 6.
+ * Answer: Number. */
+uint32_t l2cap_peer_mps(const uint8_t *table, size_t table_len, uint8_t *answer, size_t answer_len, uint8_t slot);
+
+#ifdef __cplusplus
+}
+#endif
 
 #endif

@@ -1,4 +1,4 @@
-/* The archive from C: a phone connects, a job comes in and is taken, the link goes down; then the refusals that no script reaches. */
+/* The archive from C and from C++: a phone connects, a job comes in and is taken, the link goes down; a channel of our own; then the refusals that no script reaches. Every reader of an answer is used. */
 #include "l2cap_channels.h"
 #include <stdio.h>
 #include <string.h>
@@ -7,6 +7,10 @@ enum { N = 2, D = 2, M = 64, ROOM = N * (D + 1) * (M - 6) };
 
 static uint8_t table[L2CAP_TABLE_OCTETS], answer[L2CAP_ANSWER_OCTETS], room[ROOM], signal[L2CAP_SIGNAL_OCTETS], job[64], out[256];
 static int passed, failed;
+
+#define LENT table, sizeof table, answer, sizeof answer
+#define IN(octets) octets, sizeof octets
+#define NONE NULL, 0
 
 static void check(int ok, const char *what) {
     if (ok) {
@@ -17,67 +21,143 @@ static void check(int ok, const char *what) {
     }
 }
 
-static unsigned number(int k) { return answer[6 + 2 * k] + 256u * answer[7 + 2 * k]; }
-static unsigned written(void) { return answer[2] + 256u * answer[3]; }
+static int is(enum l2cap_answer kind) { return l2cap_answer_kind(answer) == (unsigned)kind && l2cap_answer_refusal(answer) == 0; }
+
+/* The number that was returned, and the answer, are this refusal's. */
+static int refused(uint32_t returned, enum l2cap_refusal refusal) {
+    return returned == (uint32_t)refusal && l2cap_answer_kind(answer) == L2CAP_ANSWER_REFUSED && l2cap_answer_refusal(answer) == returned;
+}
+
+static int wrote(const uint8_t *in, const uint8_t *octets, size_t n) { return l2cap_answer_written(answer) == n && !memcmp(in, octets, n); }
+
+/* What a question of slot 0 answers: it is lent the table to read alone. */
+static int asked(uint32_t (*question)(const uint8_t *, size_t, uint8_t *, size_t, uint8_t), unsigned value) {
+    return question(LENT, 0) == 0 && is(L2CAP_ANSWER_NUMBER) && l2cap_answer_value(answer) == value;
+}
+
 static int zeros(const uint8_t *p, size_t n) {
     while (n--)
         if (*p++) return 0;
     return 1;
 }
 
-int main(void) {
+/* From a phone's connect request to its job, and ours to it. */
+static void a_phone(void) {
     static const uint8_t request[] = {0x14, 7, 10, 0, 0x80, 0, 0x50, 0, 100, 0, 23, 0, 5, 0};
     static const uint8_t response[] = {14, 0, 5, 0, 0x15, 7, 10, 0, 0x40, 0, 58, 0, 60, 0, 2, 0, 0, 0};
     static const uint8_t frame[] = {3, 0, 1, 2, 3};
+    static const uint8_t grant[] = {8, 0, 5, 0, 0x16, 1, 4, 0, 0x40, 0, 1, 0};
     static const uint8_t sent[] = {5, 0, 0x50, 0, 3, 0, 1, 2, 3};
-    const uint8_t *asked = table; /* a question is lent the table to read alone */
-    uint8_t before[L2CAP_TABLE_OCTETS];
 
-    check(l2cap_version_1() == 1, "the version is the name's");
+    check(l2cap_version_1() == L2CAP_CHANNELS_VERSION, "the version is the header's");
     memset(room, 7, sizeof room);
-    check(l2cap_make(table, sizeof table, answer, sizeof answer, room, sizeof room, N, D, M) == 0, "make");
-    check(zeros(room, sizeof room), "making zeroes the room");
-    check(l2cap_register_spsm(table, sizeof table, answer, sizeof answer, 128) == 0, "register");
-    check(l2cap_register_spsm(table, sizeof table, answer, sizeof answer, 256) == 5 && answer[0] == 1 && answer[1] == 5, "SPSM 256 is refusal 5");
+    check(ROOM == L2CAP_ROOM_OCTETS(N, D, M) && l2cap_make(LENT, IN(room), N, D, M) == 0 && is(L2CAP_ANSWER_DONE), "make");
+    check(zeros(IN(room)), "making zeroes the room");
+    check(l2cap_register_spsm(LENT, 128) == 0, "register");
+    check(refused(l2cap_register_spsm(LENT, 256), L2CAP_BAD_SPSM), "SPSM 256 is refusal 5");
 
-    check(l2cap_signal(table, sizeof table, answer, sizeof answer, room, sizeof room, signal, sizeof signal, 1, 1, 1, request, sizeof request) == 0, "a connect request");
-    check(answer[0] == 0 && written() == 0, "nothing is written yet");
-    check(l2cap_signal_rest(request, sizeof request) == 0, "one signal in the PDU");
-    check(l2cap_next_pending(table, sizeof table, answer, sizeof answer, 1, 1) == 0 && answer[0] == 2 && number(0) == 0, "slot 0 pends");
-    check(l2cap_accept_pending(table, sizeof table, answer, sizeof answer, signal, sizeof signal, 0, 65536, 65536, 0, 1, 65536) == 0 && answer[0] == 3 && number(0) == 1, "accept");
-    check(written() == 18 && !memcmp(signal, response, 18), "the response");
-    check(l2cap_peer_mtu(asked, sizeof table, answer, sizeof answer, 0) == 0 && answer[0] == 9 && number(0) == 100, "the peer's MTU");
-    check(l2cap_spsm(asked, sizeof table, answer, sizeof answer, 0) == 0 && number(0) == 128, "the SPSM");
-    check(l2cap_mtu(asked, sizeof table, answer, sizeof answer, 0) == 0 && number(0) == 58, "our MTU");
-    check(l2cap_mps(asked, sizeof table, answer, sizeof answer, 0) == 0 && number(0) == 60, "our MPS");
-    check(l2cap_peer_mps(asked, sizeof table, answer, sizeof answer, 0) == 0 && number(0) == 23, "the peer's MPS");
+    check(l2cap_signal(LENT, IN(room), IN(signal), 1, 1, 1, IN(request)) == 0, "a connect request");
+    check(is(L2CAP_ANSWER_DONE) && l2cap_answer_written(answer) == 0, "nothing is written yet");
+    check(l2cap_signal_rest(IN(request)) == 0, "one signal in the PDU");
+    check(l2cap_next_pending(LENT, 1, 1) == 0 && is(L2CAP_ANSWER_AT) && l2cap_answer_slot(answer) == 0, "slot 0 pends");
+    check(l2cap_accept_pending(LENT, IN(signal), 0, L2CAP_DEFAULT, L2CAP_DEFAULT, L2CAP_EVERY, 1, L2CAP_DEFAULT) == 0, "accept");
+    check(is(L2CAP_ANSWER_LINK) && l2cap_answer_link(answer) == 1, "the response goes out on link 1");
+    check(wrote(signal, IN(response)), "the response");
+    check(asked(l2cap_spsm, 128) && asked(l2cap_mtu, 58) && asked(l2cap_mps, 60), "our numbers");
+    check(asked(l2cap_peer_mtu, 100) && asked(l2cap_peer_mps, 23), "the peer's");
 
-    check(l2cap_dispatch(table, sizeof table, answer, sizeof answer, room, sizeof room, 1, 0x40, frame, sizeof frame) == 0, "a frame");
-    check(l2cap_attention(asked, sizeof table, answer, sizeof answer) == 0 && answer[0] == 8 && number(0) == 1 && number(1) == 1 && number(2) == 0, "slot 0 calls");
-    check(l2cap_receive(table, sizeof table, answer, sizeof answer, room, sizeof room, signal, sizeof signal, job, sizeof job, 0) == 0 && answer[0] == 7, "take");
-    check(number(0) == 1 && number(1) == 3 && number(2) == 3 && !memcmp(job, frame + 2, 3), "the job");
-    check(zeros(room, sizeof room), "a take leaves nothing");
-    check(l2cap_send(table, sizeof table, answer, sizeof answer, out, sizeof out, 0, job, 3) == 0 && answer[0] == 6 && number(1) == 1, "send");
-    check(written() == 9 && !memcmp(out, sent, 9), "the frame that is sent");
-    check(l2cap_send(table, sizeof table, answer, sizeof answer, out, 8, 0, job, 3) == 3, "a short output is refusal 3");
+    check(l2cap_dispatch(LENT, IN(room), 1, L2CAP_CID_BASE, IN(frame)) == 0, "a frame");
+    check(l2cap_attention(LENT) == 0 && is(L2CAP_ANSWER_ATTENTION), "attention");
+    check(l2cap_answer_attention_set(answer) == 1 && l2cap_answer_attention_count(answer) == 1 && l2cap_answer_attention_lowest(answer) == 0, "slot 0 calls");
+    check(l2cap_receive(LENT, IN(room), IN(signal), job, 2, 0) == 0 && is(L2CAP_ANSWER_JOB), "take");
+    check(l2cap_answer_link(answer) == 1 && l2cap_answer_job_copied(answer) == 2 && l2cap_answer_job_length(answer) == 3, "two octets of the three");
+    check(!memcmp(job, frame + 2, 2) && wrote(signal, IN(grant)), "the job, and the phone's credit");
+    check(zeros(IN(room)), "a take leaves nothing");
+    check(l2cap_attention(LENT) == 0 && l2cap_answer_attention_count(answer) == 0 && l2cap_answer_attention_lowest(answer) == N, "nobody calls");
+    check(l2cap_send(LENT, IN(out), 0, frame + 2, 3) == 0 && is(L2CAP_ANSWER_FRAMES), "send");
+    check(l2cap_answer_link(answer) == 1 && l2cap_answer_frame_count(answer) == 1 && wrote(out, IN(sent)), "the frame that is sent");
+    check(refused(l2cap_send(LENT, out, 8, 0, frame + 2, 3), L2CAP_NO_ROOM), "a short output is refusal 3");
+}
 
+/* Refusals that leave everything as it was. */
+static void nothing_changes(void) {
+    uint8_t before[L2CAP_TABLE_OCTETS];
     memcpy(before, table, sizeof table);
-    check(l2cap_reject_pending(table, sizeof table, answer, sizeof answer, room, sizeof room, signal, sizeof signal, 0, 3) == 15, "3 is no result code: refusal 15");
-    check(l2cap_create(table, sizeof table, answer, sizeof answer, signal, 17, 1, 128, 65536, 65536, 0, 1, 65536) == 3, "a short signal buffer is refusal 3");
-    check(l2cap_disconnect(table, sizeof table, answer, sizeof answer, room, sizeof room - 1, 0) == 2, "a short room is refusal 2");
-    check(l2cap_mtu(table, sizeof table, answer, sizeof answer, N) == 6, "slot 2 of 2 is refusal 6");
-    check(l2cap_disconnected(table, sizeof table - 1, answer, sizeof answer, room, sizeof room, 1) == 1, "a short table is refusal 1");
+    check(refused(l2cap_reject_pending(LENT, IN(room), IN(signal), 0, 3), L2CAP_DECODE), "3 is no result code: refusal 15");
+    check(refused(l2cap_create(LENT, signal, 17, 1, 128, L2CAP_DEFAULT, L2CAP_DEFAULT, L2CAP_EVERY, 1, L2CAP_DEFAULT), L2CAP_NO_ROOM), "a short signal buffer is refusal 3");
+    check(refused(l2cap_disconnect(LENT, room, sizeof room - 1, 0), L2CAP_BAD_ROOM), "a short room is refusal 2");
+    check(refused(l2cap_mtu(LENT, N), L2CAP_BAD_SLOT), "slot 2 of 2 is refusal 6");
+    check(refused(l2cap_disconnected(table, sizeof table - 1, answer, sizeof answer, IN(room), 1), L2CAP_BAD_TABLE), "a short table is refusal 1");
     check(!memcmp(before, table, sizeof table), "and nothing has changed");
 
-    table[6] = 1;
-    memcpy(before, table, sizeof table);
-    check(l2cap_disconnected(table, sizeof table, answer, sizeof answer, room, sizeof room, 1) == 1 && answer[1] == 1, "a forged table is refusal 1");
+    table[6] = before[6] = 1;
+    check(refused(l2cap_disconnected(LENT, IN(room), 1), L2CAP_BAD_TABLE), "a forged table is refusal 1");
     check(!memcmp(before, table, sizeof table), "and stays as it is");
     table[6] = 0;
+}
 
-    check(l2cap_disconnected(table, sizeof table, answer, 1, room, sizeof room, 1) == 0, "link down, with an answer of one octet");
-    check(l2cap_mtu(table, sizeof table, answer, sizeof answer, 0) == 0 && number(0) == 0, "the slot is free");
+/* Memories of no octets are null pointers. */
+static void nothing_lent(void) {
+    check(refused(l2cap_attention(NONE, answer, sizeof answer), L2CAP_BAD_TABLE), "no table is refusal 1");
+    check(l2cap_mtu(table, sizeof table, NONE, 0) == 0, "a question without an answer");
+    check(refused(l2cap_dispatch(LENT, NONE, 1, L2CAP_CID_BASE, NONE), L2CAP_BAD_ROOM), "no room is refusal 2");
+    check(refused(l2cap_next_disconnect(LENT, IN(room), NONE), L2CAP_NO_ROOM), "no signal buffer is refusal 3");
+    check(l2cap_signal(LENT, IN(room), IN(signal), 1, 1, 0, NONE) == 0 && is(L2CAP_ANSWER_DONE) && l2cap_signal_rest(NONE) == 0, "an empty PDU does nothing");
+    check(l2cap_send(LENT, IN(out), 0, NONE) == 0 && l2cap_answer_frame_count(answer) == 1 && l2cap_answer_written(answer) == 6, "a job of no octets is one frame");
+    check(l2cap_dispatch(LENT, IN(room), 1, L2CAP_CID_BASE, out + 4, 2) == 0, "and comes in as one");
+    check(l2cap_receive(LENT, IN(room), IN(signal), NONE, 0) == 0 && is(L2CAP_ANSWER_JOB) && l2cap_answer_job_length(answer) == 0, "and is taken");
+    check(refused(l2cap_dispatch(LENT, IN(room), 1, L2CAP_CID_BASE, NONE), L2CAP_SHORT_FRAME), "an empty frame is refusal 19");
+}
 
+/* The ends of the phone's channel, which is disconnecting. */
+static void an_end(void) {
+    static const uint8_t request[] = {8, 0, 5, 0, 6, 3, 4, 0, 0x50, 0, 0x40, 0};
+    check(l2cap_next_disconnect(LENT, IN(room), IN(signal)) == 0 && is(L2CAP_ANSWER_DUE), "a disconnect is due");
+    check(l2cap_answer_link(answer) == 1 && l2cap_answer_slot(answer) == 0 && wrote(signal, IN(request)), "its request");
+    check(l2cap_disconnected(table, sizeof table, answer, 1, IN(room), 1) == 0, "link down, with an answer of one octet");
+    check(l2cap_mtu(LENT, 0) == 0 && l2cap_answer_value(answer) == 0, "the slot is free");
+    check(l2cap_create(LENT, IN(signal), 2, 128, 58, 60, L2CAP_MIN_THRESHOLD, 1, 1) == 0 && is(L2CAP_ANSWER_AT) && l2cap_answer_slot(answer) == 1, "but held: a create gets slot 1");
+    check(l2cap_dec_ref(LENT, IN(room), 0) == 0, "released");
+    check(l2cap_create(LENT, IN(signal), 3, 128, 58, 60, L2CAP_MIN_THRESHOLD, 1, 1) == 0 && l2cap_answer_slot(answer) == 0, "and used again");
+}
+
+/* Two attempts of our own, on links 2 and 3: one opens, one is refused; and a central is asked for other parameters. */
+static void our_own(void) {
+    static const uint8_t opens[] = {0x15, 4, 10, 0, 0x60, 0, 100, 0, 23, 0, 5, 0, 0, 0};
+    static const uint8_t refuses[] = {0x15, 5, 10, 0, 0, 0, 0, 0, 0, 0, 0, 0, 4, 0};
+    static const uint8_t wish[] = {0x12, 9, 8, 0, 6, 0, 12, 0, 3, 0, 200, 0};
+    static const uint8_t unknown[] = {0x30, 9, 0, 0};
+    static const uint8_t reject[] = {6, 0, 5, 0, 1, 9, 2, 0, 0, 0};
+
+    check(l2cap_opened(LENT, IN(room), 1, 2, 1) == 0 && is(L2CAP_ANSWER_DONE), "no answer yet");
+    check(l2cap_signal(LENT, IN(room), IN(signal), 2, 0, 0, IN(opens)) == 0, "the peer opens");
+    check(l2cap_opened(LENT, IN(room), 1, 2, 1) == 0 && is(L2CAP_ANSWER_OPENED), "opened");
+    check(refused(l2cap_signal(LENT, IN(room), IN(signal), 3, 0, 0, IN(refuses)), L2CAP_CONNECT_ERROR), "the peer refuses");
+    check(l2cap_answer_result(answer) == L2CAP_RESULT_NO_RESOURCES, "with result 4");
+    check(refused(l2cap_opened(LENT, IN(room), 0, 3, 1), L2CAP_CONNECT_ERROR) && l2cap_answer_result(answer) == L2CAP_RESULT_NO_RESOURCES, "the attempt failed with it");
+    check(refused(l2cap_opened(LENT, IN(room), 0, 3, 1), L2CAP_DISCONNECTED), "and its slot is free");
+
+    check(l2cap_signal(LENT, IN(room), IN(signal), 2, 0, 1, IN(wish)) == 0 && is(L2CAP_ANSWER_EVENT), "the peer wishes other parameters");
+    check(l2cap_answer_interval_min(answer) == 6 && l2cap_answer_interval_max(answer) == 12 && l2cap_answer_latency(answer) == 3 && l2cap_answer_timeout(answer) == 200, "its wish");
+    check(refused(l2cap_signal(LENT, IN(room), IN(signal), 2, 0, 1, IN(unknown)), L2CAP_NOT_SUPPORTED) && wrote(signal, IN(reject)), "an unknown signal is refusal 16, and a reject goes back");
+}
+
+/* The octets of an answer, each number above what one octet holds. */
+static void readers(void) {
+    static const uint8_t octets[L2CAP_ANSWER_OCTETS] = {L2CAP_ANSWER_DUE, 2, 0x01, 0x02, 0x03, 0x84, 0x11, 0x12, 0x13, 0x14, 0x15, 0x16, 0x17, 0x98, 0, 0};
+    check(l2cap_answer_written(octets) == 0x84030201, "four octets of what was written");
+    check(l2cap_answer_number(octets, 0) == 0x1211 && l2cap_answer_number(octets, 3) == 0x9817, "numbers of two octets");
+    check(l2cap_answer_attention_set(octets) == 0x1211, "a set of sixteen slots");
+    check(l2cap_answer_slot(octets) == 0x13, "a slot behind its link");
+}
+
+int main(void) {
+    a_phone();
+    nothing_changes();
+    nothing_lent();
+    an_end();
+    our_own();
+    readers();
     printf("%d passed, %d failed\n", passed, failed);
     return failed != 0;
 }

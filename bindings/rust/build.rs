@@ -1,17 +1,58 @@
-//! Links the archive of the proved entries: the file that L2CAP_CHANNELS_ARCHIVE names, or the one that `rt staticlib entries` writes.
+//! Links the archive of the proved entries: the file that L2CAP_CHANNELS_ARCHIVE names, or the one that `rt staticlib entries` writes. What is wrong with it is
+//! one sentence, and not the linker's.
 
-use std::env;
-use std::path::PathBuf;
+#[path = "build/archive.rs"]
+mod archive;
+
+use archive::{judge, judge_target, Machine, Target, HOW};
+use std::path::{Path, PathBuf};
+use std::{env, fs};
+
+/// The file, and who says so. Cargo runs this in the package's folder: a relative path is looked for from the folder in which cargo was called first, then from here.
+fn looked_for() -> (PathBuf, &'static str) {
+    println!("cargo::rerun-if-env-changed=L2CAP_CHANNELS_ARCHIVE");
+    let package = Path::new(env!("CARGO_MANIFEST_DIR"));
+    let Some(named) = env::var_os("L2CAP_CHANNELS_ARCHIVE").map(PathBuf::from) else {
+        let root = package.ancestors().nth(2).unwrap_or(package);
+        return (root.join("target/staticlib/libentries.a"), "where `rt staticlib entries` writes it");
+    };
+    let by = "which L2CAP_CHANNELS_ARCHIVE names";
+    if named.is_absolute() {
+        return (named, by);
+    }
+    println!("cargo::rerun-if-env-changed=PWD");
+    let called_in = env::var_os("PWD").map(|folder| Path::new(&folder).join(&named));
+    match called_in {
+        Some(file) if file.is_file() || !package.join(&named).is_file() => (file, by),
+        _ => (package.join(named), by),
+    }
+}
+
+fn link() -> Result<(), String> {
+    let told = |name: &str| env::var(name).unwrap_or_default();
+    let (arch, pointer_width) = (told("CARGO_CFG_TARGET_ARCH"), told("CARGO_CFG_TARGET_POINTER_WIDTH"));
+    let target = Target { arch: &arch, pointer_width: &pointer_width };
+    judge_target(&target)?;
+    let (file, by) = looked_for();
+    let name = file.display().to_string();
+    println!("cargo::rerun-if-changed={name}");
+    let octets = fs::read(&file).map_err(|error| format!("no archive can be read from {name}, {by} ({error}); {HOW}"))?;
+    if judge(&name, &octets, &target)? == Machine::Unknown {
+        println!("cargo::warning=whether {name} is for {arch} can't be told: its first object is no ELF file");
+    }
+    // rustc wants a name of its own form: the archive is linked from a copy, whatever it is called.
+    let copies = PathBuf::from(told("OUT_DIR"));
+    fs::write(copies.join("libl2cap_channels.a"), octets)
+        .map_err(|error| format!("{name} can't be copied to {} ({error})", copies.display()))?;
+    println!("cargo::rustc-link-search=native={}", copies.display());
+    println!("cargo::rustc-link-lib=static=l2cap_channels");
+    Ok(())
+}
 
 fn main() {
-    println!("cargo:rerun-if-env-changed=L2CAP_CHANNELS_ARCHIVE");
-    let archive = match env::var_os("L2CAP_CHANNELS_ARCHIVE") {
-        Some(file) => PathBuf::from(file),
-        None => PathBuf::from(env!("CARGO_MANIFEST_DIR")).join("../../target/staticlib/libentries.a"),
-    };
-    println!("cargo:rerun-if-changed={}", archive.display());
-    let folder = archive.parent().map(|folder| folder.display().to_string()).unwrap_or_default();
-    let stem = archive.file_stem().map(|stem| stem.to_string_lossy().into_owned()).unwrap_or_default();
-    println!("cargo:rustc-link-search=native={folder}");
-    println!("cargo:rustc-link-lib=static={}", stem.strip_prefix("lib").unwrap_or(&stem));
+    println!("cargo::rerun-if-changed=build/archive.rs");
+    println!("cargo::rerun-if-changed=build.rs");
+    if let Err(sentence) = link() {
+        println!("cargo::error={sentence}");
+    }
 }

@@ -1,5 +1,6 @@
-//! The entries are declared twice, for C and for Rust: the two must say the same.
+//! The entries and the numbers with names are declared twice, for C and for Rust: the two must say the same.
 
+use l2cap_channels::{LeCreditConnResultCode, Refusal, CID_BASE, SIGNAL_OCTETS, TABLE_OCTETS};
 use std::collections::BTreeMap;
 use std::path::Path;
 
@@ -26,11 +27,9 @@ fn in_rust(c: &str) -> String {
 fn header() -> Entries {
     let text = read("../c/l2cap_channels.h");
     let mut entries = Entries::new();
-    for declaration in text.split(';').filter_map(|piece| piece.rsplit("*/").next()) {
-        let (start, parameters) = match declaration.trim().strip_suffix(')').and_then(|line| line.split_once('(')) {
-            Some(parts) => parts,
-            None => continue,
-        };
+    // An entry is declared in one line; what the header defines itself is `static`.
+    for declaration in text.lines().filter(|line| ["uint32_t l2cap_", "size_t l2cap_"].iter().any(|start| line.starts_with(start))) {
+        let (start, parameters) = declaration.strip_suffix(");").and_then(|line| line.split_once('(')).expect(declaration);
         let (result, name) = start.rsplit_once(' ').expect("a result and a name");
         let of = |parameter: &str| parameter.trim().trim_end_matches(|c: char| c.is_ascii_alphanumeric() || c == '_').trim().to_owned();
         let given = parameters.split(',').filter(|parameter| parameter.trim() != "void");
@@ -76,4 +75,107 @@ fn both_declare_the_same() {
     let (c, rust) = (header(), wrapper());
     assert!(!c.is_empty());
     assert_eq!(c, rust);
+}
+
+/// A name of the crate as C writes it: `BadTable` is `BAD_TABLE`.
+fn in_c(prefix: &str, name: &str) -> String {
+    let mut c = prefix.to_owned();
+    for letter in name.chars().take_while(|letter| letter.is_ascii_alphanumeric()) {
+        if letter.is_ascii_uppercase() {
+            c.push('_');
+        }
+        c.push(letter.to_ascii_uppercase());
+    }
+    c
+}
+
+/// The names and numbers of an enum of the header.
+fn named(name: &str) -> BTreeMap<String, u16> {
+    let text = read("../c/l2cap_channels.h");
+    let body = text.split(&format!("\nenum {name} {{\n")).nth(1).and_then(|rest| rest.split("\n};").next()).expect(name);
+    body.lines()
+        .map(|line| {
+            let (name, rest) = line.trim().split_once(" = ").expect(line);
+            (name.to_owned(), rest.split([',', ' ']).next().and_then(|number| number.parse().ok()).expect(line))
+        })
+        .collect()
+}
+
+#[test]
+fn refusals_have_the_same_names_and_numbers() {
+    use Refusal::*;
+    let refusals = [
+        BadTable,
+        BadRoom,
+        NoRoom,
+        BadHandle,
+        BadSpsm,
+        BadSlot,
+        InvalidChannelId,
+        NotFound,
+        InvalidValue,
+        OutOfMemory,
+        ChannelClosed,
+        InsufficientSpace,
+        NoChannelAvailable,
+        Busy,
+        Decode,
+        NotSupported,
+        ConnectError(LeCreditConnResultCode::NoResources),
+        Disconnected,
+        ShortFrame,
+        BadMps,
+        QueueFull,
+        Held,
+        TooLong,
+    ];
+    let rust = refusals.iter().map(|refusal| (in_c("L2CAP", &format!("{refusal:?}")), refusal.number().into())).collect();
+    assert_eq!(named("l2cap_refusal"), rust);
+}
+
+#[test]
+fn results_have_the_same_names_and_numbers() {
+    let rust = (0..100)
+        .filter_map(|number| LeCreditConnResultCode::from_number(number).map(|code| (in_c("L2CAP_RESULT", &format!("{code:?}")), number)))
+        .collect();
+    assert_eq!(named("l2cap_result"), rust);
+}
+
+#[test]
+fn sizes_are_the_same() {
+    let text = read("../c/l2cap_channels.h");
+    let define = |name: &str| {
+        let value = text.split(&format!("#define {name} ")).nth(1).and_then(|rest| rest.split('\n').next()).expect(name);
+        value.strip_prefix("0x").map_or_else(|| value.parse(), |hex| usize::from_str_radix(hex, 16)).expect(value)
+    };
+    assert_eq!(define("L2CAP_TABLE_OCTETS"), TABLE_OCTETS);
+    assert_eq!(define("L2CAP_SIGNAL_OCTETS"), SIGNAL_OCTETS);
+    assert_eq!(define("L2CAP_CID_BASE"), usize::from(CID_BASE));
+}
+
+/// The refusals of each entry, in order, as its comment has them.
+fn refusals_in_the_header() -> BTreeMap<String, String> {
+    let text = read("../c/l2cap_channels.h");
+    let mut refusals = BTreeMap::new();
+    let mut listed = None;
+    for line in text.lines() {
+        if let Some(list) = line.strip_prefix(" * Refusals: ").and_then(|rest| rest.split('.').next()) {
+            listed = Some(list.to_owned());
+        } else if let Some(name) = line.strip_prefix("uint32_t l2cap_").and_then(|rest| rest.split('(').next()) {
+            refusals.extend(listed.take().map(|list| (name.to_owned(), list)));
+        }
+    }
+    refusals
+}
+
+#[test]
+fn refusals_stand_in_the_order_of_their_page() {
+    let page = read("../../docs/REFUSALS.md");
+    let calls = page.split("\n## The calls\n").nth(1).and_then(|rest| rest.split("\n## ").next()).expect("the calls");
+    let rows = calls.lines().filter_map(|row| row.strip_prefix("| `"));
+    let of = |row: &str| {
+        let cells: Vec<&str> = row.split(" | ").collect();
+        (cells[0].trim_end_matches('`').to_owned(), cells[2].to_owned())
+    };
+    assert_eq!(refusals_in_the_header(), rows.map(of).collect());
 }

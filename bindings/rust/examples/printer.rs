@@ -24,6 +24,8 @@ const ASKED: L2capChannelConfig =
 
 /// The CID of the signalling channel.
 const SIGNALLING: Cid = Cid(5);
+/// The longest PDU of signals that is looked at. Feeding one costs time by the square of its signals, so that a phone mustn't choose its length.
+const SIGNALS: usize = PACKET as usize - 4;
 
 /// Where things go that leave the printer's loop.
 pub trait Out {
@@ -37,7 +39,8 @@ pub trait Out {
 /// Why a packet came to less than it asked for. What was due is done nevertheless.
 #[derive(Clone, Copy, Debug, PartialEq, Eq)]
 pub enum Fault {
-    /// It has fewer or more octets than its header says. Where it was a frame of an open channel, that channel is closed: its job can't be whole.
+    /// It has fewer or more octets than its header says, or more signals than fit in a packet of ours. Where it was a frame of an open channel, that
+    /// channel is closed: its job can't be whole.
     Length,
     /// Its CID is another protocol's: ATT has 4, the security manager 6.
     Foreign,
@@ -68,8 +71,8 @@ impl<'r> Printer<'r> {
     /// One whole L2CAP packet that came on a link: its length, its CID, its payload.
     pub fn packet(&mut self, link: ConnHandle, packet: &[u8], out: &mut impl Out) -> Result<(), Fault> {
         let came = match parts(packet) {
-            Some((SIGNALLING, Some(pdu))) => self.signals(link, pdu, out),
-            Some((SIGNALLING, None)) | None => Err(Fault::Length),
+            Some((SIGNALLING, Some(pdu))) if pdu.len() <= SIGNALS => self.signals(link, pdu, out),
+            Some((SIGNALLING, _)) | None => Err(Fault::Length),
             Some((cid, _)) if cid.0 < CID_BASE => Err(Fault::Foreign),
             Some((cid, Some(payload))) => self.frame(link, cid, payload),
             Some((cid, None)) => self.broken(link, cid),
@@ -252,10 +255,11 @@ pub fn main() {
     assert_eq!(desk.codes(ben), [RESPONSE, DISCONNECT_REQUEST]);
     assert_eq!(printer.packet(ben, &packet(5, &[0x07, 2, 4, 0, 0x50, 0, 0x41, 0]), &mut desk), Ok(()));
 
-    // Packets that are too long, too short for a header, another protocol's or nobody's change nothing.
+    // Packets that are too long, too short for a header, full of signals, another protocol's or nobody's change nothing.
     let long = [connect(), vec![0]].concat();
     assert_eq!(printer.packet(ben, &long, &mut desk), Err(Fault::Length));
     assert_eq!(printer.packet(ben, &connect()[..3], &mut desk), Err(Fault::Length));
+    assert_eq!(printer.packet(ben, &packet(5, &connect()[4..].repeat(5)), &mut desk), Err(Fault::Length));
     assert_eq!(printer.packet(ben, &packet(4, &[1]), &mut desk), Err(Fault::Foreign));
     assert_eq!(printer.packet(ben, &packet(0x60, &[1]), &mut desk), Err(Fault::Refused(Refusal::InvalidChannelId)));
 

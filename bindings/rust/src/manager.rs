@@ -99,6 +99,9 @@ impl<'r> ChannelManager<'r> {
 
     /// Handles every signal of a PDU. `each` gets what each came to and its reply, which is empty where nothing goes back.
     ///
+    /// Each signal's call checks every header of what is left, so that the time grows with the square of the signals: a PDU of 65,532 octets can hold
+    /// the caller for half a second. Drop one longer than 23 octets, which hold each signal that Core has for LE, or at most take what fits in one of your packets.
+    ///
     /// Refusals: of each signal those of [`signal`](Self::signal), but for 3.
     pub fn feed_pdu<F>(&mut self, handle: ConnHandle, listening: bool, role: LeConnRole, pdu: &[u8], mut each: F)
     where

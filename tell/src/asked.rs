@@ -58,7 +58,7 @@ pub fn asked(call: &Call, before: &Seen) -> String {
 fn said(pdu: &[u8], before: &Seen) -> String {
     match signals(pdu) {
         Some(parts) => parts.first().map_or("a PDU of no signals".to_string(), |first| signal(first, Writer::Phone, before)),
-        None => format!("{} that end in the middle of a signal", count(pdu.len(), "octet")),
+        None => format!("a PDU of {}, cut off in the middle of a signal", count(pdu.len(), "octet")),
     }
 }
 

@@ -14,9 +14,10 @@ impl<W: Write> Page<W> {
         Self(out)
     }
 
-    /// A line as it stands in the script.
+    /// A line as it stands in the script, tabs too.
     pub fn plain(&mut self, line: &str) -> io::Result<()> {
-        writeln!(self.0, "{line}")
+        let text: String = line.chars().flat_map(|c| if c == '\t' { vec![c] } else { shown(c) }).collect();
+        writeln!(self.0, "{text}")
     }
 
     /// A line of the script that is played. A long one is cut: what it says is told below.
@@ -102,7 +103,8 @@ mod tests {
         let mut page = Page::new(Vec::new());
         page.line(12345, &"é".repeat(95)).unwrap();
         page.line(1, "\u{1b}x").unwrap();
-        let expected = format!("12345  {} …\n   1  \\u{{1b}}x\n", "é".repeat(92));
+        page.plain("#\t\u{1b}y").unwrap();
+        let expected = format!("12345  {} …\n   1  \\u{{1b}}x\n#\t\\u{{1b}}y\n", "é".repeat(92));
         assert_eq!(String::from_utf8(page.0).unwrap(), expected);
     }
 }

@@ -33,7 +33,10 @@ pub fn signal(octets: &[u8], writer: Writer, seen: &Seen) -> String {
     let says = if fits { fields_in_words(*code, &fields, writer, seen) } else { None };
     match says {
         Some(says) => format!("{name} {identifier}{says}"),
-        None => format!("{name} {identifier} with {} in its body, where {length} belong", count(body.len(), "octet")),
+        None => {
+            let least = if *code == 0x01 { "at least " } else { "" };
+            format!("{name} {identifier} with {} in its body, where {least}{length} belong", count(body.len(), "octet"))
+        }
     }
 }
 
@@ -121,7 +124,7 @@ mod tests {
             ("15030a0000000000000000000400", "connect response 3: refused, result 4 NoResources"),
             ("1610040050000a00", "credit signal 16: 10 credits for us, its CID 80"),
             ("99010000", "signal 1 of code 153, which is unknown here"),
-            ("0105010000", "reject 5 with 1 octet in its body, where 2 belong"),
+            ("0105010000", "reject 5 with 1 octet in its body, where at least 2 belong"),
             ("1609050050000100ff", "credit signal 9 with 5 octets in its body, where 4 belong"),
             ("0105", "2 octets, too few for a signal"),
         ] {

@@ -297,7 +297,7 @@ fn tables_come_and_go() {
 fn lines_that_cannot_be_read_say_why() {
     let (text, all_read) = told("q\nQ\n", "answer octets\n? -\n1 -\n0 - 0 0 0 1\n").expect("rows that fit");
     assert!(!all_read);
-    assert!(text.starts_with("   1  q\n      answer   ? cannot be read: no call has the letter `q`\n   2  Q\n"), "{text}");
+    assert!(text.starts_with("   1  q\n      answer   ? cannot be read: `q` is no call\n   2  Q\n"), "{text}");
 }
 
 #[test]

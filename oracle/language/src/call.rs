@@ -438,7 +438,7 @@ mod tests {
         for (line, why) in [
             ("", "no letter stands at the start of the line"),
             (" T 2 1 64", "no letter stands at the start of the line"),
-            ("q", "no call has the letter `q`"),
+            ("q", "`q` is no call"),
             ("T 2 1", "the word `m` is missing: a number of 1 to 5 digits, at most 65535"),
             ("T 2 1 64 ", "a space stands at the end of the line, or two together"),
             ("T  2 1 64", "the word `n` is empty: one space stands between words"),

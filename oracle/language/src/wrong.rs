@@ -30,7 +30,7 @@ impl fmt::Display for Wrong {
     fn fmt(&self, f: &mut fmt::Formatter<'_>) -> fmt::Result {
         match self {
             Wrong::Letter(letter) if letter.is_empty() => write!(f, "no letter stands at the start of the line"),
-            Wrong::Letter(letter) => write!(f, "no call has the letter `{}`", shown(letter)),
+            Wrong::Letter(letter) => write!(f, "`{}` is no call", shown(letter)),
             Wrong::Missing { name, may } => write!(f, "the word `{name}` is missing: {may}"),
             Wrong::Word { name, word, .. } if word.is_empty() => {
                 write!(f, "the word `{name}` is empty: one space stands between words")

@@ -102,14 +102,14 @@ fn jobs_both_ways() {
                 let cid = Cid(u16::from_le_bytes([frame[2], frame[3]]));
                 receiver.dispatch(to, cid, &frame[4..]).unwrap();
             }
-            assert_eq!(receiver.attention(), Ok(Attention { set: 1, count: 1, lowest: Some(SLOT) }));
+            assert_eq!(receiver.attention(), Ok(Attention { set: Slots::from_bits(1), count: 1, lowest: Some(SLOT) }));
             let taken = receiver.receive(SLOT, &mut job, &mut reply).unwrap().unwrap();
             assert_eq!((taken.handle, taken.sdu, usize::from(taken.len)), (to, &sdu[..], length));
             // The credits go back to the sender.
             let got = sender.signal(from, true, LeConnRole::Central, &taken.credits[4..], &mut signal);
             assert_eq!(got.outcome, Ok(None));
             assert_eq!(slot(sender, SLOT).peer_credits, 8);
-            assert_eq!(receiver.attention(), Ok(Attention { set: 0, count: 0, lowest: None }));
+            assert_eq!(receiver.attention(), Ok(Attention { set: Slots::from_bits(0), count: 0, lowest: None }));
             assert_eq!(receiver.receive(SLOT, &mut job, &mut reply), Ok(None));
             assert!(receiver.room().iter().all(|octet| *octet == 0));
         }
@@ -117,15 +117,15 @@ fn jobs_both_ways() {
 
     // The phone ends it: request, response, and both slots are free once the printer's hold is back too.
     phone.dec_ref(phones).unwrap();
-    assert_eq!(phone.attention(), Ok(Attention { set: 1, count: 1, lowest: Some(SLOT) }));
+    assert_eq!(phone.attention(), Ok(Attention { set: Slots::from_bits(1), count: 1, lowest: Some(SLOT) }));
     let due = phone.next_disconnect(&mut signal).unwrap().unwrap();
     assert_eq!(printer.signal(OTHER, true, LeConnRole::Central, &due.octets[4..], &mut reply).outcome, Ok(None));
     let due = printer.next_disconnect(&mut reply).unwrap().unwrap();
     assert_eq!(phone.signal(PHONE, true, LeConnRole::Central, &due.octets[4..], &mut signal).outcome, Ok(None));
     assert!(is_free(&slot(&phone, SLOT)) && is_free(&slot(&printer, SLOT)));
-    assert_eq!((phone.table().held(), printer.table().held()), (0, 1));
+    assert_eq!((phone.table().held().bits(), printer.table().held().bits()), (0, 1));
     printer.dec_ref(printers).unwrap();
-    assert_eq!(printer.table().held(), 0);
+    assert!(printer.table().held().is_empty());
     assert_eq!(phone.next_disconnect(&mut signal), Ok(None));
 }
 

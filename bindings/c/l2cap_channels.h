@@ -182,8 +182,8 @@ uint32_t l2cap_make(uint8_t *table, size_t table_len, uint8_t *answer, size_t an
 
 /* Whoever makes a table calls l2cap_version_1 before it: so no program that makes one links with an archive of another version, and the linker's message names the entry. One that only takes up a table which another program
  * made isn't held to it. It is a function behind the entry's name, and not a pointer that each file would hold, because linkers for firmware drop data that nobody reads. It takes one empty call.
- * It is a macro, and so asks two things: no struct member or variable of yours is called l2cap_make in a file behind this include; and a stand-in for tests defines the entry itself in a file that undefines the macro, or doesn't
- * include this header, and defines l2cap_version_1 too. */
+ * It is a macro, and so asks two things: a struct with a member of that name is declared behind this include, and not before it; and a stand-in for the entry, in tests, is defined before the include or behind an #undef, with an
+ * l2cap_version_1 beside it. */
 static inline uint32_t l2cap_make_of_this_version(uint8_t *table, size_t table_len, uint8_t *answer, size_t answer_len, uint8_t *room, size_t room_len, uint16_t n, uint16_t d, uint16_t m) {
     (void)l2cap_version_1();
     return l2cap_make(table, table_len, answer, answer_len, room, room_len, n, d, m);

@@ -66,6 +66,37 @@ fn it_gets_none_where_holds_are_kept() {
     assert_eq!(slot(&channels, kept[9]).state, ChannelState::PeerConnecting(7));
 }
 
+/// A phone on one link takes all slots and never answers our requests. Once its time is over `opened` closes each slot; one that is held is free when its hold
+/// is back.
+#[test]
+fn a_phone_that_never_answers() {
+    let mut room = [0; ALL_ROOM];
+    let mut channels = sixteen(&mut room);
+    let config = L2capChannelConfig::default();
+    let mut signal = [0; SIGNAL_OCTETS];
+    let slots: Vec<ChannelIndex> = (0..ALL).map(|k| open(&mut channels, PHONE, &request(0x50 + k, 100, 23, 5), &config)).collect();
+    for index in &slots {
+        match index.0 % 2 {
+            0 => channels.dec_ref(Hold::of(*index)).unwrap(),
+            _ => channels.disconnect(*index).unwrap(),
+        }
+        assert_eq!(channels.next_disconnect(&mut signal).unwrap().unwrap().index, *index);
+        // The request is written once.
+        assert_eq!(channels.next_disconnect(&mut signal), Ok(None));
+    }
+    assert_eq!((channels.table().held().bits(), ask(&mut channels).len()), (0, 36));
+    for index in &slots {
+        assert_eq!(channels.opened(*index, PHONE, true), Err(Refusal::Disconnected));
+        assert!(is_free(&slot(&channels, *index)));
+    }
+    assert_eq!(channels.table().held().bits(), 0xAAAA);
+    for index in channels.table().held() {
+        channels.dec_ref(Hold::of(index)).unwrap();
+    }
+    assert!(channels.table().held().is_empty());
+    assert_eq!(ask(&mut channels), "");
+}
+
 /// The set has slots that are closed and held: an open one isn't in it, nor a free one, nor one behind the table's end.
 #[test]
 fn held() {

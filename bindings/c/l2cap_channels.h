@@ -4,6 +4,10 @@
  * (enum l2cap_refusal). No call keeps a pointer, allocates, waits, or reads or writes past a length; the archive has no data of its own. Two tables are two managers. Calls on one
  * table must not run at the same time, unless all of them are questions.
  *
+ * The machine. x86-64, the System V ABI, C99 or C++11 at least. The archive needs memcpy and memset, a C library's or yours, and nothing else; SSE2 and its registers xmm0 to xmm8, for no floating-point number, so that a
+ * kernel or an interrupt handler that calls it saves them; a stack aligned to 16 octets, as the ABI has it, of some 7 KiB; and the 128 octets below the stack pointer (the red zone): what interrupts a call on its own stack leaves them alone.
+ * docs/PERFORMANCE.md has the figures, and a command for a firmware without a C library.
+ *
  * table   L2CAP_TABLE_OCTETS octets, written by l2cap_make. Octets that spell no table, and another length, are refusal 1 in every call, and stay as they are.
  * answer  L2CAP_ANSWER_OCTETS octets, written by every call, refused or not; a shorter buffer gets as many as it has. The l2cap_answer_ functions below read it.
  *           0       its kind (enum l2cap_answer)
@@ -26,10 +30,11 @@
  * Holds. A slot whose channel has ended is used again once nobody holds it. l2cap_next_pending takes a hold on the slot that it gives, l2cap_opened on the channel that it finds open; l2cap_inc_ref takes one more.
  * Whoever got a hold gives it back by l2cap_dec_ref, when it has no more use for the channel, and also after the channel has ended: a peer's disconnect and l2cap_disconnected leave holds as they are. Only l2cap_reject_pending and
  * l2cap_drop_pending give one back by themselves. 16 phones that come and go without l2cap_dec_ref leave no slot for the 17th.
+ * A phone that never answers our disconnect request keeps its slot too, while its link is up: see l2cap_disconnect.
  *
  * Credits. The peer gets new credits when a job of its is taken (l2cap_receive), and at no other time. So a job that needs more frames than the peer has credits is never finished, and its channel
  * stands still. A job of mtu octets needs n = (mtu + 2 + mps - 1) / mps frames, if the peer fills them. With L2CAP_EVERY k give at least n + k - 1 credits, with L2CAP_MIN_THRESHOLD t at least n, and a t of at least n. The defaults do:
- * there n is 1. */
+ * there n is 1. With more credits than d the peer can finish more jobs than can wait, and the next is dropped (21): take after every frame, or give d. */
 #ifndef L2CAP_CHANNELS_H
 #define L2CAP_CHANNELS_H
 
@@ -175,8 +180,10 @@ uint32_t l2cap_version_1(void);
  * Answer: Done. */
 uint32_t l2cap_make(uint8_t *table, size_t table_len, uint8_t *answer, size_t answer_len, uint8_t *room, size_t room_len, uint16_t n, uint16_t d, uint16_t m);
 
-/* Whoever makes a table calls l2cap_version_1 before it: so no program links with an archive of another version, and the linker's message names the entry. It is a function behind the entry's name,
- * and not a pointer that each file would hold, because linkers for firmware drop data that nobody reads. It takes one empty call. */
+/* Whoever makes a table calls l2cap_version_1 before it: so no program that makes one links with an archive of another version, and the linker's message names the entry. One that only takes up a table which another program
+ * made isn't held to it. It is a function behind the entry's name, and not a pointer that each file would hold, because linkers for firmware drop data that nobody reads. It takes one empty call.
+ * It is a macro, and so asks two things: a struct with a member of that name is declared behind this include, and not before it; and a stand-in for the entry, in tests, is defined before the include or behind an #undef, with an
+ * l2cap_version_1 beside it. */
 static inline uint32_t l2cap_make_of_this_version(uint8_t *table, size_t table_len, uint8_t *answer, size_t answer_len, uint8_t *room, size_t room_len, uint16_t n, uint16_t d, uint16_t m) {
     (void)l2cap_version_1();
     return l2cap_make(table, table_len, answer, answer_len, room, room_len, n, d, m);
@@ -300,6 +307,8 @@ uint32_t l2cap_inc_ref(uint8_t *table, size_t table_len, uint8_t *answer, size_t
 uint32_t l2cap_dec_ref(uint8_t *table, size_t table_len, uint8_t *answer, size_t answer_len, uint8_t *room, size_t room_len, uint8_t slot);
 
 /* Lets the open channel of a slot disconnect; nothing in another state. l2cap_next_disconnect writes the request. Waiting jobs can be taken until the peer's response; holds stay.
+ * The peer's response frees the slot. A peer that never answers keeps it while its link is up: after a timeout of yours l2cap_opened with its slot and link frees it, and says so by 18. The link going down frees it too. Let one
+ * link have a few channels and refuse the rest (l2cap_reject_pending), or 16 such channels of one phone leave no slot for another.
  * Refusals: 1 2 6.
  * Writes: table; room, the job that arrives zeroed.
  * Answer: Done. */
@@ -316,8 +325,8 @@ uint32_t l2cap_disconnect_by_cid(uint8_t *table, size_t table_len, uint8_t *answ
  * Answer: Done, also where the link has no slot. */
 uint32_t l2cap_disconnected(uint8_t *table, size_t table_len, uint8_t *answer, size_t answer_len, uint8_t *room, size_t room_len, uint16_t link);
 
-/* Writes the next disconnect that is due, the lowest slot's: the response to a peer's request, which frees the slot, or our request, once a slot, with the next identifier; that slot is freed by the peer's response. Call it until
- * the answer is Done. Jobs that wait in a slot are gone with a response: take them first.
+/* Writes the next disconnect that is due, the lowest slot's: the response to a peer's request, which frees the slot, or our request, once a slot, with the next identifier; that slot is freed by the peer's response (l2cap_disconnect says what
+ * to do without one). Call it until the answer is Done. Jobs that wait in a slot are gone with a response: take them first.
  * Refusals: 1 2 3.
  * Writes: table; room, a freed slot's part zeroed; signal.
  * Answer: Due; Done where none is due, and nothing is written. */
@@ -328,7 +337,7 @@ uint32_t l2cap_next_disconnect(uint8_t *table, size_t table_len, uint8_t *answer
 /* Takes in a frame that came on a link: its CID, and its payload behind the L2CAP header.
  * Refusals: 1 2 4 7 8 10 19 9 9 21. 7 for a CID of no slot; where the channel isn't open the frame is dropped, Done; 8 where it is another link's, 10 where the peer has no credit. Then a credit is used, and the table written: 19 for
  * a job's first frame under 2 octets, 9 for a job above our MTU, then for more octets than the job has: these leave the channel disconnecting, and the job that arrives zeroed; waiting jobs stay. 21 where the job is complete and d
- * wait already: it is dropped and zeroed, and the channel stays open.
+ * wait already: it is dropped and zeroed, and the channel stays open. A payload above our MPS is not refused.
  * Writes: table; room.
  * Answer: Done, whether a job is complete or not: l2cap_attention tells. */
 uint32_t l2cap_dispatch(uint8_t *table, size_t table_len, uint8_t *answer, size_t answer_len, uint8_t *room, size_t room_len, uint16_t link, uint16_t cid, const uint8_t *payload, size_t payload_len);
@@ -364,7 +373,7 @@ uint32_t l2cap_spsm(const uint8_t *table, size_t table_len, uint8_t *answer, siz
  * Answer: Number. */
 uint32_t l2cap_mtu(const uint8_t *table, size_t table_len, uint8_t *answer, size_t answer_len, uint8_t slot);
 
-/* The longest frame payload that we take in a slot; 0 where it has no channel, or a pending one.
+/* The longest frame payload that we announce in a slot; a longer one is not refused. 0 where it has no channel, or a pending one.
  * Refusals: 1 6.
  * Answer: Number. */
 uint32_t l2cap_mps(const uint8_t *table, size_t table_len, uint8_t *answer, size_t answer_len, uint8_t slot);

@@ -9,52 +9,73 @@ pub const HOW: &str =
     seconds one to try (target/unproved/libentries.a, for L2CAP_CHANNELS_ARCHIVE to name)";
 
 const ARCHIVE: &[u8] = b"!<arch>\n";
+const THIN: &[u8] = b"!<thin>\n";
 const MEMBER: usize = 60;
 const ELF: &[u8] = b"\x7fELF";
+
+/// What the kit makes archives for.
+const KIT: &str = "x86_64";
 
 /// Whether an archive that can be linked is known to be for the target.
 #[derive(Debug, PartialEq, Eq)]
 pub enum Machine {
     /// It is for the target.
     Target,
-    /// Its first object is no ELF file: its machine can't be told.
+    /// An object of it is no ELF file: its machine can't be told.
     Unknown,
 }
 
-/// The target by its architecture and the bits of its `usize`, as cargo tells them.
+/// The target by its architecture, the bits of its `usize`, its system and that one's vendor, as cargo tells them.
 pub struct Target<'t> {
     pub arch: &'t str,
     pub pointer_width: &'t str,
+    pub os: &'t str,
+    pub vendor: &'t str,
 }
 
-/// Whether the entries can be called from the target at all: a length crosses as 64 bits.
+/// Whether the entries can be called from the target at all: a length crosses as 64 bits, a call is the System V ABI's, and an object is an ELF file.
 pub fn judge_target(target: &Target) -> Result<(), String> {
-    match target.pointer_width {
-        "64" => Ok(()),
-        bits => Err(format!(
-            "the entries take lengths of 64 bits, and usize has {bits} on this target, {}: they can't be called from it",
-            target.arch
-        )),
+    let Target { arch, pointer_width: bits, os, vendor } = target;
+    if *bits != "64" {
+        return Err(format!(
+            "the entries take lengths of 64 bits, and usize has {bits} on this target, {arch}: they can't be called from it"
+        ));
     }
+    if ["windows", "uefi", "cygwin"].contains(os) {
+        return Err(format!(
+            "the entries are called as the System V ABI has it, and {os} has another convention: they can't be called from this target, {arch}"
+        ));
+    }
+    if *vendor == "apple" {
+        return Err(format!("the archive has ELF objects, and linkers for {os} take Mach-O: it can't be linked for this target, {arch}"));
+    }
+    Ok(())
 }
 
 /// What is wrong with the octets of the file called `name`, if anything is.
 pub fn judge(name: &str, octets: &[u8], target: &Target) -> Result<Machine, String> {
+    if octets.starts_with(THIN) {
+        return Err(format!("{name} is a thin archive: it names its objects, and has to hold them; {HOW}"));
+    }
     if !octets.starts_with(ARCHIVE) {
         return Err(format!("{name} is no archive; {HOW}"));
     }
-    let object = first_object(octets).ok_or_else(|| format!("{name} is an archive without an object; {HOW}"))?;
-    let machine = match machine(object) {
-        Some(machine) if machine != target.arch => {
-            return Err(format!("{name} is for {machine}, and the target is {}: the crate has to be built for {machine}", target.arch));
-        }
-        Some(_) => Machine::Target,
-        None => Machine::Unknown,
-    };
-    if !behind(octets, b"l2cap_make").any(<[u8]>::is_empty) {
+    let members = members(octets).map_err(|at| format!("{name} is cut short or damaged: no whole member stands at octet {at}; {HOW}"))?;
+    let (indexes, objects): (Vec<_>, Vec<_>) = members.iter().filter(|(name, _)| name != "//").partition(|(name, _)| is_index(name));
+    if objects.is_empty() {
+        return Err(format!("{name} is an archive without an object; {HOW}"));
+    }
+    let machine = judge_machines(name, &objects.iter().map(|(_, object)| machine(object)).collect::<Vec<_>>(), target)?;
+    let names: Vec<&[u8]> = indexes.first().map_or(Vec::new(), |(name, index)| names(name, index));
+    if names.is_empty() {
+        return Err(format!(
+            "{name} has no index of names, and a linker finds no entry in it: it was stripped, or made without one; {HOW}"
+        ));
+    }
+    if !names.contains(&&b"l2cap_make"[..]) {
         return Err(format!("{name} has no entry l2cap_make: it is another library's archive; {HOW}"));
     }
-    let versions = versions(octets);
+    let versions = versions(&names);
     if versions.is_empty() {
         return Err(format!(
             "{name} is older than versions, and this crate is of version {VERSION}: it has no entry l2cap_version_{VERSION}; {HOW}"
@@ -64,6 +85,28 @@ pub fn judge(name: &str, octets: &[u8], target: &Target) -> Result<Machine, Stri
         return Err(format!("{name} is of version {}, and this crate is of version {VERSION}; {HOW}", versions[0]));
     }
     Ok(machine)
+}
+
+/// Every object must be for the target. Where the archive is the kit's, the target can change; else the archive has to.
+fn judge_machines(name: &str, machines: &[Option<String>], target: &Target) -> Result<Machine, String> {
+    let Some(other) = machines.iter().flatten().find(|machine| *machine != target.arch) else {
+        return Ok(if machines.iter().all(Option::is_some) { Machine::Target } else { Machine::Unknown });
+    };
+    if machines.iter().all(|machine| machine.as_deref() == Some(KIT)) {
+        return Err(format!("{name} is for {KIT}, and the target is {}: the crate has to be built for {KIT}", target.arch));
+    }
+    Err(format!("{name} has an object for {other}, and the target is {}; {HOW}", target.arch))
+}
+
+/// The members, by name; or where one should begin and none that is whole does.
+fn members(octets: &[u8]) -> Result<Vec<(String, &[u8])>, usize> {
+    let (mut at, mut all) = (ARCHIVE.len(), Vec::new());
+    while at < octets.len() {
+        let (name, member, next) = member(octets, at).ok_or(at)?;
+        all.push((name, member));
+        at = next;
+    }
+    Ok(all)
 }
 
 /// The member at this place: its name, its octets, and where the next one begins.
@@ -79,22 +122,29 @@ fn member(octets: &[u8], at: usize) -> Option<(String, &[u8], usize)> {
     match name.strip_prefix("#1/") {
         Some(length) => {
             let (name, member) = member.split_at_checked(length.parse().ok()?)?;
-            Some((String::from_utf8_lossy(name).into_owned(), member, next))
+            Some((String::from_utf8_lossy(name).trim_end_matches('\0').into(), member, next))
         }
         None => Some((name.into(), member, next)),
     }
 }
 
-/// The octets of the first member that is an object: the tables of symbols and of long names come before it.
-fn first_object(octets: &[u8]) -> Option<&[u8]> {
-    let mut at = ARCHIVE.len();
-    loop {
-        let (name, member, next) = member(octets, at)?;
-        if !["/", "//", "/SYM64/"].contains(&name.as_str()) && !name.starts_with("__.SYMDEF") {
-            return Some(member);
-        }
-        at = next;
-    }
+/// Whether a member is the index of the names that the objects define: GNU's, with places of 32 or 64 bits, or BSD's.
+fn is_index(name: &str) -> bool {
+    ["/", "/SYM64/"].contains(&name) || name.starts_with("__.SYMDEF")
+}
+
+/// The names in an index, each ended by a zero. Before them it has, for each, where its object stands.
+fn names<'o>(kind: &str, index: &'o [u8]) -> Vec<&'o [u8]> {
+    let number = |length: usize, of: fn(&[u8]) -> usize| index.get(..length).map_or(0, of);
+    let big = |octets: &[u8]| octets.iter().fold(0_usize, |sum, octet| sum << 8 | usize::from(*octet));
+    let little = |octets: &[u8]| octets.iter().rev().fold(0_usize, |sum, octet| sum << 8 | usize::from(*octet));
+    let start = match kind {
+        "/" => number(4, big).saturating_mul(4).saturating_add(4),
+        "/SYM64/" => number(8, big).saturating_mul(8).saturating_add(8),
+        // The octets of the places, the places, the octets of the names.
+        _ => number(4, little).saturating_add(8),
+    };
+    index.get(start..).unwrap_or(&[]).split(|octet| *octet == 0).filter(|name| !name.is_empty()).collect()
 }
 
 /// An ELF object's machine, by the name that cargo has for it.
@@ -115,23 +165,8 @@ fn machine(object: &[u8]) -> Option<String> {
     })
 }
 
-/// Where the names of the archive's entries stand, each ended by a zero: in the table of symbols that it begins with, or anywhere where it has none of this form.
-fn names(octets: &[u8]) -> &[u8] {
-    match member(octets, ARCHIVE.len()) {
-        Some((name, table, _)) if ["/", "/SYM64/"].contains(&name.as_str()) => table,
-        _ => octets,
-    }
-}
-
-/// The ends of the names that hold this one, behind it.
-fn behind<'o>(octets: &'o [u8], name: &'o [u8]) -> impl Iterator<Item = &'o [u8]> {
-    names(octets).split(|octet| *octet == 0).filter_map(move |whole| {
-        let at = whole.windows(name.len()).rposition(|window| window == name)?;
-        whole.get(at + name.len()..)
-    })
-}
-
 /// The numbers of all entries l2cap_version_N.
-fn versions(octets: &[u8]) -> Vec<u32> {
-    behind(octets, b"l2cap_version_").filter_map(|number| std::str::from_utf8(number).ok()?.parse().ok()).collect()
+fn versions(names: &[&[u8]]) -> Vec<u32> {
+    let numbers = names.iter().filter_map(|name| name.strip_prefix(b"l2cap_version_"));
+    numbers.filter_map(|number| std::str::from_utf8(number).ok()?.parse().ok()).collect()
 }

@@ -4,8 +4,8 @@
 //!     cargo run --example printer
 
 use l2cap_channels::{
-    room_octets, ChannelIndex, ChannelManager, Cid, ConnHandle, CreditFlowPolicy, Hold, L2capChannelConfig, LeConnRole, Refusal, CID_BASE,
-    SIGNAL_OCTETS, SLOTS,
+    room_octets, ChannelIndex, ChannelManager, ChannelState, Cid, ConnHandle, CreditFlowPolicy, Hold, L2capChannelConfig, LeConnRole,
+    LeCreditConnResultCode, Refusal, Slot, CID_BASE, SIGNAL_OCTETS, SLOTS,
 };
 
 const CHANNELS: u16 = 16;
@@ -21,6 +21,10 @@ const CONFIG: L2capChannelConfig = match ASKED.checked(QUEUE, PACKET) {
 };
 const ASKED: L2capChannelConfig =
     L2capChannelConfig { mtu: None, mps: Some(23), flow_policy: CreditFlowPolicy::Every(1), initial_credits: Some(3) };
+
+/// The most channels of one link. A phone that never answers our disconnect request keeps its slot while its link is up, so that one link mustn't get
+/// them all. A firmware with a clock has a timeout too, and calls [`Printer::unanswered`] then.
+const LINK_CHANNELS: usize = 2;
 
 /// The CID of the signalling channel.
 const SIGNALLING: Cid = Cid(5);
@@ -87,7 +91,31 @@ impl<'r> Printer<'r> {
         self.settle(out)
     }
 
-    /// Every signal of a PDU; then every phone that asks for a channel gets one. The first refusal is told, once all signals are handled.
+    /// The phone of a link hasn't answered our disconnect requests in a time that the firmware sets: their slots are closed without an answer.
+    pub fn unanswered(&mut self, link: ConnHandle, out: &mut impl Out) -> Result<(), Fault> {
+        for index in (0..SLOTS).map(ChannelIndex::from) {
+            if self.slot(index, link).is_some_and(|slot| slot.state == ChannelState::Disconnecting(true)) {
+                // It closes the slot, and says so by 18. What it was refused by before that, `settle` is too.
+                let _ = self.channels.opened(index, link, true);
+            }
+        }
+        self.settle(out)
+    }
+
+    /// The printer ends, and its table with it: no hold counts any more. Phones aren't told; a firmware whose links stay up takes them down first.
+    pub fn put_away(self) {
+        for hold in self.holds.into_iter().flatten() {
+            hold.into_index();
+        }
+    }
+
+    /// A slot that this link has, in any state but closed.
+    fn slot(&self, index: ChannelIndex, link: ConnHandle) -> Option<Slot> {
+        self.channels.table().slot(index).filter(|slot| slot.state != ChannelState::Disconnected && slot.handle == link)
+    }
+
+    /// Every signal of a PDU; then a phone that asks for a channel gets one, unless its link has enough. The first refusal is told, once all signals are
+    /// handled.
     fn signals(&mut self, link: ConnHandle, pdu: &[u8], out: &mut impl Out) -> Result<(), Fault> {
         let mut came = Ok(());
         self.channels.feed_pdu(link, true, LeConnRole::Peripheral, pdu, |outcome, reply| {
@@ -99,10 +127,19 @@ impl<'r> Printer<'r> {
         let mut signal = [0; SIGNAL_OCTETS];
         while let Some(hold) = self.channels.next_pending(link, true)? {
             let index = hold.index();
+            // The one that asks is among them.
+            if (0..SLOTS).filter(|index| self.slot(ChannelIndex::from(*index), link).is_some()).count() > LINK_CHANNELS {
+                let response =
+                    self.channels.reject_pending(hold, LeCreditConnResultCode::NoResources, &mut signal).map_err(Refusal::from)?;
+                out.send(response.handle, response.octets);
+                continue;
+            }
             match self.channels.accept_pending(index, &CONFIG, &mut signal) {
                 Ok(response) => {
                     out.send(response.handle, response.octets);
-                    self.holds[usize::from(index.0)] = Some(hold);
+                    if let Some(place) = self.holds.get_mut(usize::from(index.0)) {
+                        *place = Some(hold);
+                    }
                 }
                 Err(refusal) => {
                     self.channels.dec_ref(hold).map_err(Refusal::from)?;
@@ -124,10 +161,8 @@ impl<'r> Printer<'r> {
 
     /// A frame that isn't whole: what came of its job must not be joined with what comes next. Only the channel's own link can close it so.
     fn broken(&mut self, link: ConnHandle, cid: Cid) -> Result<(), Fault> {
-        if let Some(index) = cid.index() {
-            if self.channels.table().slot(index).is_some_and(|slot| slot.handle == link) {
-                self.channels.disconnect(index)?;
-            }
+        if let Some(index) = cid.index().filter(|index| self.slot(*index, link).is_some()) {
+            self.channels.disconnect(index)?;
         }
         Err(Fault::Length)
     }
@@ -135,8 +170,10 @@ impl<'r> Printer<'r> {
     /// All that is due: jobs that wait, then disconnects, with which waiting jobs would go, then the holds on channels that are closed.
     fn settle(&mut self, out: &mut impl Out) -> Result<(), Fault> {
         let (mut job, mut signal) = ([0; PACKET as usize], [0; SIGNAL_OCTETS]);
-        for index in slots(self.channels.attention()?.set) {
-            while let Some(taken) = self.channels.receive(index, &mut job, &mut signal)? {
+        for index in self.channels.attention()?.set {
+            // An attempt of the printer's own that failed calls too, and has no job: that is 11, and the rest is due all the same. Whoever made it asks
+            // `opened`, which tells why and closes the slot. Other refusals come again below.
+            while let Ok(Some(taken)) = self.channels.receive(index, &mut job, &mut signal) {
                 out.print(taken.handle, taken.sdu);
                 if !taken.credits.is_empty() {
                     out.send(taken.handle, taken.credits);
@@ -146,8 +183,8 @@ impl<'r> Printer<'r> {
         while let Some(due) = self.channels.next_disconnect(&mut signal)? {
             out.send(due.handle, due.octets);
         }
-        for index in slots(self.channels.table().held()) {
-            if let Some(hold) = self.holds[usize::from(index.0)].take() {
+        for index in self.channels.table().held() {
+            if let Some(hold) = self.holds.get_mut(usize::from(index.0)).and_then(Option::take) {
                 self.channels.dec_ref(hold).map_err(Refusal::from)?;
             }
         }
@@ -161,11 +198,6 @@ fn parts(packet: &[u8]) -> Option<(Cid, Option<&[u8]>)> {
     let length = u16::from_le_bytes([header[0], header[1]]);
     let cid = Cid::from(u16::from_le_bytes([header[2], header[3]]));
     Some((cid, (payload.len() == usize::from(length)).then_some(payload)))
-}
-
-/// The slots of a set.
-fn slots(set: u16) -> impl Iterator<Item = ChannelIndex> {
-    (0..SLOTS).filter(move |index| set >> index & 1 == 1).map(ChannelIndex::from)
 }
 
 // ---- the scene
@@ -263,7 +295,20 @@ pub fn main() {
     assert_eq!(printer.packet(ben, &packet(4, &[1]), &mut desk), Err(Fault::Foreign));
     assert_eq!(printer.packet(ben, &packet(0x60, &[1]), &mut desk), Err(Fault::Refused(Refusal::InvalidChannelId)));
 
+    // The printer asks Anna's phone for a channel of its own. She refuses, and closes hers in the same packet: the attempt that failed stands in nobody's way.
+    let mut signal = [0; SIGNAL_OCTETS];
+    let request = printer.channels.create(anna, SPSM, &CONFIG, &mut signal).expect("a free slot");
+    let (attempt, identifier) = (request.index, request.octets[5]);
+    let refuses = [&[0x15, identifier, 10, 0, 0, 0, 0, 0, 0, 0, 0, 0, 4, 0][..], &[0x06, 9, 4, 0, 0x40, 0, 0x50, 0]].concat();
+    let no_resources = Refusal::ConnectError(LeCreditConnResultCode::NoResources);
+    assert_eq!(printer.packet(anna, &packet(5, &refuses), &mut desk), Err(Fault::Refused(no_resources)));
+    assert_eq!(desk.codes(anna), [DISCONNECT_RESPONSE]);
+    assert!(printer.holds.iter().all(Option::is_none));
+    assert_eq!(printer.channels.opened(attempt, anna, true), Err(no_resources));
+
     // Anna's link goes down. Nothing is left: no job, no packet, no hold, and every slot is free again.
+    assert_eq!(printer.packet(anna, &connect(), &mut desk), Ok(()));
+    assert_eq!(desk.codes(anna), [RESPONSE]);
     assert_eq!(printer.link_down(anna, &mut desk), Ok(()));
     assert!(desk.printed.is_empty() && desk.sent.is_empty());
     assert!(printer.holds.iter().all(Option::is_none));

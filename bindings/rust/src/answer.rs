@@ -1,6 +1,7 @@
 //! What the calls answer: the sixteen octets that an entry writes, and the types that a caller reads.
 
 use crate::codes::{ChannelIndex, ConnHandle, LeCreditConnResultCode, Refusal};
+use crate::slots::Slots;
 
 /// The octets of an answer.
 pub(crate) const ANSWER_OCTETS: usize = 16;
@@ -84,7 +85,7 @@ impl Answer {
     pub(crate) fn attention(&self) -> Attention {
         let count = self.number(1) as u8;
         let lowest = if count == 0 { None } else { Some(ChannelIndex(self.number(2) as u8)) };
-        Attention { set: self.number(0), count, lowest }
+        Attention { set: Slots::from_bits(self.number(0)), count, lowest }
     }
 
     pub(crate) fn event(&self) -> Option<ConnParamUpdateReq> {
@@ -206,8 +207,8 @@ pub struct Received<'j, 'b> {
 /// The slots that call for something: a job waits, a disconnect is due, or an attempt of ours has failed.
 #[derive(Clone, Copy, Debug, PartialEq, Eq)]
 pub struct Attention {
-    /// A bit for each slot; slot 0 has the lowest.
-    pub set: u16,
+    /// These slots: `for index in attention.set`.
+    pub set: Slots,
     /// How many slots call.
     pub count: u8,
     /// The lowest of them.
@@ -239,7 +240,7 @@ impl Default for CreditFlowPolicy {
 pub struct L2capChannelConfig {
     /// The longest job that we take. Defaults to the packet size less 6.
     pub mtu: Option<u16>,
-    /// The longest frame payload that we take. Defaults to the packet size less 4.
+    /// The longest frame payload that we announce; a longer one is not refused. Defaults to the packet size less 4.
     pub mps: Option<u16>,
     /// How the peer gets new credits.
     pub flow_policy: CreditFlowPolicy,
@@ -265,7 +266,7 @@ impl L2capChannelConfig {
 /// A slot's state.
 #[derive(Clone, Copy, Debug, PartialEq, Eq)]
 pub enum ChannelState {
-    /// Free, once nobody holds it.
+    /// Closed. The slot is free where nobody holds it, too.
     Disconnected,
     /// Our connect request with this identifier is out.
     Connecting(u8),

@@ -168,7 +168,7 @@ pub enum Refusal {
     BadSlot,
     /// 7: a frame's CID is no slot's.
     InvalidChannelId,
-    /// 8: no slot fits. An unmatched connect response has freed every attempt of that link.
+    /// 8: no slot fits. An unmatched connect response has closed the slot of every attempt of that link.
     NotFound,
     /// 9: a signal longer than its PDU (a reject is written); credits above 65,535 (they are kept), or a frame that its job has no place for (its
     /// credit is used): the channel is disconnecting.
@@ -188,10 +188,10 @@ pub enum Refusal {
     /// 16: an unknown signal. A reject is written.
     NotSupported,
     /// 17: the peer refused the connection, with this result. A signal that gives it leaves the slot
-    /// [`ConnectFailed`](crate::ChannelState::ConnectFailed); [`opened`](crate::ChannelManager::opened), which then gives it once more, has freed
+    /// [`ConnectFailed`](crate::ChannelState::ConnectFailed); [`opened`](crate::ChannelManager::opened), which then gives it once more, has closed
     /// the slot.
     ConnectError(LeCreditConnResultCode),
-    /// 18: the link or the channel is down. Where the slot wasn't free, [`opened`](crate::ChannelManager::opened) has freed it.
+    /// 18: the link or the channel is down. Where the slot wasn't closed yet, [`opened`](crate::ChannelManager::opened) has closed it.
     Disconnected,
     /// 19: a job's first frame without its two length octets. Its credit is used, and the channel is disconnecting.
     ShortFrame,

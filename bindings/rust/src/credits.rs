@@ -37,6 +37,9 @@ pub const fn frames(len: u16, mps: u16) -> Option<u16> {
 ///
 /// A peer that cuts its frames shorter than the MPS needs more: give the payload that it fills in place of the MPS.
 ///
+/// With more credits than jobs can wait, a peer can finish more jobs than that before one is taken, and the next is dropped (21): take after every frame,
+/// or give as many credits as jobs can wait.
+///
 /// ```
 /// # use l2cap_channels::{least_credits, CreditFlowPolicy::*};
 /// assert_eq!(least_credits(58, 60, Every(1)), Some(1));
@@ -56,6 +59,8 @@ pub const fn least_credits(mtu: u16, mps: u16, policy: CreditFlowPolicy) -> Opti
 /// Why [`L2capChannelConfig::checked`] refuses.
 #[derive(Clone, Copy, Debug, PartialEq, Eq, Hash)]
 pub enum ConfigError {
+    /// No table has this queue (1 to 4) or packet size (29 to 1,024).
+    NoTable,
     /// The MPS is above the packet size less 4, or the MTU above it less 6. The call would refuse by 12.
     TooLarge,
     /// MTU or MPS is under 23: peers that keep to Core refuse such a channel or send nothing on it.
@@ -69,6 +74,7 @@ pub enum ConfigError {
 impl fmt::Display for ConfigError {
     fn fmt(&self, f: &mut fmt::Formatter<'_>) -> fmt::Result {
         match self {
+            Self::NoTable => f.write_str("no table has this queue or packet size"),
             Self::TooLarge => f.write_str("the MPS or MTU is more than a packet holds"),
             Self::TooSmall => f.write_str("the MPS or MTU is under 23"),
             Self::FewCredits(least) => write!(f, "the peer needs {least} credits for the longest job"),
@@ -80,8 +86,8 @@ impl fmt::Display for ConfigError {
 impl Error for ConfigError {}
 
 impl L2capChannelConfig {
-    /// This configuration, if a channel of a table with this `queue` and `packet` size can't stick under it: see [`least_credits`]. It costs nothing
-    /// where it is a constant:
+    /// This configuration, if a channel of a table with this `queue` and `packet` size can't stick under it: see [`least_credits`]. More credits than
+    /// `queue` are not refused: take after every frame then, or a job can be dropped (21). It costs nothing where it is a constant:
     ///
     /// ```
     /// # use l2cap_channels::{ConfigError, CreditFlowPolicy, L2capChannelConfig};
@@ -95,10 +101,13 @@ impl L2capChannelConfig {
     /// assert!(L2capChannelConfig::default().checked(1, 64).is_ok());
     /// ```
     pub const fn checked(self, queue: u16, packet: u16) -> Result<Self, ConfigError> {
-        let mps = settled(self.mps, packet.saturating_sub(4));
-        let mtu = settled(self.mtu, packet.saturating_sub(6));
+        if queue < 1 || queue > 4 || packet < 29 || packet > 1024 {
+            return Err(ConfigError::NoTable);
+        }
+        let mps = settled(self.mps, packet - 4);
+        let mtu = settled(self.mtu, packet - 6);
         let credits = settled(self.initial_credits, queue);
-        if mps > packet.saturating_sub(4) || mtu > packet.saturating_sub(6) {
+        if mps > packet - 4 || mtu > packet - 6 {
             return Err(ConfigError::TooLarge);
         }
         if mps < LEAST || mtu < LEAST {

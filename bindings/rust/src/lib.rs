@@ -3,11 +3,11 @@
 //!
 //! A channel lives in a slot ([`ChannelIndex`]) and has a CID on the air ([`Cid`]). [`ChannelManager`] keeps the table, in 672 octets, and borrows
 //! the room in which jobs arrive and wait. Whoever uses a channel has a [`Hold`] on its slot, and gives it back: [`life`] goes through it, case by
-//! case. A call that can't be done gives a [`Refusal`], and says in its documentation what that leaves. No call panics, waits or allocates; in builds
+//! case. A slot is free where its channel is [`Disconnected`](ChannelState::Disconnected) and nobody holds it. A call that can't be done gives a [`Refusal`], and says in its documentation what that leaves. No call panics, waits or allocates; in builds
 //! with debug assertions a hold that is forgotten panics.
 //!
 //! ```
-//! use l2cap_channels::{room_octets, ChannelManager, Cid, ConnHandle, L2capChannelConfig, LeConnRole, Refusal, SIGNAL_OCTETS};
+//! use l2cap_channels::{room_octets, ChannelIndex, ChannelManager, Cid, ConnHandle, L2capChannelConfig, LeConnRole, Refusal, SIGNAL_OCTETS};
 //!
 //! fn main() -> Result<(), Refusal> {
 //!     // Two channels, one job waiting in each, packets of 64 octets.
@@ -21,23 +21,29 @@
 //!     channels.feed_pdu(phone, true, LeConnRole::Peripheral, &request, |outcome, reply| {
 //!         assert_eq!((outcome, reply.len()), (Ok(None), 0));
 //!     });
-//!     let mut signal = [0; SIGNAL_OCTETS];
+//!     // The hold stays here, and what can fail gets the slot's index: no `?` drops the hold, and it is back before an error goes on.
 //!     let hold = channels.next_pending(phone, true)?.expect("a pending channel");
-//!     let response = channels.accept_pending(hold.index(), &L2capChannelConfig::default(), &mut signal)?;
+//!     let served = serve(&mut channels, phone, hold.index());
+//!     channels.dec_ref(hold)?;
+//!     served
+//! }
+//!
+//! fn serve(channels: &mut ChannelManager<'_>, phone: ConnHandle, index: ChannelIndex) -> Result<(), Refusal> {
+//!     let mut signal = [0; SIGNAL_OCTETS];
+//!     let response = channels.accept_pending(index, &L2capChannelConfig::default(), &mut signal)?;
 //!     assert_eq!(response.handle, phone);
 //!
 //!     // A job of three octets comes in one frame, and is taken; the phone gets its credit back.
 //!     channels.dispatch(phone, Cid(0x40), &[3, 0, b'j', b'o', b'b'])?;
 //!     let mut job = [0; 58];
-//!     let taken = channels.receive(hold.index(), &mut job, &mut signal)?.expect("a job");
+//!     let taken = channels.receive(index, &mut job, &mut signal)?.expect("a job");
 //!     assert_eq!(taken.sdu, b"job");
 //!     assert_eq!(taken.credits, [8, 0, 5, 0, 0x16, 1, 4, 0, 0x40, 0, 1, 0]);
 //!
-//!     // The phone closes its channel; our response frees the slot, and the hold given back makes it another phone's.
+//!     // The phone closes its channel; our response closes the slot, and the hold given back makes it free for another phone.
 //!     channels.feed_pdu(phone, true, LeConnRole::Peripheral, &[0x06, 8, 4, 0, 0x40, 0, 0x50, 0], |_, _| {});
 //!     let response = channels.next_disconnect(&mut signal)?.expect("a disconnect that is due");
 //!     assert_eq!(response.octets, [8, 0, 5, 0, 0x07, 8, 4, 0, 0x40, 0, 0x50, 0]);
-//!     channels.dec_ref(hold)?;
 //!     Ok(())
 //! }
 //! ```
@@ -53,6 +59,7 @@ mod entries;
 mod hold;
 pub mod life;
 mod manager;
+mod slots;
 mod table;
 
 pub use answer::{
@@ -63,4 +70,10 @@ pub use codes::{ChannelIndex, Cid, ConnHandle, LeConnRole, LeCreditConnResultCod
 pub use credits::{frames, least_credits, ConfigError};
 pub use hold::{Hold, StillHeld};
 pub use manager::{ChannelManager, SIGNAL_OCTETS};
+pub use slots::{SlotIter, Slots};
 pub use table::{room_octets, Slot, Table, TABLE_OCTETS};
+
+/// The code of the README, compiled and run with the documentation's.
+#[cfg(doctest)]
+#[doc = include_str!("../README.md")]
+struct Readme;

@@ -1,13 +1,15 @@
 //! The life of a channel: who holds its slot, who gives it back, and when a disconnect is due. A page to read; the module has nothing else.
 //!
-//! A slot is free for the next channel when it is closed **and** nobody holds it. Closing doesn't end a hold, and ending a hold is the only thing that a
-//! peer can't do for us: sixteen phones that come and go without [`dec_ref`] leave no slot for the seventeenth. [`Table::held`] has the slots that are
-//! closed and wait for it.
+//! A slot is *closed* when its channel has ended (`Disconnected`), and *free* for the next channel when it is closed **and** nobody holds it. Closing
+//! doesn't end a hold, and ending a hold is the only thing that a peer can't do for us: sixteen phones that come and go without [`dec_ref`] leave no slot
+//! for the seventeenth. [`Table::held`] has the slots that are closed and wait for it.
 //!
-//! After each packet that came in, and after each link that went down, a loop does three things in this order, and forgets nothing:
+//! A request that a packet brought is met at once: [`next_pending`] of that link until it gives none, with [`accept_pending`] or [`reject_pending`] for each;
+//! [`attention`] doesn't name pendings. Then, after each packet that came in and after each link that went down, a loop does three things in this order, and
+//! forgets nothing:
 //!
 //! 1. jobs: [`receive`] on every slot that [`attention`] names, until none waits; the credits go out. (An attempt of ours that failed is named too,
-//!    and refused by 11 here: [`opened`] frees it.)
+//!    and refused by 11 here: go on with the next slot; [`opened`] tells why it failed, and closes it.)
 //! 2. disconnects: [`next_disconnect`] until none is due; what it writes goes out;
 //! 3. holds: [`dec_ref`] on every slot that [`Table::held`] names.
 //!
@@ -26,8 +28,19 @@
 //! | we answer | [`next_disconnect`] | `Disconnected`, still held | 1 |
 //! | we give the slot back | [`dec_ref`] takes the hold | free | 0 |
 //!
-//! Where we leave first, [`dec_ref`] comes before: it leaves `Disconnecting` with no hold, [`next_disconnect`] writes our request, and the phone's
-//! response, by [`signal`], frees the slot. With [`disconnect`] in its place the hold stays, and [`dec_ref`] is still to come.
+//! Where we leave first:
+//!
+//! | what happens | call | slot | holds |
+//! |---|---|---|---|
+//! | we let go | [`dec_ref`] takes the hold | `Disconnecting(false)`: a disconnect is due | 0 |
+//! | our request goes out, once | [`next_disconnect`] | `Disconnecting(true)` | 0 |
+//! | the phone's response comes | [`signal`] | free | 0 |
+//! | or the phone doesn't answer: after a timeout of yours | [`opened`] of that slot and link gives 18 | free | 0 |
+//! | or its link goes down | [`disconnected`] | free | 0 |
+//!
+//! With [`disconnect`] in place of the first row the hold stays, the slot is closed and not free in the end, and [`dec_ref`] is still to come. A phone that
+//! never answers keeps its slot while its link is up, and sixteen channels of one such link leave no slot for anybody else. The manager has no clock and
+//! counts no link's channels: a firmware has a timeout, or lets one link have a few channels and refuses the rest by [`reject_pending`], or both.
 //!
 //! # A phone that closes in mid-job
 //!
@@ -54,8 +67,8 @@
 //! | or it fails | [`signal`] gives 17 and leaves `ConnectFailed`, then [`opened`] gives 17 | free | 0 |
 //! | or we give up | [`give_up`] | free | 0 |
 //!
-//! An attempt has no hold before [`opened`] gives one: once it is freed its slot can be another's. An unmatched connect response (8) and a link that
-//! goes down free it too, and [`opened`] gives 18 then. From [`opened`] on it is as a phone's channel.
+//! An attempt has no hold before [`opened`] gives one: once it is closed its slot can be another's. An unmatched connect response (8) and a link that
+//! goes down close it too, and [`opened`] gives 18 then. From [`opened`] on it is as a phone's channel.
 //!
 //! # A link that goes down
 //!
@@ -68,8 +81,17 @@
 //!
 //! # A manager that ends
 //!
-//! [`make`] counts every slot anew, and a manager that is put away takes its table with it: a [`Hold`] of before ends by [`into_index`]. Of a table that
-//! was kept, [`Hold::of`] takes up each hold that [`Slot::hold`] counts.
+//! [`make`] counts every slot anew, and a manager that is put away takes its table with it: a [`Hold`] of before ends by [`into_index`], each one, or it
+//! panics in builds with debug assertions. Phones aren't told so: where their links stay up, [`disconnect`] and [`next_disconnect`] come before.
+//!
+//! | what happens | call | slot | holds |
+//! |---|---|---|---|
+//! | each channel is to end | [`disconnect`] of each slot | `Disconnecting(false)` | 1 |
+//! | our requests go out | [`next_disconnect`] until none is due | `Disconnecting(true)` | 1 |
+//! | each hold is put away | [`into_index`] | nobody's | – |
+//! | the manager goes | dropped, or [`make`] | | |
+//!
+//! Of a table that was kept, [`Hold::of`] takes up each hold that [`Slot::hold`] counts.
 //!
 //! [`accept_pending`]: crate::ChannelManager::accept_pending
 //! [`attention`]: crate::ChannelManager::attention

@@ -79,9 +79,9 @@ impl<'r> ChannelManager<'r> {
     /// [`feed_pdu`](Self::feed_pdu) do so.
     ///
     /// Refusals: 1, 2, 3, 4; 15 and 9 by the header check, which leave no rest; then by the signal 15 for a bad body and 16 for an unknown code; 8
-    /// for credits that fit no channel, and for a connect response that fits no attempt, which has freed every attempt of this link; 9 for credits
-    /// above 65,535, which leave the channel disconnecting; 17 for a connect response that refuses, which leaves the slot
-    /// [`ConnectFailed`](crate::ChannelState::ConnectFailed) until [`opened`](Self::opened) or [`give_up`](Self::give_up) frees it.
+    /// for credits that fit no channel, and for a connect response that fits no attempt, which has closed the slot of every attempt of this link; 9 for
+    /// credits above 65,535, which leave the channel disconnecting; 17 for a connect response that refuses, which leaves the slot
+    /// [`ConnectFailed`](crate::ChannelState::ConnectFailed) until [`opened`](Self::opened) or [`give_up`](Self::give_up) closes it.
     pub fn signal<'p, 'b>(
         &mut self,
         handle: ConnHandle,
@@ -142,7 +142,8 @@ impl<'r> ChannelManager<'r> {
         Ok(Outgoing { handle, octets: answer.written(buffer) })
     }
 
-    /// Answers a peer's wish for other connection parameters: 0 takes it, 1 refuses it.
+    /// Answers a peer's wish for other connection parameters: 0 takes it, 1 refuses it. The response has our next identifier, and not the request's, as
+    /// Core (Vol 3 Part A, 4.21) would have it: a peer that compares them passes it over.
     ///
     /// Refusals: 1, 3, 4.
     pub fn send_conn_param_update_res<'b>(
@@ -182,7 +183,7 @@ impl<'r> ChannelManager<'r> {
         Ok(answer.outgoing(buffer))
     }
 
-    /// Refuses a pending channel, frees its slot and ends the hold.
+    /// Refuses a pending channel, closes its slot and ends the hold.
     ///
     /// Refusals, which give the hold back: 1, 2, 3, 6; 8 where nothing is pending in this slot; 22 where the table counts no hold.
     pub fn reject_pending<'b>(
@@ -196,12 +197,12 @@ impl<'r> ChannelManager<'r> {
                 hold.into_index();
                 Ok(answer.outgoing(buffer))
             }
-            Err(refusal) => Err(StillHeld { refusal, hold }),
+            Err(refusal) => Err(StillHeld::of(refusal, hold)),
         }
     }
 
-    /// Refuses the lowest pending channel of this link that nobody holds, by [`NoResources`](LeCreditConnResultCode::NoResources), and frees its slot;
-    /// none where there is none. Call it until then.
+    /// Refuses the lowest pending channel of this link that nobody holds, by [`NoResources`](LeCreditConnResultCode::NoResources), so that its slot is
+    /// free; none where there is none. Call it until then.
     ///
     /// Refusals: 1, 2, 3, 4.
     pub fn reject_all_pending<'b>(&mut self, handle: ConnHandle, buffer: &'b mut [u8]) -> Result<Option<ChannelSignal<'b>>, Refusal> {
@@ -209,8 +210,8 @@ impl<'r> ChannelManager<'r> {
         Ok(answer.at(handle, buffer))
     }
 
-    /// Lets go of a pending channel without an answer to the peer: ends the hold, and frees the slot. Where the peer closed meanwhile it ends the hold
-    /// alone. Where the channel is open it does nothing, and the hold comes back.
+    /// Lets go of a pending channel without an answer to the peer: ends the hold, and closes the slot. Where the peer closed meanwhile it ends the hold
+    /// alone. Where the channel is open it does nothing, and the hold comes back in `Ok(Some(_))`: [`dec_ref`](Self::dec_ref) ends that one.
     ///
     /// Refusals, which give the hold back: 1, 2, 6; 22 where the table counts no hold.
     pub fn drop_pending(&mut self, hold: Hold) -> Result<Option<Hold>, StillHeld> {
@@ -222,7 +223,7 @@ impl<'r> ChannelManager<'r> {
                 hold.into_index();
                 Ok(None)
             }
-            Err(refusal) => Err(StillHeld { refusal, hold }),
+            Err(refusal) => Err(StillHeld::of(refusal, hold)),
         }
     }
 
@@ -248,14 +249,14 @@ impl<'r> ChannelManager<'r> {
     /// A hold on the channel that we asked for, once it is open; none where the peer hasn't answered. [`dec_ref`](Self::dec_ref) ends the hold, and
     /// with it the channel.
     ///
-    /// Refusals: 1, 2, 4, 6; 18 where the slot is free; 8 where it is another link's; 18 where link or channel are down, and 17 where the peer
-    /// refused: these have freed the slot; 22 where it is held already.
+    /// Refusals: 1, 2, 4, 6; 18 where the slot is closed; 8 where it is another link's; 18 where the link is down or the channel disconnects, and 17
+    /// where the peer refused: these two have closed the slot, and a disconnect that was due is written no more; 22 where it is held already.
     pub fn opened(&mut self, index: ChannelIndex, handle: ConnHandle, up: bool) -> Result<Option<Hold>, Refusal> {
         let answer = entries::opened(&mut self.table.0, self.room, index.0, handle.0, up.into()).told()?;
         Ok(answer.is_opened().then(|| Hold::of(index)))
     }
 
-    /// Gives up an attempt of ours, waiting or failed, or an open channel that nobody holds, and frees its slot. The peer isn't told.
+    /// Gives up an attempt of ours, waiting or failed, or an open channel that nobody holds, and closes its slot. The peer isn't told.
     ///
     /// Refusals: 1, 2, 6; 8 where the slot has neither.
     pub fn give_up(&mut self, index: ChannelIndex) -> Result<(), Refusal> {
@@ -272,7 +273,7 @@ impl<'r> ChannelManager<'r> {
     }
 
     /// One hold less. The last one of an open channel lets it disconnect: [`next_disconnect`](Self::next_disconnect) writes the request. The last one
-    /// of a closed channel frees its slot for the next.
+    /// of a slot that is closed makes it free for the next.
     ///
     /// Refusals, which give the hold back: 1, 2, 6; 22 where the table counts no hold.
     pub fn dec_ref(&mut self, hold: Hold) -> Result<(), StillHeld> {
@@ -281,12 +282,15 @@ impl<'r> ChannelManager<'r> {
                 hold.into_index();
                 Ok(())
             }
-            Err(refusal) => Err(StillHeld { refusal, hold }),
+            Err(refusal) => Err(StillHeld::of(refusal, hold)),
         }
     }
 
     /// Lets an open channel disconnect; nothing in another state. The request is written by [`next_disconnect`](Self::next_disconnect). Holds stay
     /// until [`dec_ref`](Self::dec_ref) ends them.
+    ///
+    /// The peer's response closes the slot. A peer that never answers keeps it while its link is up: after a timeout of yours
+    /// [`opened`](Self::opened) of that slot closes it, and says so by 18.
     ///
     /// Refusals: 1, 2, 6.
     pub fn disconnect(&mut self, index: ChannelIndex) -> Result<(), Refusal> {
@@ -300,7 +304,7 @@ impl<'r> ChannelManager<'r> {
         entries::disconnect_by_cid(&mut self.table.0, self.room, cid.0).told().map(|_| ())
     }
 
-    /// The link is down: frees all its slots, and zeroes what they held in the room. Holds stay: [`dec_ref`](Self::dec_ref) ends each, and until then no
+    /// The link is down: closes all its slots, and zeroes what they held in the room. Holds stay: [`dec_ref`](Self::dec_ref) ends each, and until then no
     /// other channel gets the slot. [`Table::held`] has the slots that wait for it.
     ///
     /// Refusals: 1, 2, 4.
@@ -308,9 +312,9 @@ impl<'r> ChannelManager<'r> {
         entries::disconnected(&mut self.table.0, self.room, handle.0).told().map(|_| ())
     }
 
-    /// Writes the next disconnect that is due, the lowest slot's: the response to a peer's request, which frees the slot, or our request, after which
-    /// the peer's response frees it; none where none is due. Jobs that wait in a slot are gone with a response: take them first. Holds stay until
-    /// [`dec_ref`](Self::dec_ref) ends them.
+    /// Writes the next disconnect that is due, the lowest slot's: the response to a peer's request, which closes the slot, or our request, after which
+    /// the peer's response closes it; none where none is due. Jobs that wait in a slot are gone with a response: take them first. Holds stay until
+    /// [`dec_ref`](Self::dec_ref) ends them. A request is written once: of a peer that never answers it [`disconnect`](Self::disconnect) has more.
     ///
     /// Refusals: 1, 2, 3.
     pub fn next_disconnect<'b>(&mut self, buffer: &'b mut [u8]) -> Result<Option<ChannelSignal<'b>>, Refusal> {
@@ -320,7 +324,8 @@ impl<'r> ChannelManager<'r> {
 
     // ---- jobs
 
-    /// Takes in a frame that came on a link: its CID, and its payload behind the L2CAP header. Nothing where the channel isn't open.
+    /// Takes in a frame that came on a link: its CID, and its payload behind the L2CAP header. Nothing where the channel isn't open. A payload above our
+    /// MPS is not refused: a job's length and our MTU alone say what is too long.
     ///
     /// Refusals: 1, 2, 4; 7 for a CID of no slot; 8 for another link's open channel; 10 without a credit; then, with the credit used, 19 and 9, which
     /// leave the channel disconnecting, and 21, which drops the job.
@@ -339,7 +344,7 @@ impl<'r> ChannelManager<'r> {
 
     /// Takes the oldest job that waits, as far as `sdu` reaches, and grants the peer new credits where they are due; none where no job waits.
     ///
-    /// Refusals: 1, 2, 3, 6; 11 where the slot is free, or its channel isn't open yet or failed.
+    /// Refusals: 1, 2, 3, 6; 11 where the slot is closed, or its channel isn't open yet or failed.
     pub fn receive<'j, 'b>(
         &mut self,
         index: ChannelIndex,
@@ -364,35 +369,36 @@ impl<'r> ChannelManager<'r> {
         entries::attention(&self.table.0).told().map(|answer| answer.attention())
     }
 
-    /// The channel's SPSM; 0 where the slot is free.
+    /// The channel's SPSM; 0 where the slot is closed.
     ///
     /// Refusals: 1, 6.
     pub fn spsm(&self, index: ChannelIndex) -> Result<u16, Refusal> {
         self.asked(entries::spsm, index)
     }
 
-    /// The longest job that we take on this channel; 0 before it is ours.
+    /// The longest job that we take on this channel; 0 where the slot is closed, and for a peer's request that was never accepted.
     ///
     /// Refusals: 1, 6.
     pub fn mtu(&self, index: ChannelIndex) -> Result<u16, Refusal> {
         self.asked(entries::mtu, index)
     }
 
-    /// The longest frame payload that we take on this channel.
+    /// The longest frame payload that we announce on this channel; a longer one is not refused. 0 where the slot is closed, and for a peer's request
+    /// that was never accepted.
     ///
     /// Refusals: 1, 6.
     pub fn mps(&self, index: ChannelIndex) -> Result<u16, Refusal> {
         self.asked(entries::mps, index)
     }
 
-    /// The longest job that the peer takes.
+    /// The longest job that the peer takes; 0 where the slot is closed, and for an attempt of ours that never opened.
     ///
     /// Refusals: 1, 6.
     pub fn peer_mtu(&self, index: ChannelIndex) -> Result<u16, Refusal> {
         self.asked(entries::peer_mtu, index)
     }
 
-    /// The longest frame payload that the peer takes.
+    /// The longest frame payload that the peer takes; 0 where the slot is closed, and for an attempt of ours that never opened.
     ///
     /// Refusals: 1, 6.
     pub fn peer_mps(&self, index: ChannelIndex) -> Result<u16, Refusal> {

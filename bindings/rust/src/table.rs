@@ -2,6 +2,7 @@
 
 use crate::answer::{ChannelState, CreditFlowPolicy};
 use crate::codes::{ChannelIndex, ConnHandle, LeCreditConnResultCode, SLOTS};
+use crate::slots::Slots;
 
 /// The octets of a table, for every number of slots.
 pub const TABLE_OCTETS: usize = 672;
@@ -62,11 +63,11 @@ impl Table {
         self.octet(5)
     }
 
-    /// The slots that are closed but still held, a bit for each; slot 0 has the lowest. No channel gets them before
-    /// [`dec_ref`](crate::ChannelManager::dec_ref) ends their holds: 0 where nothing was forgotten.
-    pub fn held(&self) -> u16 {
+    /// The slots that are closed but still held. No channel gets them before [`dec_ref`](crate::ChannelManager::dec_ref) ends their holds: none where
+    /// nothing was forgotten.
+    pub fn held(&self) -> Slots {
         let closed = |index: u8| self.cell(index, STATE) == 0 && self.cell(index, HOLD) != 0;
-        (0..self.channels().min(SLOTS)).filter(|index| closed(*index)).fold(0, |set, index| set | 1 << index)
+        Slots::from_bits((0..self.channels().min(SLOTS)).filter(|index| closed(*index)).fold(0, |set, index| set | 1 << index))
     }
 
     /// How many hold a slot.
@@ -119,16 +120,16 @@ impl Table {
     }
 }
 
-/// What one slot holds. A free slot has zeros but for its hold.
+/// What one slot holds. One that is closed has zeros but for its hold; it is free where that is 0 too.
 #[derive(Clone, Copy, Debug, PartialEq, Eq)]
 pub struct Slot {
     /// The state.
     pub state: ChannelState,
-    /// The link, while the slot isn't free.
+    /// The link, until the slot is closed.
     pub handle: ConnHandle,
     /// The channel's SPSM.
     pub spsm: u16,
-    /// Our MPS.
+    /// Our MPS: what we announce, and no more.
     pub mps: u16,
     /// Our MTU.
     pub mtu: u16,

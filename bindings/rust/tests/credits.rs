@@ -157,11 +157,16 @@ fn edges() {
     for small in [of(Some(22), None), of(None, Some(22)), of(Some(0), Some(0))] {
         assert_eq!(small, Some(ConfigError::TooSmall));
     }
-    // Packets that no table is made for.
-    for packet in [0, 4, 28] {
-        assert_eq!(L2capChannelConfig::default().checked(1, packet), Err(ConfigError::TooSmall));
+    // Sizes that no table has, whatever the rest says; the sizes beside them are some table's.
+    for (queue, packet) in [(0, 64), (5, 64), (9, 64), (65535, 64), (1, 0), (1, 28), (1, 1025), (1, 2000), (1, 65535)] {
+        for config in [L2capChannelConfig::default(), L2capChannelConfig { mtu: Some(22), ..Default::default() }] {
+            assert_eq!(config.checked(queue, packet), Err(ConfigError::NoTable), "queue {queue}, packet {packet}");
+        }
     }
-    assert_eq!(L2capChannelConfig::default().checked(0, 64), Err(ConfigError::FewCredits(1)));
+    for (queue, packet) in [(1, 29), (4, 29), (1, 1024), (4, 1024)] {
+        assert!(L2capChannelConfig::default().checked(queue, packet).is_ok());
+        assert!(ChannelManager::new(1, queue, packet, &mut vec![0; room_octets(1, queue, packet)]).is_ok());
+    }
     let error: Box<dyn std::error::Error> = ConfigError::FewCredits(3).into();
     assert_eq!(error.to_string(), "the peer needs 3 credits for the longest job");
 }

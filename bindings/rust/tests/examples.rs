@@ -90,6 +90,34 @@ fn some_packet(numbers: &mut Numbers, link: ConnHandle, its: u8) -> Vec<u8> {
     packet
 }
 
+/// One phone asks for channel after channel, breaks those that it got, and never answers: it has two slots, and fourteen other phones have theirs. Once its
+/// time is over it has none.
+#[test]
+fn one_link_has_two_channels_at_most() {
+    let mut room = [0; room_octets(16, 1, 64)];
+    let mut printer = Printer::new(&mut room).unwrap();
+    let mut paper = Paper::default();
+    let phone = ConnHandle::from(0);
+    let ask = |printer: &mut Printer<'_>, paper: &mut Paper, link, peer_cid| {
+        printer.packet(link, &connect(peer_cid), paper).unwrap();
+        paper.results.pop()
+    };
+    let asked = [0x50, 0x51, 0x52, 0x53].map(|peer_cid| ask(&mut printer, &mut paper, phone, peer_cid));
+    assert_eq!(asked, [Some(0), Some(0), Some(4), Some(4)]);
+    for cid in [0x40, 0x41] {
+        printer.packet(phone, &packet(cid, &[]), &mut paper).unwrap_err();
+    }
+    assert_eq!(ask(&mut printer, &mut paper, phone, 0x54), Some(4));
+    let others: Vec<_> = (1..16).map(|link| ask(&mut printer, &mut paper, ConnHandle::from(link), 0x50)).collect();
+    assert_eq!(others, [&[Some(0); 14][..], &[Some(4)]].concat());
+
+    printer.unanswered(phone, &mut paper).unwrap();
+    assert_eq!(ask(&mut printer, &mut paper, ConnHandle::from(15), 0x50), Some(0));
+    assert_eq!(ask(&mut printer, &mut paper, phone, 0x50), Some(0));
+    // Channels are open: a printer that were dropped as it stands would panic here.
+    printer.put_away();
+}
+
 /// Twenty links send anything, and go down now and then. No job has another link's octets; afterwards sixteen phones get their channels, and the next
 /// none: no slot was lost, and no hold.
 #[test]

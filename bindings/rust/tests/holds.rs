@@ -47,7 +47,7 @@ fn a_seventeenth_phone_gets_a_slot() {
         for hold in come_and_go(&mut channels) {
             channels.dec_ref(hold).unwrap();
         }
-        assert_eq!(channels.table().held(), 0);
+        assert_eq!(channels.table().held().bits(), 0);
     }
     assert_eq!(ask(&mut channels), "");
     assert_eq!(slot(&channels, SLOT).state, ChannelState::PeerConnecting(7));
@@ -58,12 +58,43 @@ fn it_gets_none_where_holds_are_kept() {
     let mut room = [0; ALL_ROOM];
     let mut channels = sixteen(&mut room);
     let kept: Vec<ChannelIndex> = come_and_go(&mut channels).into_iter().map(Hold::into_index).collect();
-    assert_eq!(channels.table().held(), 0xFFFF);
+    assert_eq!(channels.table().held().bits(), 0xFFFF);
     assert_eq!(ask(&mut channels), "0e00050015070a0000000000000000000400");
     channels.dec_ref(Hold::of(kept[9])).unwrap();
-    assert_eq!(channels.table().held(), 0xFDFF);
+    assert_eq!(channels.table().held().bits(), 0xFDFF);
     assert_eq!(ask(&mut channels), "");
     assert_eq!(slot(&channels, kept[9]).state, ChannelState::PeerConnecting(7));
+}
+
+/// A phone on one link takes all slots and never answers our requests. Once its time is over `opened` closes each slot; one that is held is free when its hold
+/// is back.
+#[test]
+fn a_phone_that_never_answers() {
+    let mut room = [0; ALL_ROOM];
+    let mut channels = sixteen(&mut room);
+    let config = L2capChannelConfig::default();
+    let mut signal = [0; SIGNAL_OCTETS];
+    let slots: Vec<ChannelIndex> = (0..ALL).map(|k| open(&mut channels, PHONE, &request(0x50 + k, 100, 23, 5), &config)).collect();
+    for index in &slots {
+        match index.0 % 2 {
+            0 => channels.dec_ref(Hold::of(*index)).unwrap(),
+            _ => channels.disconnect(*index).unwrap(),
+        }
+        assert_eq!(channels.next_disconnect(&mut signal).unwrap().unwrap().index, *index);
+        // The request is written once.
+        assert_eq!(channels.next_disconnect(&mut signal), Ok(None));
+    }
+    assert_eq!((channels.table().held().bits(), ask(&mut channels).len()), (0, 36));
+    for index in &slots {
+        assert_eq!(channels.opened(*index, PHONE, true), Err(Refusal::Disconnected));
+        assert!(is_free(&slot(&channels, *index)));
+    }
+    assert_eq!(channels.table().held().bits(), 0xAAAA);
+    for index in channels.table().held() {
+        channels.dec_ref(Hold::of(index)).unwrap();
+    }
+    assert!(channels.table().held().is_empty());
+    assert_eq!(ask(&mut channels), "");
 }
 
 /// The set has slots that are closed and held: an open one isn't in it, nor a free one, nor one behind the table's end.
@@ -71,19 +102,19 @@ fn it_gets_none_where_holds_are_kept() {
 fn held() {
     let mut room = [0; ROOM];
     let mut channels = made(&mut room);
-    assert_eq!(channels.table().held(), 0);
+    assert_eq!(channels.table().held().bits(), 0);
     let index = opened(&mut channels);
-    assert_eq!((slot(&channels, index).hold, channels.table().held()), (1, 0));
+    assert_eq!((slot(&channels, index).hold, channels.table().held().bits()), (1, 0));
     channels.disconnected(PHONE).unwrap();
-    assert_eq!(channels.table().held(), 0b01);
+    assert_eq!(channels.table().held().bits(), 0b01);
     let more = channels.inc_ref(ChannelIndex(1)).unwrap();
-    assert_eq!(channels.table().held(), 0b11);
+    assert_eq!(channels.table().held().bits(), 0b11);
     channels.dec_ref(Hold::of(index)).unwrap();
-    assert_eq!(channels.table().held(), 0b10);
+    assert_eq!(channels.table().held().bits(), 0b10);
     channels.dec_ref(more).unwrap();
     let mut octets = *channels.table().octets();
     octets[48 + 16 * 17 + 2] = 1;
-    assert_eq!(Table::from_octets(octets).held(), 0);
+    assert_eq!(Table::from_octets(octets).held().bits(), 0);
 }
 
 /// Tables with slot 0 in a state of each kind, on the phone's link, and nobody's hold on it.
@@ -220,6 +251,48 @@ fn an_error_says_both() {
     assert_eq!(Refusal::from(still), Refusal::Held);
 }
 
+/// The calls that end a hold, each refused by 1, 6 or 22: the table counts no such hold.
+fn uncounted() -> Vec<StillHeld> {
+    let (mut room, mut signal) = ([0; ROOM], [0; SIGNAL_OCTETS]);
+    let mut all = Vec::new();
+    for (octet, index) in [(1, SLOT), (0, ChannelIndex(2)), (0, SLOT)] {
+        let mut octets = *made(&mut room).table().octets();
+        octets[6] = octet;
+        let mut channels = ChannelManager::from_parts(Table::from_octets(octets), &mut room);
+        if octet == 0 {
+            feed(&mut channels, PHONE, &request(0x50, 100, 23, 5));
+        }
+        all.push(channels.dec_ref(Hold::of(index)).unwrap_err());
+        all.push(channels.reject_pending(Hold::of(index), LeCreditConnResultCode::NoResources, &mut signal).unwrap_err());
+        all.push(channels.drop_pending(Hold::of(index)).unwrap_err());
+    }
+    all
+}
+
+/// However such an error goes, nothing is said of a hold that was dropped, in debug builds neither.
+#[test]
+fn an_uncounted_hold_goes_quietly() {
+    let refusals: Vec<u8> = uncounted().into_iter().map(|still| Refusal::from(still).number()).collect();
+    assert_eq!(refusals, [1, 1, 1, 6, 6, 6, 22, 22, 22]);
+    for still in uncounted() {
+        drop(still);
+    }
+    for still in uncounted() {
+        let error: Box<dyn std::error::Error> = still.into();
+        assert!(error.to_string().ends_with("came back"));
+    }
+    for still in uncounted() {
+        let told: Result<(), String> = Err(still).map_err(|still| format!("{still:?}"));
+        assert!(told.unwrap_err().starts_with("StillHeld { refusal: "));
+    }
+    for StillHeld { hold, .. } in uncounted() {
+        // What was said of it is no part of it.
+        let other = Hold::of(hold.index());
+        assert_eq!(hold, other);
+        other.into_index();
+    }
+}
+
 #[cfg(debug_assertions)]
 mod dropped {
     use super::*;
@@ -248,6 +321,19 @@ mod dropped {
             panic!("{}", "another");
         });
         assert_eq!(said.as_deref(), Some("another"));
+    }
+
+    /// One that a wrong manager counted out is again one like any other, once the right one has refused it for another reason.
+    #[test]
+    fn the_last_word_of_a_manager_counts() {
+        let (mut room, mut other) = ([0; ROOM], [0; ROOM]);
+        let mut channels = made(&mut room);
+        let index = opened(&mut channels);
+        let still = made(&mut other).dec_ref(Hold::of(index)).unwrap_err();
+        let mut signal = [0; SIGNAL_OCTETS];
+        let still = channels.reject_pending(still.hold, LeCreditConnResultCode::NoResources, &mut signal).unwrap_err();
+        assert_eq!(still.refusal, Refusal::NotFound);
+        assert!(message(|| drop(still)).is_some());
     }
 
     /// A refusal that is made of a hold which the table still counts.

@@ -102,14 +102,14 @@ fn jobs_both_ways() {
                 let cid = Cid(u16::from_le_bytes([frame[2], frame[3]]));
                 receiver.dispatch(to, cid, &frame[4..]).unwrap();
             }
-            assert_eq!(receiver.attention(), Ok(Attention { set: 1, count: 1, lowest: Some(SLOT) }));
+            assert_eq!(receiver.attention(), Ok(Attention { set: Slots::from_bits(1), count: 1, lowest: Some(SLOT) }));
             let taken = receiver.receive(SLOT, &mut job, &mut reply).unwrap().unwrap();
             assert_eq!((taken.handle, taken.sdu, usize::from(taken.len)), (to, &sdu[..], length));
             // The credits go back to the sender.
             let got = sender.signal(from, true, LeConnRole::Central, &taken.credits[4..], &mut signal);
             assert_eq!(got.outcome, Ok(None));
             assert_eq!(slot(sender, SLOT).peer_credits, 8);
-            assert_eq!(receiver.attention(), Ok(Attention { set: 0, count: 0, lowest: None }));
+            assert_eq!(receiver.attention(), Ok(Attention { set: Slots::from_bits(0), count: 0, lowest: None }));
             assert_eq!(receiver.receive(SLOT, &mut job, &mut reply), Ok(None));
             assert!(receiver.room().iter().all(|octet| *octet == 0));
         }
@@ -117,15 +117,15 @@ fn jobs_both_ways() {
 
     // The phone ends it: request, response, and both slots are free once the printer's hold is back too.
     phone.dec_ref(phones).unwrap();
-    assert_eq!(phone.attention(), Ok(Attention { set: 1, count: 1, lowest: Some(SLOT) }));
+    assert_eq!(phone.attention(), Ok(Attention { set: Slots::from_bits(1), count: 1, lowest: Some(SLOT) }));
     let due = phone.next_disconnect(&mut signal).unwrap().unwrap();
     assert_eq!(printer.signal(OTHER, true, LeConnRole::Central, &due.octets[4..], &mut reply).outcome, Ok(None));
     let due = printer.next_disconnect(&mut reply).unwrap().unwrap();
     assert_eq!(phone.signal(PHONE, true, LeConnRole::Central, &due.octets[4..], &mut signal).outcome, Ok(None));
     assert!(is_free(&slot(&phone, SLOT)) && is_free(&slot(&printer, SLOT)));
-    assert_eq!((phone.table().held(), printer.table().held()), (0, 1));
+    assert_eq!((phone.table().held().bits(), printer.table().held().bits()), (0, 1));
     printer.dec_ref(printers).unwrap();
-    assert_eq!(printer.table().held(), 0);
+    assert!(printer.table().held().is_empty());
     assert_eq!(phone.next_disconnect(&mut signal), Ok(None));
 }
 
@@ -263,6 +263,40 @@ fn what_is_asked_for() {
         channels.dispatch(PHONE, index.cid(), &[1, 0, 9]).unwrap();
         assert_eq!(hex(channels.receive(index, &mut job, &mut signal).unwrap().unwrap().credits), credits);
     }
+}
+
+/// Our MPS is what we announce: a frame above it is taken, as long as its job has a place.
+#[test]
+fn a_frame_above_our_mps() {
+    let mut room = [0; ROOM];
+    let mut channels = made(&mut room);
+    let config = L2capChannelConfig { mps: Some(23), ..Default::default() };
+    let index = open(&mut channels, PHONE, &request(0x50, 100, 23, 5), &config);
+    assert_eq!(channels.mps(index), Ok(23));
+    channels.dispatch(PHONE, index.cid(), &[&[26, 0][..], &[b'j'; 26]].concat()).unwrap();
+    let (mut job, mut signal) = ([0; PLACE], [0; SIGNAL_OCTETS]);
+    assert_eq!(channels.receive(index, &mut job, &mut signal).unwrap().unwrap().sdu, [b'j'; 26]);
+}
+
+/// When MTUs and MPSs are 0: all of a closed slot; ours before an accept, and where none came; the peer's of an attempt that never opened.
+#[test]
+fn numbers_that_are_not_there_yet() {
+    let asked = |channels: &ChannelManager<'_>| {
+        [channels.mtu(SLOT), channels.mps(SLOT), channels.peer_mtu(SLOT), channels.peer_mps(SLOT)].map(Result::unwrap)
+    };
+    let mut room = [0; ROOM];
+    let mut channels = made(&mut room);
+    assert_eq!(asked(&channels), [0, 0, 0, 0]);
+    feed(&mut channels, PHONE, &request(0x50, 100, 23, 5));
+    assert_eq!(asked(&channels), [0, 0, 100, 23]);
+    feed(&mut channels, PHONE, "0621040040005000");
+    assert_eq!((slot(&channels, SLOT).state, asked(&channels)), (ChannelState::PeerDisconnecting(0x21), [0, 0, 100, 23]));
+    channels.disconnected(PHONE).unwrap();
+    assert_eq!(asked(&channels), [0, 0, 0, 0]);
+    channels.create(PHONE, SPSM, &L2capChannelConfig::default(), &mut [0; SIGNAL_OCTETS]).unwrap();
+    assert_eq!(asked(&channels), [58, 60, 0, 0]);
+    feed(&mut channels, PHONE, "15010a0000000000000000000400");
+    assert_eq!(asked(&channels), [58, 60, 0, 0]);
 }
 
 /// A manager's parts are kept and taken up again.

@@ -355,7 +355,7 @@ fn refusal_17_connect_error() {
         let pdu = format!("15010a000000000000000000{number:02x}00");
         assert_eq!(feed(&mut channels, PHONE, &pdu), [(Err(Refusal::ConnectError(code)), String::new())]);
         assert_eq!(slot(&channels, SLOT).state, ChannelState::ConnectFailed(code));
-        assert_eq!(channels.attention(), Ok(Attention { set: 1, count: 1, lowest: Some(SLOT) }));
+        assert_eq!(channels.attention(), Ok(Attention { set: Slots::from_bits(1), count: 1, lowest: Some(SLOT) }));
         assert_eq!(channels.opened(SLOT, PHONE, true), Err(Refusal::ConnectError(code)));
         assert!(is_free(&slot(&channels, SLOT)));
     }

@@ -1,0 +1,147 @@
+/* A small printer. `packet` takes a whole L2CAP packet that came on a link, and sends and prints all that it calls for: responses, credits, disconnects, jobs. It needs no heap and no C library, so that a firmware can take
+ * it over; `main` plays two phones with it, and looks at what comes out. */
+#include "l2cap_channels.h"
+#include <stdio.h>
+#include <string.h>
+
+/* Frames of 23 octets: the longest job, of PACKET - 6 octets, is three of them, and a phone gets credits for so many (the header, Credits). */
+enum { SLOTS = 4, WAITING = 1, PACKET = 64, MPS = 23, CREDITS = 3, SPSM = 0x80, SIGNALLING = 5 };
+
+static uint8_t table[L2CAP_TABLE_OCTETS], answer[L2CAP_ANSWER_OCTETS], room[L2CAP_ROOM_OCTETS(SLOTS, WAITING, PACKET)], signal[L2CAP_SIGNAL_OCTETS], job[PACKET];
+
+/* The slots that we hold, each once: from a phone's request on until we give them back. */
+static uint8_t held[SLOTS];
+
+#define LENT table, sizeof table, answer, sizeof answer
+#define IN(octets) octets, sizeof octets
+
+/* What leaves the printer: a packet for the controller, with its L2CAP header, and a job that is whole. */
+static void send_packet(uint16_t link, const uint8_t *octets, size_t n);
+static void print_job(uint16_t link, const uint8_t *octets, size_t n);
+
+static uint32_t start(void) {
+    uint32_t refusal = l2cap_make(LENT, IN(room), SLOTS, WAITING, PACKET);
+    return refusal ? refusal : l2cap_register_spsm(LENT, SPSM);
+}
+
+/* Every signal of a PDU, whether one before it was refused or not; then every phone that asks for a channel gets one. */
+static void signals(uint16_t link, const uint8_t *pdu, size_t n) {
+    size_t rest;
+    do {
+        l2cap_signal(LENT, IN(room), IN(signal), link, 1, 0, pdu, n);
+        if (l2cap_answer_written(answer)) send_packet(link, signal, l2cap_answer_written(answer));
+        rest = l2cap_signal_rest(pdu, n);
+        pdu += n - rest, n = rest;
+    } while (rest);
+    while (l2cap_next_pending(LENT, link, 1) == 0 && l2cap_answer_kind(answer) == L2CAP_ANSWER_AT) {
+        uint8_t slot = l2cap_answer_slot(answer);
+        if (l2cap_accept_pending(LENT, IN(signal), slot, L2CAP_DEFAULT, MPS, L2CAP_EVERY, 1, CREDITS)) {
+            l2cap_drop_pending(LENT, IN(room), slot);
+        } else {
+            held[slot] = 1;
+            send_packet(l2cap_answer_link(answer), signal, l2cap_answer_written(answer));
+        }
+    }
+}
+
+/* All that is due: jobs that wait, then disconnects, with which waiting jobs would go, then the holds on slots whose channel has ended: these have no SPSM any more. */
+static void settle(void) {
+    uint8_t slot;
+    uint16_t set = l2cap_attention(LENT) ? 0 : l2cap_answer_attention_set(answer);
+    for (slot = 0; slot < SLOTS; slot++)
+        while (set >> slot & 1 && l2cap_receive(LENT, IN(room), IN(signal), IN(job), slot) == 0 && l2cap_answer_kind(answer) == L2CAP_ANSWER_JOB) {
+            print_job(l2cap_answer_link(answer), job, l2cap_answer_job_copied(answer));
+            if (l2cap_answer_written(answer)) send_packet(l2cap_answer_link(answer), signal, l2cap_answer_written(answer));
+        }
+    while (l2cap_next_disconnect(LENT, IN(room), IN(signal)) == 0 && l2cap_answer_kind(answer) == L2CAP_ANSWER_DUE)
+        send_packet(l2cap_answer_link(answer), signal, l2cap_answer_written(answer));
+    for (slot = 0; slot < SLOTS; slot++)
+        if (held[slot] && l2cap_spsm(LENT, slot) == 0 && l2cap_answer_value(answer) == 0 && l2cap_dec_ref(LENT, IN(room), slot) == 0) held[slot] = 0;
+}
+
+/* A whole packet, as long as its header says: who puts packets together from the controller's pieces sees to that. Returns what a frame was refused by, or 0. */
+static uint32_t packet(uint16_t link, const uint8_t *octets, size_t n) {
+    uint16_t cid = (uint16_t)(octets[2] | octets[3] << 8);
+    uint32_t refusal = 0;
+    if (cid == SIGNALLING && n <= PACKET) signals(link, octets + 4, n - 4); /* a phone mustn't choose how long a PDU of signals is */
+    if (cid >= L2CAP_CID_BASE) refusal = l2cap_dispatch(LENT, IN(room), link, cid, octets + 4, n - 4);
+    if (refusal == L2CAP_OUT_OF_MEMORY) l2cap_disconnect_by_cid(LENT, IN(room), cid); /* a phone that sends without a credit loses its channel (Core, Vol 3 Part A, 10.1) */
+    settle();
+    return refusal;
+}
+
+static void link_down(uint16_t link) {
+    l2cap_disconnected(LENT, IN(room), link);
+    settle();
+}
+
+/* ---- the scene: what left the printer last, on which link, and how many there were */
+
+static uint8_t sent[PACKET], printed[PACKET];
+static size_t sent_length, printed_length;
+static unsigned sent_link, printed_link, packets, jobs, passed, failed;
+
+static void send_packet(uint16_t link, const uint8_t *octets, size_t n) {
+    memcpy(sent, octets, n);
+    sent_length = n, sent_link = link, packets++;
+}
+
+static void print_job(uint16_t link, const uint8_t *octets, size_t n) {
+    memcpy(printed, octets, n);
+    printed_length = n, printed_link = link, jobs++;
+    printf("link %u: %.*s\n", (unsigned)link, (int)n, (const char *)octets);
+}
+
+static void check(int holds, const char *what) {
+    holds ? passed++ : failed++;
+    if (!holds) printf("FAILED: %s\n", what);
+}
+
+/* So many packets left, and the last one is this one. */
+static int went(unsigned count, unsigned link, const uint8_t *octets, size_t n) {
+    int same = packets == count && sent_link == link && sent_length == n && !memcmp(sent, octets, n);
+    packets = 0;
+    return same;
+}
+
+int main(void) {
+    static const uint8_t connect[] = {14, 0, 5, 0, 0x14, 7, 10, 0, SPSM, 0, 0x50, 0, 100, 0, 23, 0, 5, 0}; /* from the phone's CID 0x50 */
+    static const uint8_t accepted[] = {14, 0, 5, 0, 0x15, 7, 10, 0, 0x40, 0, 58, 0, MPS, 0, CREDITS, 0, 0, 0}; /* to slot 0, whose CID is 0x40 */
+    static const uint8_t first[] = {14, 0, 0x40, 0, 16, 0, 't', 'i', 'c', 'k', 'e', 't', ' ', '1', ',', ' ', 'r', 'o'}, second[] = {4, 0, 0x40, 0, 'w', ' ', '1', '7'};
+    static const uint8_t credits[] = {8, 0, 5, 0, 0x16, 1, 4, 0, 0x40, 0, 2, 0};
+    static const uint8_t half[] = {6, 0, 0x40, 0, 9, 0, 'h', 'a', 'l', 'f'};
+    static const uint8_t closes[] = {8, 0, 5, 0, 0x06, 8, 4, 0, 0x40, 0, 0x50, 0}, closed[] = {8, 0, 5, 0, 0x07, 8, 4, 0, 0x40, 0, 0x50, 0};
+    static const uint8_t whole[] = {10, 0, 0x40, 0, 8, 0, 't', 'i', 'c', 'k', 'e', 't', ' ', '2'}, bad[] = {1, 0, 0x40, 0, 9};
+    static const uint8_t ours[] = {8, 0, 5, 0, 0x06, 3, 4, 0, 0x50, 0, 0x40, 0}, response[] = {8, 0, 5, 0, 0x07, 3, 4, 0, 0x50, 0, 0x40, 0};
+
+    check(start() == 0, "a printer");
+
+    /* The phone on link 1 connects, and sends a job in two frames. */
+    packet(1, IN(connect));
+    check(went(1, 1, IN(accepted)) && held[0], "it is accepted, and slot 0 is held");
+    check(packet(1, IN(first)) == 0 && jobs == 0, "half a job is not printed");
+    check(packet(1, IN(second)) == 0 && jobs == 1 && printed_link == 1 && printed_length == 16 && !memcmp(printed, "ticket 1, row 17", 16), "the job is printed, once and whole");
+    check(went(1, 1, IN(credits)), "the phone has its two credits back");
+
+    /* It closes its channel in the middle of the next job. The phone on link 2 gets the slot, and its job comes out clean. */
+    check(packet(1, IN(half)) == 0 && packets == 0, "half of another job");
+    packet(1, IN(closes));
+    check(went(1, 1, IN(closed)) && !held[0], "a disconnect response, and the hold is given back");
+    packet(2, IN(connect));
+    check(went(1, 2, IN(accepted)) && held[0], "the next phone has the same slot");
+    check(packet(2, IN(whole)) == 0 && jobs == 2 && printed_link == 2 && printed_length == 8 && !memcmp(printed, "ticket 2", 8), "its job, and nothing of the other's");
+
+    /* It sends a bad frame: we disconnect, and its response ends the channel. */
+    packets = 0;
+    check(packet(2, IN(bad)) == L2CAP_SHORT_FRAME && went(1, 2, IN(ours)) && held[0], "our disconnect request; the slot is still held");
+    packet(2, IN(response));
+    check(packets == 0 && !held[0], "the phone's response: the hold is given back");
+
+    /* A link goes down. */
+    packet(1, IN(connect));
+    check(went(1, 1, IN(accepted)) && held[0], "the first phone is back");
+    link_down(1);
+    check(packets == 0 && !held[0] && jobs == 2, "nothing is left of it");
+    printf("%u passed, %u failed\n", passed, failed);
+    return failed != 0;
+}

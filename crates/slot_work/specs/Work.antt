@@ -1,16 +1,17 @@
 -- What a call makes of one slot, with the moves in its part of the room as data (Mem.antt of `definition`); and what that comes to once the slot is put into
 -- its table: the definition's form `change`.
-use mathlib.Core.Path.{_≡_, refl, sym, ap, _∙_}
-use mathlib.Core.List.{List, [], _∷_}
-use Prim.Native.Nat.{ℕ, zero, suc}
-use lib.ListN.{getD, set}
+use mathlib.Core.Path.{_≡_, ap}
+use mathlib.Core.List.{List, []}
+use Prim.Native.Nat.{ℕ}
+use lib.Seq.{set-getD}
 use Rattle.channel.specs.declared.Answer.{Answer}
+use Rattle.channel.specs.declared.Served.{Served}
 use Rattle.channel.specs.declared.Slot.{Slot}
 use Rattle.channel.specs.declared.Table.{Table}
 use Rattle.definition.specs.Mem.{Fill, Move, sizes, parts, written}
-use Rattle.definition.specs.Table.{width, slotAt, putSlot}
+use Rattle.definition.specs.Table.{width, gap, slotAt, withSlots, putSlot}
 use Rattle.definition.specs.Outcome.{Outcome, still, only, change}
-use Rattle.definition.specs.Ending.{itself, end, endOf, gave, parts-none}
+use Rattle.definition.specs.Ending.{itself, end, endOf, gave, parts-none, written-none}
 use Rattle.slot_work.specs.declared.Worked.{Worked}
 
 pub record Work : Type 0 where
@@ -40,13 +41,8 @@ inTable t s w = change t s (w .slot) (w .moves) (w .answer) (w .out)
 
 -- ---- a slot that stays
 
-same-there : {A : Type 0} (xs : List A) (i : ℕ) (d : A) → set xs i (getD xs i d) ≡ xs
-same-there [] i d = refl
-same-there (x ∷ xs) zero d = refl
-same-there {A} (x ∷ xs) (suc i) d = ap (λ (r : List A). x ∷ r) (same-there xs i d)
-
 pub put-same : (t : Table) (s : ℕ) → putSlot t s (slotAt t s) ≡ t
-put-same t s = rw (same-there (t .slots) s _)
+put-same t s = ap (withSlots t) (set-getD (t .slots) s gap)
 
 -- a call that leaves the slot leaves the table
 pub end-kept : (t : Table) (s : ℕ) (a : Answer) (jobs room out job : List ℕ) → endOf t jobs room out job (inTable t s (kept (slotAt t s) a)) ≡ endOf t jobs room out job (still t a [])
@@ -55,8 +51,9 @@ end-kept t s a jobs room out job = rw (put-same t s, parts-none jobs (width t) s
 
 -- ---- by which a call's proof reads it: the slot put into the table, its part of the room moved in, and what is written
 
-pub works-in : (t : Table) (s : ℕ) (w : Work) (jobs room out job : List ℕ) {r : Worked} {room′ out′ : List ℕ} → r ≡ workedOf w
-    → room′ ≡ parts itself jobs (width t) (only s (w .moves)) room → out′ ≡ written itself jobs room (w .out) out → job ≡ written itself jobs room [] job
-    → end (gave (r .answer) (putSlot t s (r .slot)) (r .octets)) room′ out′ job ≡ endOf t jobs room out job (inTable t s w)
+pub works-in : (t : Table) (s : ℕ) (w : Work) (jobs room out job : List ℕ) {r : Worked} {v : Served} {room′ out′ : List ℕ}
+    → v ≡ gave (r .answer) (putSlot t s (r .slot)) (r .octets) → r ≡ workedOf w
+    → room′ ≡ parts itself jobs (width t) (only s (w .moves)) room → out′ ≡ written itself jobs room (w .out) out
+    → end v room′ out′ job ≡ endOf t jobs room out job (inTable t s w)
 unfolding endOf
-works-in t s w jobs room out job e f g h = rw (e, f, g, ← h)
+works-in t s w jobs room out job p e f g = rw (p, e, f, g, written-none jobs room job)

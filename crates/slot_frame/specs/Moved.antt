@@ -3,9 +3,10 @@ use mathlib.Core.Path.{_≡_, refl}
 use mathlib.Core.Bool.{Bool, true, false}
 use mathlib.Core.List.{List, [], _∷_}
 use Prim.Native.Nat.{ℕ}
-use lib.ListN.{length, drop}
+use lib.ListN.{length, drop, replicate}
 use lib.Seq.{sets, take-length}
 use Rattle.lists.specs.Choose.{choose}
+use Rattle.codes.specs.declared.Refusal.{Refusal}
 use Rattle.sar_join.specs.declared.Assembly.{Assembly}
 use Rattle.sar_join.specs.declared.Joined.{Joined}
 use Rattle.sar_join.specs.declared.Joined.the-variants as Joined
@@ -13,6 +14,7 @@ use Rattle.sar_join.specs.Joining.{isIdle, assembled, queueAt, jobOctets}
 use Rattle.sar_join_room.specs.SarPlaces.{finish}
 use Rattle.sar_join_room.specs.SarRoom.{joinPart}
 use Rattle.definition.specs.Mem.{job, put, fill, move, moves}
+use Rattle.definition.specs.Outcome.{unassembled}
 use Rattle.definition.specs.Frames.{finishMoves, joinMoves}
 use Rattle.definition.specs.Ending.{itself}
 
@@ -45,3 +47,8 @@ module _ (place : ℕ) (a : Assembly) (queued : ℕ) (xs p : List ℕ) where
   join-moves Joined.Dropped = refl
   join-moves (Joined.Finished len) = finished (isIdle a) refl
   join-moves (Joined.Assembling b) = grown
+
+  -- a refusal by which the channel is left: nothing is joined, and the place for assembly is zeroed
+  pub refused-moves : (r : Refusal) {ys zs : List ℕ} → ys ≡ joinPart place a queued (Joined.Refused r) xs p → zs ≡ sets ys 0 (replicate place 0) → zs ≡ moves itself js xs (unassembled place ∷ [])
+  unfolding joinPart moves move fill
+  refused-moves r e f = rw e at f

@@ -1,0 +1,4 @@
+-- A call on a table's octets where they stand.
+pub mod Parts
+pub mod Row
+pub mod Gate

@@ -2,3 +2,4 @@
 pub mod Parts
 pub mod Row
 pub mod Gate
+pub mod Framed

@@ -116,7 +116,7 @@ module _ (o : List ℕ) (ok : read o .ok ≡ true) where
     unfolding taken
     slot-read = ap (λ (t : Table). slotAt t i) table-taken ∙ tabulate-at gap (λ i. slotIn (cell o i)) slotsMost i h
 
-    holds : (c : ℕ) → c < columnCount → cell o i c ≡ getD (row (slotAt (read o .table) i)) c 0
+    pub holds : (c : ℕ) → c < columnCount → cell o i c ≡ getD (row (slotAt (read o .table) i)) c 0
     holds c g = ap (λ (l : List ℕ). cell l i c) spelling ∙ cell-at (read o .table) gap i c spsms-long slots-long h g
 
     -- ONE ROW WRITTEN IS THE TABLE WITH THAT SLOT PUT

@@ -1,8 +1,9 @@
 // Frames and jobs, each on octets: the table read, the call, the table and the answer written back. Each is defined in specs/Frames.antt,
 // by the call's own definition lifted through the two layouts. The exported names are in `entries`.
+mod incoming;
+
 use channel::Answer;
 use channel::ChannelIndex;
-use channel::Cid;
 use codes::Refusal;
 ghost use mathlib.Core.Path.{_≡_};
 ghost use mathlib.Core.List.{[]};
@@ -20,10 +21,10 @@ pub fn dispatch(
 ) -> u32
     ensures { λ r. ⌜ edge r (now (table .exit)) (now (answer .exit)) (now (room .exit)) [] [] ≡ dispatchEdge (now (table .entry)) (now (answer .entry)) (now (room .entry)) link cid (now (payload .entry)) ⌝ }
 {
-    let d = edge_layout_decode::decode(table);
-    let t = d.table;
-    let s = call_dispatch::dispatch(t, room, link, Cid(cid), payload);
-    edge::store(table, answer, d.ok, s)
+    if !edge_scan::valid(table) {
+        return edge_answer::put_answer(answer, Answer::Refused(Refusal::BadTable), 0);
+    }
+    incoming::admitted(table, answer, room, link, cid, payload)
 }
 
 // Cuts a job into frames.

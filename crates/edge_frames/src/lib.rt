@@ -1,5 +1,5 @@
-// Frames and jobs, each on octets: the table read, the call, the table and the answer written back. Each is defined in specs/Frames.antt,
-// by the call's own definition lifted through the two layouts. The exported names are in `entries`.
+// Frames and jobs, each on octets. Each is defined in specs/Frames.antt, by the call's own definition lifted through the two layouts. A send works where the octets stand (specs/Placed.antt); of
+// the others the table is read, the call made, the table and the answer written back. The exported names are in `entries`.
 use channel::Answer;
 use channel::ChannelIndex;
 use channel::Cid;
@@ -26,7 +26,7 @@ pub fn dispatch(
     edge::store(table, answer, d.ok, s)
 }
 
-// Cuts a job into frames.
+// Cuts a job into frames. One row is read, and only the peer's credits are written: the rest of it stays, and other rows.
 pub fn send(table: &mut [u8], answer: &mut [u8], out: &mut [u8], slot: u8, sdu: &[u8]) -> u32
     ensures { λ r. ⌜ edge r (now (table .exit)) (now (answer .exit)) [] (now (out .exit)) [] ≡ sendEdge (now (table .entry)) (now (answer .entry)) (now (out .entry)) slot (now (sdu .entry)) ⌝ }
 {

@@ -24,7 +24,7 @@ use Rattle.definition.specs.Frames.{send, sentOn}
 use Rattle.edge_layout.specs.Layout.{cell, slotIn, read, written}
 use Rattle.edge_layout_write.specs.Puts.{puts}
 use Rattle.edge.specs.Edge.{edge}
-use Rattle.slot_send.specs.declared.Worked.{Worked}
+use Rattle.slot_work.specs.declared.Worked.{Worked}
 use Rattle.slot_send.specs.Sending.{Work, work, sentFrom}
 use Rattle.slot_send.specs.Into.{into, sent-into, credits-alone}
 use Rattle.edge_scan.specs.Scan.{validOctets}

@@ -1,5 +1,5 @@
-// Frames and jobs, each on octets: the table read, the call, the table and the answer written back. Each is defined in specs/Frames.antt,
-// by the call's own definition lifted through the two layouts. The exported names are in `entries`.
+// Frames and jobs, each on octets. Each is defined in specs/Frames.antt, by the call's own definition lifted through the two layouts. A frame in and a send work where the octets stand
+// (`incoming`, specs/Incoming.antt; specs/Placed.antt); of a take the table is read, the call made, the table and the answer written back. The exported names are in `entries`.
 mod incoming;
 
 use channel::Answer;
@@ -10,7 +10,7 @@ ghost use mathlib.Core.List.{[]};
 ghost use Rattle.edge.specs.Edge.{edge};
 ghost use Rattle.edge_frames.specs.Frames.{dispatchEdge, sendEdge, receiveEdge};
 
-// A frame that came in.
+// A frame that came in. One row is read, and only the columns that a frame can change are written: the rest of it stays, and other rows.
 pub fn dispatch(
     table: &mut [u8],
     answer: &mut [u8],
@@ -27,7 +27,7 @@ pub fn dispatch(
     incoming::admitted(table, answer, room, link, cid, payload)
 }
 
-// Cuts a job into frames.
+// Cuts a job into frames. One row is read, and only the peer's credits are written: the rest of it stays, and other rows.
 pub fn send(table: &mut [u8], answer: &mut [u8], out: &mut [u8], slot: u8, sdu: &[u8]) -> u32
     ensures { λ r. ⌜ edge r (now (table .exit)) (now (answer .exit)) [] (now (out .exit)) [] ≡ sendEdge (now (table .entry)) (now (answer .entry)) (now (out .entry)) slot (now (sdu .entry)) ⌝ }
 {

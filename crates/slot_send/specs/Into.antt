@@ -4,7 +4,6 @@ use mathlib.Core.Bool.{Bool, true, false, not}
 use mathlib.Core.List.{List, []}
 use Prim.Native.Nat.{ℕ}
 use lib.ListN.{length}
-use lib.Seq.{set-getD}
 use Rattle.lists.specs.Choose.{choose, if-cases}
 use Rattle.sar_cut.specs.declared.Plan.{Plan}
 use Rattle.sar_cut.specs.declared.Plan.the-variants as Plan
@@ -14,20 +13,17 @@ use Rattle.codes.specs.declared.Refusal.{Refusal}
 use Rattle.channel.specs.declared.Answer.the-variants.{Refused}
 use Rattle.channel.specs.declared.Slot.{Slot}
 use Rattle.channel.specs.declared.Table.{Table}
-use Rattle.definition.specs.Table.{gap, slotAt, withSlots, putSlot, isConnected, withPeerCredits}
+use Rattle.definition.specs.Table.{slotAt, putSlot, isConnected, withPeerCredits}
 use Rattle.definition.specs.Outcome.{refuse}
 use Rattle.definition.specs.Ending.{End, end, endOf, gave, end-still}
 use Rattle.definition.specs.Frames.{planned, sentOn}
+use Rattle.slot_work.specs.Work.{put-same}
 use Rattle.slot_send.specs.Sending.{Work, work, worked, plannedFrom, sentFrom}
 use Rattle.slot_send.specs.Sent.{sends}
 
 -- the work put into slot s of the table
 abbrev pub into : Table → (slot : ℕ) → Work → End
 into t s w = end (gave (w .gave .answer) (putSlot t s (w .gave .slot)) (w .gave .octets)) [] (w .out) []
-
--- a slot put where it stands
-pub put-same : (t : Table) (s : ℕ) → putSlot t s (slotAt t s) ≡ t
-put-same t s = ap (withSlots t) (set-getD (t .slots) s gap)
 
 module _ (t : Table) (s : ℕ) (sdu out : List ℕ) where
   refused-into : (r : Refusal) → endOf t sdu [] out [] (refuse t r) ≡ into t s (work (worked (Refused r) (slotAt t s) 0) out)

@@ -9,14 +9,11 @@ use Rattle.codes.specs.declared.Refusal.the-variants.{ChannelClosed}
 use Rattle.sar_cut.specs.declared.Plan.{Plan}
 use Rattle.sar_cut.specs.declared.Plan.the-variants as Plan
 use Rattle.sar_cut.specs.Cutting.{framesOf, planSend}
-use Rattle.channel.specs.declared.Answer.{Answer}
 use Rattle.channel.specs.declared.Answer.the-variants.{Refused, Frames}
 use Rattle.channel.specs.declared.Slot.{Slot}
 use Rattle.definition.specs.Table.{if_then_else_, isConnected, withPeerCredits}
-use Rattle.slot_send.specs.declared.Worked.{Worked}
-
-abbrev pub worked : Answer → Slot → (octets : ℕ) → Worked
-worked a x n = record { answer = a; slot = x; octets = n }
+use Rattle.slot_work.specs.declared.Worked.{Worked}
+pub use Rattle.slot_work.specs.Work.{worked}
 
 -- what work on a slot leaves: what it gave, and the output
 pub record Work : Type 0 where

@@ -4,26 +4,16 @@ use channel::Answer;
 use channel::Slot;
 use codes::Refusal;
 use sar_cut::Plan;
+use slot_work::Worked;
 ghost use mathlib.Core.Path.{_≡_};
 ghost use Rattle.channel.specs.declared.Answer.the-variants.{Refused};
 ghost use Rattle.slot_send.specs.Sending.{worked, work, sentFrom};
-
-// What work on a slot gives: the answer, the slot after it, and the octets that were written.
-pub struct Worked {
-    pub answer: Answer,
-    pub slot: Slot,
-    pub octets: usize,
-}
 
 // A refusal leaves the slot.
 fn refused(x: Slot, r: Refusal) -> Worked
     ensures { λ w. ⌜ w ≡ worked (Refused r) x 0 ⌝ }
 {
-    Worked {
-        answer: Answer::Refused(r),
-        slot: x,
-        octets: 0,
-    }
+    slot_work::became(x, Answer::Refused(r), 0)
 }
 
 // Writes a job's frames at the output's start, and says on which link they go out.

@@ -29,11 +29,11 @@ abbrev pub becomes : Slot → List Move → Answer → Work
 becomes x ms a = record { answer = a; slot = x; moves = ms; out = [] }
 
 -- What the code gives back for it.
-abbrev pub gaveBack : Answer → Slot → (octets : ℕ) → Worked
-gaveBack a x n = record { answer = a; slot = x; octets = n }
+abbrev pub worked : Answer → Slot → (octets : ℕ) → Worked
+worked a x n = record { answer = a; slot = x; octets = n }
 
 abbrev pub workedOf : Work → Worked
-workedOf w = gaveBack (w .answer) (w .slot) (sizes (w .out))
+workedOf w = worked (w .answer) (w .slot) (sizes (w .out))
 
 -- The same in a table: slot s becomes what was made of it.
 abbrev pub inTable : Table → (slot : ℕ) → Work → Outcome

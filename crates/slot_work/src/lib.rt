@@ -1,7 +1,7 @@
 // What a call makes of one slot, by value: the slot is the unit of work. A call on a table puts the slot back into the table, a call on octets writes its row.
 // What is right stands in specs/Work.antt.
 ghost use mathlib.Core.Path.{_≡_};
-ghost use Rattle.slot_work.specs.Work.{gaveBack};
+ghost use Rattle.slot_work.specs.Work.{worked};
 use channel::Answer;
 use channel::Slot;
 
@@ -14,7 +14,7 @@ pub struct Worked {
 
 // The slot is x now, and so many octets were written.
 pub fn became(x: Slot, a: Answer, octets: usize) -> Worked
-    ensures { λ r. ⌜ r ≡ gaveBack a x octets ⌝ }
+    ensures { λ r. ⌜ r ≡ worked a x octets ⌝ }
 {
     Worked {
         answer: a,

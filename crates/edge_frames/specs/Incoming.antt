@@ -37,13 +37,13 @@ use Rattle.table_room.specs.Placed.{Placed, RoomOf, placed}
 use Rattle.slot_work.specs.Work.{Work, workedOf, works-in}
 use Rattle.slot_frame.specs.FrameIn.{joinedTo, frameOf}
 use Rattle.slot_frame.specs.Admitted.{frame-quiet, frame-admitted, frame-astray}
-use Rattle.edge_layout.specs.Layout.{cell, slotIn, taken, read, written}
+use Rattle.edge_layout.specs.Layout.{cell, slotIn, read}
 use Rattle.edge_layout_write.specs.Puts.{framedRow}
 use Rattle.edge.specs.Edge.{Edge, edge}
 use Rattle.edge_scan.specs.Scan.{validOctets}
-use Rattle.edge_row.specs.Row.{table-taken, slots-told, slot-read}
+use Rattle.edge_row.specs.Row.{slots-told, depth-told, packet-told, slot-read}
 use Rattle.edge_row.specs.Framed.{localOf, peerOf, framed-written}
-use Rattle.edge_row.specs.Gate.{answered, stays, changes, stopped, valid-read, valid-formed}
+use Rattle.edge_row.specs.Gate.{answered, stays, changes, stopped, valid-read, valid-formed, sizedVerdict, verdict-told}
 use Rattle.edge_frames.specs.Frames.{dispatchEdge}
 
 -- what the work on the slot of row s leaves, in the octets and in the room
@@ -74,37 +74,41 @@ frame-local d place x link p =
 -- ---- the sizes in line 0
 
 module _ (o : List ℕ) (v : validOctets o ≡ true) where
-  depth-told : read o .table .d ≡ getD o 2 0
-  unfolding taken
-  depth-told = ap (λ (t : Table). t .d) (table-taken o (valid-read o v))
-
-  packet-told : read o .table .m ≡ u16At o 3
-  unfolding taken
-  packet-told = ap (λ (t : Table). t .m) (table-taken o (valid-read o v))
-
   pub sized-told : Sized (getD o 1 0) (getD o 2 0) (u16At o 3)
-  sized-told = rw (slots-told o (valid-read o v), depth-told, packet-told) at (formed-sizes (read o .table) (valid-formed o v))
+  sized-told = rw (slots-told o (valid-read o v), depth-told o (valid-read o v), packet-told o (valid-read o v)) at (formed-sizes (read o .table) (valid-formed o v))
 
   room-told : roomSize (read o .table) ≡ roomWidth (getD o 1 0) (getD o 2 0) (u16At o 3)
-  room-told = rw (slots-told o (valid-read o v), depth-told, packet-told)
+  room-told = rw (slots-told o (valid-read o v), depth-told o (valid-read o v), packet-told o (valid-read o v))
+  -- ---- what the gate says of a call that is given a room and a link
 
-  -- ---- what the gate says
+module _ (n d m long link : ℕ) where
+  sized-2 : eqb long (roomWidth n d m) ≡ false → sizedVerdict n d m (Is long) Nothing (Is link) Nothing ≡ Stop BadRoom
+  unfolding sizedVerdict choose
+  sized-2 e = rw e
 
-  module _ (long link : ℕ) where
-    abbrev Says : Verdict → Type 0
-    Says x = verdict (read o .table) (Is long) Nothing (Is link) Nothing ≡ x
+  sized-4 : eqb long (roomWidth n d m) ≡ true → ltb handleMost link ≡ true → sizedVerdict n d m (Is long) Nothing (Is link) Nothing ≡ Stop BadHandle
+  unfolding sizedVerdict choose
+  sized-4 e f = rw (e, f)
 
-    pub refused-2 : eqb long (roomWidth (getD o 1 0) (getD o 2 0) (u16At o 3)) ≡ false → Says (Stop BadRoom)
-    unfolding verdict choose
-    refused-2 e = rw (valid-formed o v, room-told, e)
+  sized-pass : eqb long (roomWidth n d m) ≡ true → ltb handleMost link ≡ false → sizedVerdict n d m (Is long) Nothing (Is link) Nothing ≡ Pass
+  unfolding sizedVerdict choose
+  sized-pass e f = rw (e, f)
 
-    pub refused-4 : eqb long (roomWidth (getD o 1 0) (getD o 2 0) (u16At o 3)) ≡ true → ltb handleMost link ≡ true → Says (Stop BadHandle)
-    unfolding verdict choose
-    refused-4 e f = rw (valid-formed o v, room-told, e, f)
+module _ (o : List ℕ) (v : validOctets o ≡ true) (long link : ℕ) where
+  abbrev Says : Verdict → Type 0
+  Says x = verdict (read o .table) (Is long) Nothing (Is link) Nothing ≡ x
 
-    pub passes-4 : eqb long (roomWidth (getD o 1 0) (getD o 2 0) (u16At o 3)) ≡ true → ltb handleMost link ≡ false → Says Pass
-    unfolding verdict choose
-    passes-4 e f = rw (valid-formed o v, room-told, e, f)
+  told : verdict (read o .table) (Is long) Nothing (Is link) Nothing ≡ sizedVerdict (getD o 1 0) (getD o 2 0) (u16At o 3) (Is long) Nothing (Is link) Nothing
+  told = verdict-told o v (Is long) Nothing (Is link) Nothing
+
+  pub refused-2 : eqb long (roomWidth (getD o 1 0) (getD o 2 0) (u16At o 3)) ≡ false → Says (Stop BadRoom)
+  refused-2 e = told ∙ sized-2 (getD o 1 0) (getD o 2 0) (u16At o 3) long link e
+
+  pub refused-4 : eqb long (roomWidth (getD o 1 0) (getD o 2 0) (u16At o 3)) ≡ true → ltb handleMost link ≡ true → Says (Stop BadHandle)
+  refused-4 e f = told ∙ sized-4 (getD o 1 0) (getD o 2 0) (u16At o 3) long link e f
+
+  pub passes-4 : eqb long (roomWidth (getD o 1 0) (getD o 2 0) (u16At o 3)) ≡ true → ltb handleMost link ≡ false → Says Pass
+  passes-4 e f = told ∙ sized-pass (getD o 1 0) (getD o 2 0) (u16At o 3) long link e f
 
 -- a frame that the gate stops leaves the octets
 pub frame-stopped : (o a room p : List ℕ) (link cid : ℕ) (r : Refusal) → verdict (read o .table) (Is (length room)) Nothing (Is link) Nothing ≡ Stop r
@@ -152,10 +156,10 @@ module _ (o a room p : List ℕ) (link cid : ℕ) (v : validOctets o ≡ true) (
     pub part-placed : Placed (getD o 2 0) (u16At o 3) s (length room)
     part-placed =
         let is : length room ≡ roomSize t = eqb-true (length room) _ e ∙ sym (room-told o v) in
-        rw (depth-told o v, packet-told o v) at (placed {t = t} (record { sizes = formed-sizes t (valid-formed o v); is = is }) s (cid-within t cid n))
+        rw (depth-told o (valid-read o v), packet-told o (valid-read o v)) at (placed {t = t} (record { sizes = formed-sizes t (valid-formed o v); is = is }) s (cid-within t cid n))
 
     pub have-placed : slotIn (cell o s) .assembly .have ≤ placeSize (u16At o 3)
-    have-placed = rw (slot-read o (valid-read o v) s row-low, packet-told o v) at (have-fits t s (valid-formed o v) (cid-within t cid n))
+    have-placed = rw (slot-read o (valid-read o v) s row-low, packet-told o (valid-read o v)) at (have-fits t s (valid-formed o v) (cid-within t cid n))
 
     quiet : 0 ≡ sizes (w .out)
     unfolding sizes
@@ -175,6 +179,6 @@ module _ (o a room p : List ℕ) (link cid : ℕ) (v : validOctets o ≡ true) (
     frame-placed =
         let ok = valid-read o v in
         let same = frame-local (t .d) (placeOf t) (slotAt t s) link p in
-        rw (← depth-told o v, ← packet-told o v, ← slot-read o ok s row-low)
+        rw (← depth-told o (valid-read o v), ← packet-told o (valid-read o v), ← slot-read o ok s row-low)
         (changes o a (parts itself js (partWidth (t .d) (t .m)) (only s (w .moves)) room) [] [] (λ t. endOf t (jobs t (frame link cid p)) room [] [] (frameIn t (length room) link cid p))
         (w .answer) (putSlot t s (w .slot)) 0 ok ends (sym (framed-written o ok s row-low (w .slot) (same .0) (same .1))))

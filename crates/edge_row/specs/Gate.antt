@@ -1,19 +1,20 @@
 -- The first refusals, told from the table's octets, and what stays then: for calls that don't read the whole table.
 use mathlib.Core.Path.{_≡_, refl, sym, ap, _∙_}
-use mathlib.Core.Bool.{Bool, true, false, false≢true, _&&_}
+use mathlib.Core.Bool.{Bool, true, false, false≢true, _&&_, not}
 use mathlib.Core.List.{List, []}
 use Prim.Native.Nat.{ℕ, _≤_}
 use native.Mathlib.Omega.{arith}
-use lib.Dec.{leb}
+use lib.Dec.{eqb, leb, ltb}
 use lib.ListN.{length, getD}
 use lib.Seq.{sets}
 use borrow.Author.Tests.{leb-true}
 use Rattle.lists.specs.Choose.{choose}
 use Rattle.lists.specs.Both.{and-left, and-right}
 use Rattle.lists.specs.Every.{every}
+use Rattle.octets.specs.Octets.{u16At}
 use Rattle.codes.specs.declared.Refusal.{Refusal}
-use Rattle.codes.specs.declared.Refusal.the-variants.{BadTable, BadSlot}
-use Rattle.channel.specs.Limits.{slotsMost}
+use Rattle.codes.specs.declared.Refusal.the-variants.{BadTable, BadRoom, NoRoom, BadHandle, BadSlot}
+use Rattle.channel.specs.Limits.{slotsMost, signalMost, handleMost}
 use Rattle.channel.specs.declared.Answer.{Answer}
 use Rattle.channel.specs.declared.Answer.the-variants.{Refused}
 use Rattle.channel.specs.declared.Given.{Given}
@@ -22,16 +23,16 @@ use Rattle.channel.specs.declared.Table.{Table}
 use Rattle.channel.specs.declared.Verdict.{Verdict}
 use Rattle.channel.specs.declared.Verdict.the-variants.{Pass, Stop}
 use Rattle.channel_answer.specs.Tells.{tells, answerNumber}
-use Rattle.definition.specs.Table.{placeOf, live, sizesFit, slotFits, wellFormed}
+use Rattle.definition.specs.Table.{if_then_else_, placeOf, roomWidth, live, sizesFit, slotFits, wellFormed}
 use Rattle.definition.specs.Asking.{noSlots}
-use Rattle.definition.specs.Outcome.{Outcome, verdict, passed, gate}
+use Rattle.definition.specs.Outcome.{Outcome, fails, verdict, passed, gate}
 use Rattle.definition.specs.Ending.{End, end, endOf, gave, end-still}
 use Rattle.edge_layout.specs.Layout.{tableOctets, taken, spell, same, read, written}
 use Rattle.edge_layout.specs.Back.{written-back}
 use Rattle.edge_answer.specs.Answers.{toldOctets, answerOctets}
 use Rattle.edge.specs.Edge.{Edge, edge, lifted, onTable}
 use Rattle.edge_scan.specs.Scan.{validOctets}
-use Rattle.edge_row.specs.Row.{octets-long, slots-told}
+use Rattle.edge_row.specs.Row.{octets-long, slots-told, depth-told, packet-told}
 
 -- the answer of a call that wrote n octets, over the start of the lent answer
 abbrev pub answered : (answer : List ℕ) → Answer → ℕ → List ℕ
@@ -105,12 +106,35 @@ pub refused-1 : (o : List ℕ) → validOctets o ≡ false → (roomed signal li
 unfolding verdict choose
 refused-1 o e roomed signal link slot = rw (not-valid o e)
 
--- REFUSAL 6 of a call that is given a slot alone
-pub refused-6 : (o : List ℕ) → validOctets o ≡ true → (slot : ℕ) → leb (getD o 1 0) slot ≡ true → verdict (read o .table) Nothing Nothing Nothing (Is slot) ≡ Stop BadSlot
-unfolding verdict choose
-refused-6 o e slot k = rw (valid-formed o e, slots-told o (valid-read o e), k)
+-- the gate behind refusal 1, by the sizes alone, in its one order
+unfoldable pub sizedVerdict : (n d m : ℕ) (roomed signal link slot : Given) → Verdict
+sizedVerdict n d m roomed signal link slot =
+    if fails (λ size. not (eqb size (roomWidth n d m))) roomed then Stop BadRoom
+    else if fails (λ size. ltb size signalMost) signal then Stop NoRoom
+    else if fails (λ l. ltb handleMost l) link then Stop BadHandle
+    else if fails (λ s. leb n s) slot then Stop BadSlot
+    else Pass
 
--- and where neither is given
-pub passes-6 : (o : List ℕ) → validOctets o ≡ true → (slot : ℕ) → leb (getD o 1 0) slot ≡ false → verdict (read o .table) Nothing Nothing Nothing (Is slot) ≡ Pass
-unfolding verdict choose
-passes-6 o e slot k = rw (valid-formed o e, slots-told o (valid-read o e), k)
+-- THE GATE, TOLD FROM THE OCTETS: the sizes stand in line 0
+pub verdict-told : (o : List ℕ) → validOctets o ≡ true → (roomed signal link slot : Given)
+    → verdict (read o .table) roomed signal link slot ≡ sizedVerdict (getD o 1 0) (getD o 2 0) (u16At o 3) roomed signal link slot
+unfolding verdict sizedVerdict choose
+verdict-told o e roomed signal link slot =
+    let ok = valid-read o e in
+    rw (valid-formed o e, slots-told o ok, depth-told o ok, packet-told o ok)
+
+-- of a call that is given a slot alone: refusal 6, or none
+sized-6 : (n d m slot : ℕ) → leb n slot ≡ true → sizedVerdict n d m Nothing Nothing Nothing (Is slot) ≡ Stop BadSlot
+unfolding sizedVerdict choose
+sized-6 n d m slot k = rw k
+
+sized-pass : (n d m slot : ℕ) → leb n slot ≡ false → sizedVerdict n d m Nothing Nothing Nothing (Is slot) ≡ Pass
+unfolding sizedVerdict choose
+sized-pass n d m slot k = rw k
+
+module _ (o : List ℕ) (e : validOctets o ≡ true) (slot : ℕ) where
+  pub refused-6 : leb (getD o 1 0) slot ≡ true → verdict (read o .table) Nothing Nothing Nothing (Is slot) ≡ Stop BadSlot
+  refused-6 k = verdict-told o e Nothing Nothing Nothing (Is slot) ∙ sized-6 (getD o 1 0) (getD o 2 0) (u16At o 3) slot k
+
+  pub passes-6 : leb (getD o 1 0) slot ≡ false → verdict (read o .table) Nothing Nothing Nothing (Is slot) ≡ Pass
+  passes-6 k = verdict-told o e Nothing Nothing Nothing (Is slot) ∙ sized-pass (getD o 1 0) (getD o 2 0) (u16At o 3) slot k

@@ -10,7 +10,7 @@ use lib.ListN.{length, getD, set, take, drop, length-set, length-take, length-dr
 use lib.Seq.{sets, ext-getD, getD-set-same, getD-set-other}
 use borrow.Author.Tests.{eqb-true, eqb-false, ltb-true, ltb-false, le-ltb}
 use Rattle.lists.specs.Choose.{choose}
-use Rattle.octets.specs.Octets.{le16}
+use Rattle.octets.specs.Octets.{le16, u16At}
 use Rattle.octets.specs.Sets.{sets-whole}
 use Rattle.channel.specs.Limits.{slotsMost}
 use Rattle.channel.specs.declared.Slot.{Slot}
@@ -109,6 +109,14 @@ module _ (o : List ℕ) (ok : read o .ok ≡ true) where
   pub slots-told : read o .table .n ≡ getD o 1 0
   unfolding taken
   slots-told = ap (λ (t : Table). t .n) table-taken
+
+  pub depth-told : read o .table .d ≡ getD o 2 0
+  unfolding taken
+  depth-told = ap (λ (t : Table). t .d) table-taken
+
+  pub packet-told : read o .table .m ≡ u16At o 3
+  unfolding taken
+  packet-told = ap (λ (t : Table). t .m) table-taken
 
   module _ (i : ℕ) (h : i < slotsMost) where
     -- THE ROW SAYS ITS SLOT

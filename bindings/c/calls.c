@@ -1,4 +1,4 @@
-/* What a call costs through the archive: its time, and how often it copies a whole table; and what a PDU of many signals costs, fed one by one. It is no test: nothing is asserted.
+/* What a call costs through the archive: its time, and how often it copies a whole table; what a PDU of many signals costs, fed one by one; and a send and a frame in on the largest table. It is no test: nothing is asserted.
  * gcc -O2 -Wl,--wrap=memcpy -o calls bindings/c/calls.c target/staticlib/libentries.a && ./calls */
 #include "l2cap_channels.h"
 #include <stdio.h>
@@ -8,6 +8,7 @@
 enum { N = 4, D = 1, M = 64, ROOM = N * (D + 1) * (M - 6), TABLE = 600, TURNS = 1000, SAMPLES = 101, SIGNALS = 16383 };
 
 static uint8_t kept[L2CAP_TABLE_OCTETS], table[L2CAP_TABLE_OCTETS], answer[L2CAP_ANSWER_OCTETS], room[ROOM], signal[L2CAP_SIGNAL_OCTETS], out[64], job[64], pdu[4 * SIGNALS];
+static uint8_t large[L2CAP_ROOM_OCTETS(16, 4, 1024)], frames[2048], sdu[1020];
 static unsigned copies;
 
 /* A copy of so many octets is one of a table: nothing else in a call on these sizes is as long. */
@@ -62,6 +63,50 @@ static void fed(unsigned signals) {
     printf("| %u | %u | %.1f | %.2f |\n", signals, 4 * signals, best / 1e3, best / 1e3 / signals);
 }
 
+/* A job of so many octets sent in one frame, on the largest table, every slot open, one slot after the other: the fastest of some samples. */
+static void sends(size_t octets) {
+    double best = 1e18;
+    unsigned refusals = 0;
+    for (int s = 0; s < SAMPLES; s++) {
+        double from, took;
+        again(), from = now();
+        for (int k = 0; k < TURNS; k++) refusals += l2cap_send(LENT, IN(frames), k % 16, sdu, octets) != 0;
+        took = (now() - from) / TURNS;
+        if (took < best) best = took;
+    }
+    printf("| %zu | %u | %.0f |\n", octets, refusals, best);
+}
+
+/* A payload of so many octets that brings a whole job, on that table, one slot after the other: where no place is free any more, the table as it was. */
+static void arrives(uint16_t octets) {
+    double best = 1e18;
+    unsigned refusals = 0;
+    sdu[0] = (octets - 2) & 255, sdu[1] = (octets - 2) >> 8;
+    for (int s = 0; s < SAMPLES; s++) {
+        double from = now(), took;
+        for (int k = 0; k < TURNS; k++) {
+            if (k % 64 == 0) again();
+            refusals += l2cap_dispatch(LENT, IN(large), 1, 0x40 + k % 16, sdu, octets) != 0;
+        }
+        took = (now() - from) / TURNS;
+        if (took < best) best = took;
+    }
+    printf("| %u | %u | %.0f |\n", octets, refusals, best);
+}
+
+static void open_all(void) {
+    uint8_t request[] = {0x14, 7, 10, 0, 0x80, 0, 0x50, 0, 0xFC, 3, 0xFE, 3, 0xFF, 0xFF};
+    l2cap_make(LENT, IN(large), 16, 4, 1024);
+    l2cap_register_spsm(LENT, 0x80);
+    for (uint8_t k = 0; k < 16; k++) {
+        request[6] = 0x50 + k;
+        l2cap_signal(LENT, IN(large), IN(signal), 1, 1, 0, IN(request));
+        l2cap_next_pending(LENT, 1, 1);
+        l2cap_accept_pending(LENT, IN(signal), k, L2CAP_DEFAULT, L2CAP_DEFAULT, L2CAP_EVERY, 1, L2CAP_DEFAULT);
+    }
+    __real_memcpy(kept, table, sizeof kept);
+}
+
 int main(void) {
     static const uint8_t request[] = {0x14, 7, 10, 0, 0x80, 0, 0x50, 0, 100, 0, 23, 0, 5, 0};
     static const uint8_t credits[] = {0x16, 8, 4, 0, 0x50, 0, 3, 0};
@@ -96,5 +141,12 @@ int main(void) {
     puts("\n| signals | octets | µs in all | µs a signal |\n|---|---|---|---|");
     l2cap_make(LENT, IN(room), N, D, M);
     fed(1), fed(5), fed(20), fed(100), fed(250), fed(1000), fed(SIGNALS);
+
+    puts("\n| octets of a job | refused | ns a send |\n|---|---|---|");
+    open_all();
+    sends(23), sends(247), sends(1020);
+
+    puts("\n| octets of a payload | refused | ns a frame in |\n|---|---|---|");
+    arrives(23), arrives(247), arrives(1020);
     return 0;
 }

@@ -140,3 +140,40 @@ fn every_octet_changed() {
     }
     assert!(tables > 0);
 }
+
+/// A busy table with every number of its slot at its edge: one more is refused.
+fn full() -> [u8; TABLE_OCTETS] {
+    let (mut octets, _) = busy();
+    for (column, value) in [(8, 58), (13, 0xFF), (14, 0xFE), (15, 0), (16, 1), (26, 58), (28, 58), (30, 2), (31, 58), (33, 58)] {
+        octets[cell(0, column)] = value;
+    }
+    octets
+}
+
+/// A send tests the octets in a pass of its own. Whatever one octet becomes, it refuses by 1 what a question refuses, and leaves it; else it changes the peer's credits of its slot alone.
+#[test]
+fn a_send_refuses_the_same() {
+    let (busy, mut room) = busy();
+    let full = full();
+    let (mut refused, mut sent) = (0, 0);
+    for (place, change) in (0..TABLE_OCTETS).flat_map(|place| (0..=255).map(move |change| (place, change))) {
+        for mut octets in [busy, full] {
+            octets[place] ^= change;
+            let mut channels = ChannelManager::from_parts(Table::from_octets(octets), &mut room);
+            let bad = channels.attention() == Err(Refusal::BadTable);
+            let mut out = [0x77; 64];
+            let answer = channels.send(SLOT, &[1, 2, 3], &mut out).map(|frames| frames.count);
+            assert_eq!(answer == Err(Refusal::BadTable), bad, "octet {place} with {change:#x}");
+            if let Ok(count) = answer {
+                let credits = [octets[cell(0, 24)], octets[cell(0, 25)]];
+                [octets[cell(0, 24)], octets[cell(0, 25)]] = (u16::from_le_bytes(credits) - count).to_le_bytes();
+                sent += 1;
+            } else {
+                assert_eq!(out, [0x77; 64]);
+                refused += 1;
+            }
+            assert!(channels.table().octets() == &octets, "octet {place} with {change:#x}");
+        }
+    }
+    assert!(refused > 0 && sent > 0);
+}

@@ -1,4 +1,4 @@
-// A frame in, behind the gate: whose frame it is, one credit used, and the payload joined. Its
+// A frame in, behind the gate: the slot that its CID names is read, `slot_frame` does the frame's work on it and on its part of the room, and it is put back. Its
 // contract is the equation with the definition of that name, for every payload.
 ghost use mathlib.Core.Path.{_≡_};
 ghost use mathlib.Core.Bool.{true};
@@ -25,19 +25,8 @@ pub fn admitted(t: Table, room: &mut [u8], link: u16, cid: Cid, payload: &[u8]) 
     }
     let s = table::number(table::slot_of(cid));
     let x = table::slot_at(t, s);
-    let k = x.state;
-    if !table_state::is_connected(k) {
-        return table::done(t);
-    }
-    let account = x.account;
-    let stranger = x.link != link;
-    let no_credit = account.credits == 0;
-    if stranger {
-        return table::refused(t, Refusal::NotFound);
-    }
-    if no_credit {
-        return table::refused(t, Refusal::OutOfMemory);
-    }
-    let y = table_slot::with_account(x, credit_in_place::received_through(account, 1));
-    call_dispatch_join::join(t, room, s, y, payload)
+    let w = slot_frame::frame_at(room, t.d, t.m, s, x, link, payload);
+    let a = w.answer;
+    let y = w.slot;
+    table::changed(t, s, y, a, w.octets)
 }

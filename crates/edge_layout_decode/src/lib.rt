@@ -45,7 +45,7 @@ fn rows_spelled(t: &[u8]) -> bool
 }
 
 // Are they the spelling of the table that they say?
-fn spelled(t: &[u8]) -> bool
+pub fn spelled(t: &[u8]) -> bool
     requires { ⌜ tableOctets ≤ length (now t) ⌝ }
     ensures { λ r. ⌜ r ≡ spelled (now (t .entry)) ⌝ }
 {

@@ -24,9 +24,10 @@ use sar_join::Assembly;
 ghost use mathlib.Core.Path.{_≡_};
 ghost use Prim.Native.Nat.{_≤_, _<_};
 ghost use lib.ListN.{length};
+ghost use Rattle.octets.specs.Octets.{le16};
 ghost use Rattle.channel.specs.Limits.{slotsMost};
 ghost use Rattle.edge_layout.specs.Layout.{tableOctets, peerOctets, assemblyOctets, queueOctets, row};
-ghost use Rattle.edge_layout_write.specs.Puts.{puts};
+ghost use Rattle.edge_layout_write.specs.Puts.{puts, framedRow};
 
 fn put_peer(t: &mut [u8], i: usize, p: Peer)
     requires { ⌜ (tableOctets ≤ length (now t)) × (i < slotsMost) ⌝ }
@@ -36,6 +37,14 @@ fn put_peer(t: &mut [u8], i: usize, p: Peer)
     put_number(t, i, PEER_MPS, p.mps);
     put_number(t, i, PEER_MTU, p.mtu);
     put_number(t, i, PEER_CREDITS, p.credits);
+}
+
+// The peer's credits alone: what a send changes.
+pub fn put_peer_credits(t: &mut [u8], i: usize, credits: u16)
+    requires { ⌜ (tableOctets ≤ length (now t)) × (i < slotsMost) ⌝ }
+    ensures { λ _. ⌜ now (t .exit) ≡ puts (now (t .entry)) i 24 (le16 credits) ⌝ }
+{
+    put_number(t, i, PEER_CREDITS, credits);
 }
 
 fn put_assembly(t: &mut [u8], i: usize, a: Assembly)
@@ -71,6 +80,21 @@ pub fn put_slot(t: &mut [u8], i: usize, x: Slot)
     put_octet(t, i, HOLD, x.hold);
     let p = x.peer;
     put_peer(t, i, p);
+    let b = x.assembly;
+    put_assembly(t, i, b);
+    let q = x.queue;
+    put_queue(t, i, q);
+}
+
+// Writes of the slot what a frame can change: its state, its account, its assembly and the jobs that wait.
+pub fn put_framed(t: &mut [u8], i: usize, x: Slot)
+    requires { ⌜ (tableOctets ≤ length (now t)) × (i < slotsMost) ⌝ }
+    ensures { λ _. ⌜ now (t .exit) ≡ framedRow (now (t .entry)) i x ⌝ }
+{
+    let k = x.state;
+    put_state(t, i, k);
+    let a = x.account;
+    put_account(t, i, a);
     let b = x.assembly;
     put_assembly(t, i, b);
     let q = x.queue;

@@ -1,2 +1,0 @@
--- What a frame that has passed the first refusals decides.
-pub mod Admitted

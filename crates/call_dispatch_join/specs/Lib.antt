@@ -1,4 +1,0 @@
--- A frame joined in its slot's part of the room.
-pub mod Joins
--- A payload joined in its slot's part of the room.
-pub mod Moved

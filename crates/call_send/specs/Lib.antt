@@ -1,2 +1,0 @@
--- The frames of a send are those that are cut.
-pub mod Sent

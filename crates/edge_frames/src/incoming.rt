@@ -1,0 +1,84 @@
+// A frame in on a table's octets where they stand, behind refusal 1: the sizes read from line 0, the other first refusals, one row read, `slot_frame` done on it,
+// and the columns written that a frame can change. What is right stands in specs/Incoming.antt.
+use channel::Answer;
+use channel::CID_BASE;
+use channel::Cid;
+use channel::HANDLE_MOST;
+use codes::Refusal;
+ghost use mathlib.Core.Path.{_≡_};
+ghost use mathlib.Core.Bool.{true, _&&_};
+ghost use mathlib.Core.List.{[]};
+ghost use lib.Dec.{leb, ltb};
+ghost use lib.ListN.{length};
+ghost use Prim.Native.Nat.{_≤_, _<_};
+ghost use Rattle.channel.specs.Limits.{slotsMost, cidBase};
+ghost use Rattle.definition.specs.Table.{placeSize, slotOf};
+ghost use Rattle.table_room.specs.Placed.{Placed};
+ghost use Rattle.edge.specs.Edge.{edge};
+ghost use Rattle.edge_layout.specs.Layout.{tableOctets, cell, slotIn};
+ghost use Rattle.edge_scan.specs.Scan.{validOctets};
+ghost use Rattle.edge_frames.specs.Frames.{dispatchEdge};
+ghost use Rattle.edge_frames.specs.Incoming.{framedEdge};
+
+// Does the CID name one of n slots?
+fn names_slot(n: usize, cid: u16) -> bool
+    ensures { λ r. ⌜ r ≡ (leb cidBase cid && ltb (slotOf cid) n) ⌝ }
+{
+    if cid < CID_BASE {
+        return false;
+    }
+    ((cid - CID_BASE) as usize) < n
+}
+
+// A frame to slot s, whose part is in the room and whose row is in the table's octets.
+fn to_slot(
+    table: &mut [u8],
+    answer: &mut [u8],
+    room: &mut [u8],
+    d: usize,
+    m: usize,
+    s: usize,
+    link: u16,
+    payload: &[u8],
+) -> u32
+    requires { ⌜ (tableOctets ≤ length (now table)) × (s < slotsMost) × Placed d m s (length (now room)) × (slotIn (cell (now table) s) .assembly .have ≤ placeSize m) ⌝ }
+    ensures { λ r. ⌜ edge r (now (table .exit)) (now (answer .exit)) (now (room .exit)) [] [] ≡ framedEdge (now (table .entry)) (now (answer .entry)) (now (room .entry)) d m s link (now (payload .entry)) ⌝ }
+{
+    let x = edge_layout_read::slot_at(table, s);
+    let w = slot_frame::frame_at(room, d, m, s, x, link, payload);
+    let y = w.slot;
+    let a = w.answer;
+    edge_layout_write::put_framed(table, s, y);
+    edge_answer::put_answer(answer, a, w.octets)
+}
+
+// A frame on octets that are a well-formed table's.
+pub fn admitted(
+    table: &mut [u8],
+    answer: &mut [u8],
+    room: &mut [u8],
+    link: u16,
+    cid: u16,
+    payload: &[u8],
+) -> u32
+    requires { ⌜ validOctets (now table) ≡ true ⌝ }
+    ensures { λ r. ⌜ edge r (now (table .exit)) (now (answer .exit)) (now (room .exit)) [] [] ≡ dispatchEdge (now (table .entry)) (now (answer .entry)) (now (room .entry)) link cid (now (payload .entry)) ⌝ }
+{
+    let n = octets::octet(table, 1) as usize;
+    let d = octets::octet(table, 2) as usize;
+    let m = octets::number(table, 3) as usize;
+    let size = table_gate::room_size(n, d, m);
+    let other = room.len() != size;
+    let beyond = HANDLE_MOST < link as usize;
+    if other {
+        return edge_answer::put_answer(answer, Answer::Refused(Refusal::BadRoom), 0);
+    }
+    if beyond {
+        return edge_answer::put_answer(answer, Answer::Refused(Refusal::BadHandle), 0);
+    }
+    if !names_slot(n, cid) {
+        return edge_answer::put_answer(answer, Answer::Refused(Refusal::InvalidChannelId), 0);
+    }
+    let s = table_identifiers::number(table_identifiers::slot_of(Cid(cid)));
+    to_slot(table, answer, room, d, m, s, link, payload)
+}

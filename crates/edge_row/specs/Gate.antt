@@ -1,0 +1,140 @@
+-- The first refusals, told from the table's octets, and what stays then: for calls that don't read the whole table.
+use mathlib.Core.Path.{_≡_, refl, sym, ap, _∙_}
+use mathlib.Core.Bool.{Bool, true, false, false≢true, _&&_, not}
+use mathlib.Core.List.{List, []}
+use Prim.Native.Nat.{ℕ, _≤_}
+use native.Mathlib.Omega.{arith}
+use lib.Dec.{eqb, leb, ltb}
+use lib.ListN.{length, getD}
+use lib.Seq.{sets}
+use borrow.Author.Tests.{leb-true}
+use Rattle.lists.specs.Choose.{choose}
+use Rattle.lists.specs.Both.{and-left, and-right}
+use Rattle.lists.specs.Every.{every}
+use Rattle.octets.specs.Octets.{u16At}
+use Rattle.codes.specs.declared.Refusal.{Refusal}
+use Rattle.codes.specs.declared.Refusal.the-variants.{BadTable, BadRoom, NoRoom, BadHandle, BadSlot}
+use Rattle.channel.specs.Limits.{slotsMost, signalMost, handleMost}
+use Rattle.channel.specs.declared.Answer.{Answer}
+use Rattle.channel.specs.declared.Answer.the-variants.{Refused}
+use Rattle.channel.specs.declared.Given.{Given}
+use Rattle.channel.specs.declared.Given.the-variants.{Nothing, Is}
+use Rattle.channel.specs.declared.Table.{Table}
+use Rattle.channel.specs.declared.Verdict.{Verdict}
+use Rattle.channel.specs.declared.Verdict.the-variants.{Pass, Stop}
+use Rattle.channel_answer.specs.Tells.{tells, answerNumber}
+use Rattle.definition.specs.Table.{if_then_else_, placeOf, roomWidth, live, sizesFit, slotFits, wellFormed}
+use Rattle.definition.specs.Asking.{noSlots}
+use Rattle.definition.specs.Outcome.{Outcome, fails, verdict, passed, gate}
+use Rattle.definition.specs.Ending.{End, end, endOf, gave, end-still}
+use Rattle.edge_layout.specs.Layout.{tableOctets, taken, spell, same, read, written}
+use Rattle.edge_layout.specs.Back.{written-back}
+use Rattle.edge_answer.specs.Answers.{toldOctets, answerOctets}
+use Rattle.edge.specs.Edge.{Edge, edge, lifted, onTable}
+use Rattle.edge_scan.specs.Scan.{validOctets}
+use Rattle.edge_row.specs.Row.{octets-long, slots-told, depth-told, packet-told}
+
+-- the answer of a call that wrote n octets, over the start of the lent answer
+abbrev pub answered : (answer : List ℕ) → Answer → ℕ → List ℕ
+answered a x n = sets a 0 (toldOctets (tells x) n)
+
+-- A CALL THAT GIVES BACK THE TABLE THAT IT WAS GIVEN: the table's octets stay
+pub stays : (o a room out job : List ℕ) (call : Table → End) (x : Answer) (n : ℕ) → call (read o .table) ≡ end (gave x (read o .table) n) room out job
+    → edge (answerNumber x) o (answered a x n) room out job ≡ onTable o a call
+unfolding onTable lifted answerOctets
+stays o a room out job call x n e = rw (e, written-back o)
+
+-- A CALL THAT CHANGES IT: the octets are those of the table after it
+pub changes : (o a room out job : List ℕ) (call : Table → End) (x : Answer) (t : Table) (n : ℕ) {o′ : List ℕ} → read o .ok ≡ true → call (read o .table) ≡ end (gave x t n) room out job → o′ ≡ written o t
+    → edge (answerNumber x) o′ (answered a x n) room out job ≡ onTable o a call
+unfolding onTable lifted answerOctets choose
+changes o a room out job call x t n ok e w = rw (e, w, ok)
+
+-- a table of no slots stands for octets that are none
+not-ok : (o : List ℕ) → read o .ok ≡ false → read o .table ≡ noSlots
+unfolding read choose
+not-ok o e = go (same (spell (taken o)) o) refl
+  where
+    go : (b : Bool) → same (spell (taken o)) o ≡ b → read o .table ≡ noSlots
+    go true s = absurd (false≢true (sym (rw s at e)))
+    go false s = rw s
+
+no-slots : wellFormed noSlots ≡ false
+unfolding wellFormed
+no-slots = refl
+
+pub not-valid : (o : List ℕ) → validOctets o ≡ false → wellFormed (read o .table) ≡ false
+unfolding validOctets
+not-valid o e = go (read o .ok) refl
+  where
+    go : (b : Bool) → read o .ok ≡ b → wellFormed (read o .table) ≡ false
+    go true k = rw k at e
+    go false k = ap wellFormed (not-ok o k) ∙ no-slots
+
+pub valid-read : (o : List ℕ) → validOctets o ≡ true → read o .ok ≡ true
+unfolding validOctets
+valid-read o e = and-left (read o .ok) (wellFormed (read o .table)) e
+
+pub valid-formed : (o : List ℕ) → validOctets o ≡ true → wellFormed (read o .table) ≡ true
+unfolding validOctets
+valid-formed o e = and-right (read o .ok) (wellFormed (read o .table)) e
+
+-- they are as many as a table's, and their slots are at most the most
+pub valid-long : (o : List ℕ) → validOctets o ≡ true → length o ≡ tableOctets
+valid-long o e = octets-long o (valid-read o e)
+
+formed-slots : (t : Table) → wellFormed t ≡ true → t .n ≤ slotsMost
+unfolding wellFormed
+formed-slots t e =
+    let sizes = and-left (sizesFit (t .n) (t .d) (t .m)) (every (slotFits (t .d) (placeOf t)) (live t)) e in
+    leb-true (t .n) slotsMost (and-left (leb (t .n) slotsMost) _ (and-right (leb 1 (t .n)) _ sizes))
+
+pub valid-slots : (o : List ℕ) → validOctets o ≡ true → getD o 1 0 ≤ slotsMost
+valid-slots o e = omega (arith, formed-slots (read o .table) (valid-formed o e), slots-told o (valid-read o e))
+
+-- a call that the gate stops
+pub stopped : (o a room out job : List ℕ) (jobs : Table → List ℕ) (f : Table → Outcome) (roomed signal link slot : Given) (r : Refusal)
+    → verdict (read o .table) roomed signal link slot ≡ Stop r
+    → edge (answerNumber (Refused r)) o (answered a (Refused r) 0) room out job ≡ onTable o a (λ t. endOf t (jobs t) room out job (gate t roomed signal link slot (f t)))
+stopped o a room out job jobs f roomed signal link slot r e =
+    let t = read o .table in
+    stays o a room out job (λ t. endOf t (jobs t) room out job (gate t roomed signal link slot (f t))) (Refused r) 0
+    (ap (λ (v : Verdict). endOf t (jobs t) room out job (passed t v (f t))) e ∙ end-still t t (Refused r) (jobs t) room out job)
+
+-- REFUSAL 1
+pub refused-1 : (o : List ℕ) → validOctets o ≡ false → (roomed signal link slot : Given) → verdict (read o .table) roomed signal link slot ≡ Stop BadTable
+unfolding verdict choose
+refused-1 o e roomed signal link slot = rw (not-valid o e)
+
+-- the gate behind refusal 1, by the sizes alone, in its one order
+unfoldable pub sizedVerdict : (n d m : ℕ) (roomed signal link slot : Given) → Verdict
+sizedVerdict n d m roomed signal link slot =
+    if fails (λ size. not (eqb size (roomWidth n d m))) roomed then Stop BadRoom
+    else if fails (λ size. ltb size signalMost) signal then Stop NoRoom
+    else if fails (λ l. ltb handleMost l) link then Stop BadHandle
+    else if fails (λ s. leb n s) slot then Stop BadSlot
+    else Pass
+
+-- THE GATE, TOLD FROM THE OCTETS: the sizes stand in line 0
+pub verdict-told : (o : List ℕ) → validOctets o ≡ true → (roomed signal link slot : Given)
+    → verdict (read o .table) roomed signal link slot ≡ sizedVerdict (getD o 1 0) (getD o 2 0) (u16At o 3) roomed signal link slot
+unfolding verdict sizedVerdict choose
+verdict-told o e roomed signal link slot =
+    let ok = valid-read o e in
+    rw (valid-formed o e, slots-told o ok, depth-told o ok, packet-told o ok)
+
+-- of a call that is given a slot alone: refusal 6, or none
+sized-6 : (n d m slot : ℕ) → leb n slot ≡ true → sizedVerdict n d m Nothing Nothing Nothing (Is slot) ≡ Stop BadSlot
+unfolding sizedVerdict choose
+sized-6 n d m slot k = rw k
+
+sized-pass : (n d m slot : ℕ) → leb n slot ≡ false → sizedVerdict n d m Nothing Nothing Nothing (Is slot) ≡ Pass
+unfolding sizedVerdict choose
+sized-pass n d m slot k = rw k
+
+module _ (o : List ℕ) (e : validOctets o ≡ true) (slot : ℕ) where
+  pub refused-6 : leb (getD o 1 0) slot ≡ true → verdict (read o .table) Nothing Nothing Nothing (Is slot) ≡ Stop BadSlot
+  refused-6 k = verdict-told o e Nothing Nothing Nothing (Is slot) ∙ sized-6 (getD o 1 0) (getD o 2 0) (u16At o 3) slot k
+
+  pub passes-6 : leb (getD o 1 0) slot ≡ false → verdict (read o .table) Nothing Nothing Nothing (Is slot) ≡ Pass
+  passes-6 k = verdict-told o e Nothing Nothing Nothing (Is slot) ∙ sized-pass (getD o 1 0) (getD o 2 0) (u16At o 3) slot k

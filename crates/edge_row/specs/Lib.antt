@@ -1,0 +1,5 @@
+-- A call on a table's octets where they stand.
+pub mod Parts
+pub mod Row
+pub mod Gate
+pub mod Framed

@@ -1,0 +1,61 @@
+-- A send's work on one slot, put into the table, is what the definition's send leaves; and of the slot it changes the peer's credits alone.
+use mathlib.Core.Path.{_≡_, refl, sym, ap, _∙_}
+use mathlib.Core.Bool.{Bool, true, false, not}
+use mathlib.Core.List.{List, []}
+use Prim.Native.Nat.{ℕ}
+use lib.ListN.{length}
+use Rattle.lists.specs.Choose.{choose, if-cases}
+use Rattle.sar_cut.specs.declared.Plan.{Plan}
+use Rattle.sar_cut.specs.declared.Plan.the-variants as Plan
+use Rattle.sar_cut.specs.Cutting.{planSend}
+use Rattle.sar_cut.specs.CutLaws.{plan-allowed}
+use Rattle.codes.specs.declared.Refusal.{Refusal}
+use Rattle.channel.specs.declared.Answer.the-variants.{Refused}
+use Rattle.channel.specs.declared.Slot.{Slot}
+use Rattle.channel.specs.declared.Table.{Table}
+use Rattle.definition.specs.Table.{slotAt, putSlot, isConnected, withPeerCredits}
+use Rattle.definition.specs.Outcome.{refuse}
+use Rattle.definition.specs.Ending.{End, end, endOf, gave, end-still}
+use Rattle.definition.specs.Frames.{planned, sentOn}
+use Rattle.slot_work.specs.Work.{put-same}
+use Rattle.slot_send.specs.Sending.{Work, work, worked, plannedFrom, sentFrom}
+use Rattle.slot_send.specs.Sent.{sends}
+
+-- the work put into slot s of the table
+abbrev pub into : Table → (slot : ℕ) → Work → End
+into t s w = end (gave (w .gave .answer) (putSlot t s (w .gave .slot)) (w .gave .octets)) [] (w .out) []
+
+module _ (t : Table) (s : ℕ) (sdu out : List ℕ) where
+  refused-into : (r : Refusal) → endOf t sdu [] out [] (refuse t r) ≡ into t s (work (worked (Refused r) (slotAt t s) 0) out)
+  refused-into r = end-still t t (Refused r) sdu [] out [] ∙ ap (λ (u : Table). end (gave (Refused r) u 0) [] out []) (sym (put-same t s))
+
+  planned-into : (p : Plan) → planSend (length sdu) (slotAt t s .peer .mtu) (slotAt t s .peer .mps) (slotAt t s .peer .credits) (length out) ≡ p
+      → endOf t sdu [] out [] (planned t s (slotAt t s) (length sdu) p) ≡ into t s (plannedFrom (slotAt t s) sdu out p)
+  unfolding planned plannedFrom
+  planned-into (Plan.Refused r) e = refused-into r
+  planned-into (Plan.Frames n octets) e =
+      let x = slotAt t s in
+      sym (sends t s x sdu out (plan-allowed (length sdu) (x .peer .mtu) (x .peer .mps) (x .peer .credits) (length out) n octets e) refl refl)
+
+  -- THE WORK ON THE SLOT IS THE DEFINITION'S SEND
+  pub sent-into : endOf t sdu [] out [] (sentOn t s (length sdu) (length out)) ≡ into t s (sentFrom (slotAt t s) sdu out)
+  unfolding sentFrom choose
+  sent-into = go (not (isConnected (slotAt t s .state))) refl
+    where
+      go : (b : Bool) → not (isConnected (slotAt t s .state)) ≡ b → endOf t sdu [] out [] (sentOn t s (length sdu) (length out)) ≡ into t s (sentFrom (slotAt t s) sdu out)
+      go true e = rw e (refused-into _)
+      go false e = rw e (planned-into _ refl)
+
+-- of a slot a send changes the peer's credits alone
+planned-credits : (x : Slot) (sdu out : List ℕ) (p : Plan) → plannedFrom x sdu out p .gave .slot ≡ withPeerCredits (plannedFrom x sdu out p .gave .slot .peer .credits) x
+unfolding plannedFrom
+planned-credits x sdu out (Plan.Refused r) = refl
+planned-credits x sdu out (Plan.Frames n octets) = refl
+
+pub credits-alone : (x : Slot) (sdu out : List ℕ) → sentFrom x sdu out .gave .slot ≡ withPeerCredits (sentFrom x sdu out .gave .slot .peer .credits) x
+unfolding sentFrom choose
+credits-alone x sdu out = go (not (isConnected (x .state))) refl
+  where
+    go : (b : Bool) → not (isConnected (x .state)) ≡ b → sentFrom x sdu out .gave .slot ≡ withPeerCredits (sentFrom x sdu out .gave .slot .peer .credits) x
+    go true e = rw e
+    go false e = rw e (planned-credits x sdu out (planSend (length sdu) (x .peer .mtu) (x .peer .mps) (x .peer .credits) (length out)))

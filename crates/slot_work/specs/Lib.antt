@@ -1,0 +1,2 @@
+-- What a call makes of one slot.
+pub mod Work

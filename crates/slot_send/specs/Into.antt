@@ -5,7 +5,7 @@ use mathlib.Core.List.{List, []}
 use Prim.Native.Nat.{ℕ}
 use lib.ListN.{length}
 use lib.Seq.{set-getD}
-use Rattle.lists.specs.Choose.{choose, if-cases}
+use Rattle.lists.specs.Choose.{choose}
 use Rattle.sar_cut.specs.declared.Plan.{Plan}
 use Rattle.sar_cut.specs.declared.Plan.the-variants as Plan
 use Rattle.sar_cut.specs.Cutting.{planSend}

@@ -177,3 +177,29 @@ fn a_send_refuses_the_same() {
     }
     assert!(refused > 0 && sent > 0);
 }
+
+/// A frame in tests the octets in the same pass, and of its slot it changes state, account, assembly and queue alone.
+#[test]
+fn a_frame_refuses_the_same() {
+    let (busy, room) = busy();
+    let full = full();
+    let (mut refused, mut changed) = (0, 0);
+    for (place, change) in (0..TABLE_OCTETS).flat_map(|place| (0..=255).map(move |change| (place, change))) {
+        for mut octets in [busy, full] {
+            octets[place] ^= change;
+            let mut its_room = room.clone();
+            let mut channels = ChannelManager::from_parts(Table::from_octets(octets), &mut its_room);
+            let bad = channels.attention() == Err(Refusal::BadTable);
+            let answer = channels.dispatch(PHONE, SLOT.cid(), &[5]);
+            assert_eq!(answer == Err(Refusal::BadTable), bad, "octet {place} with {change:#x}");
+            refused += u32::from(bad);
+            changed += u32::from(channels.table().octets() != &octets);
+            for column in (0..=1).chain(10..=16).chain(26..=38).filter(|_| !bad) {
+                octets[cell(0, column)] = channels.table().octets()[cell(0, column)];
+            }
+            assert!(channels.table().octets() == &octets, "octet {place} with {change:#x}");
+            assert!(!bad || channels.room() == room);
+        }
+    }
+    assert!(refused > 0 && changed > 0);
+}

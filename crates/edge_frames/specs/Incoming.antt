@@ -26,14 +26,14 @@ use Rattle.channel.specs.declared.Verdict.the-variants.{Pass, Stop}
 use Rattle.channel_answer.specs.Tells.{answerNumber}
 use Rattle.definition.specs.Mem.{sizes, parts}
 use Rattle.definition.specs.Table.{placeSize, partWidth, roomWidth, roomSize, placeOf, slotAt, slotOf, isCid, isConnected, withAccount, putSlot}
-use Rattle.definition.specs.Outcome.{Outcome, verdict, passed, only}
-use Rattle.definition.specs.Ending.{End, itself, end, endOf, gave, written-none}
+use Rattle.definition.specs.Outcome.{verdict, passed, only}
+use Rattle.definition.specs.Ending.{itself, end, endOf, gave, written-none}
 use Rattle.definition.specs.Frames.{dispatch, admitted}
 use Rattle.definition.specs.Calls.{frame, headOf, jobs, frameIn}
 use Rattle.definition.specs.Tells.{cid-within}
 use Rattle.table_gate_sizes.specs.Sizes.{Sized, formed-sizes}
 use Rattle.table_gate.specs.Fits.{have-fits}
-use Rattle.table_room.specs.Placed.{Placed, RoomOf, placed}
+use Rattle.table_room.specs.Placed.{Placed, placed}
 use Rattle.slot_work.specs.Work.{Work, workedOf, works-in}
 use Rattle.slot_frame.specs.FrameIn.{joinedTo, frameOf}
 use Rattle.slot_frame.specs.Admitted.{frame-quiet, frame-admitted, frame-astray}

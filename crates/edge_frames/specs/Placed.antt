@@ -1,5 +1,5 @@
 -- A send on the table's octets where they stand: one row read, the work on its slot, and the peer's credits written.
-use mathlib.Core.Path.{_≡_, refl, sym, ap, _∙_}
+use mathlib.Core.Path.{_≡_, sym, ap, _∙_}
 use mathlib.Core.Bool.{true, false}
 use mathlib.Core.List.{List, []}
 use Prim.Native.Nat.{ℕ, _<_}
@@ -13,13 +13,12 @@ use Rattle.channel.specs.Limits.{slotsMost}
 use Rattle.channel.specs.declared.Answer.the-variants.{Refused}
 use Rattle.channel.specs.declared.Given.the-variants.{Nothing, Is}
 use Rattle.channel.specs.declared.Slot.{Slot}
-use Rattle.channel.specs.declared.Table.{Table}
 use Rattle.channel.specs.declared.Verdict.{Verdict}
 use Rattle.channel.specs.declared.Verdict.the-variants.{Stop}
 use Rattle.channel_answer.specs.Tells.{answerNumber}
 use Rattle.definition.specs.Table.{slotAt, putSlot, withPeerCredits}
 use Rattle.definition.specs.Outcome.{verdict, passed}
-use Rattle.definition.specs.Ending.{End, endOf}
+use Rattle.definition.specs.Ending.{endOf}
 use Rattle.definition.specs.Frames.{send, sentOn}
 use Rattle.edge_layout.specs.Layout.{cell, slotIn, read, written}
 use Rattle.edge_layout_write.specs.Puts.{puts}

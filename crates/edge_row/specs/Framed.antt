@@ -1,10 +1,10 @@
 -- A slot that a frame has changed, in its table's octets: its state, its account, its assembly and the jobs that wait are written, and that is its whole row.
-use mathlib.Core.Path.{_≡_, refl, sym, ap, _∙_}
+use mathlib.Core.Path.{_≡_, sym, ap, _∙_}
 use mathlib.Core.Bool.{true}
-use mathlib.Core.List.{List, [], _∷_, _++_}
+use mathlib.Core.List.{List, _∷_, _++_}
 use Prim.Native.Nat.{ℕ, _+_, _<_}
 use native.Mathlib.Omega.{arith}
-use lib.ListN.{length, getD, List·getD-append}
+use lib.ListN.{getD, List·getD-append}
 use lib.Seq.{getD-drop}
 use Rattle.channel.specs.Limits.{slotsMost}
 use Rattle.channel.specs.declared.Slot.{Slot}

@@ -1,7 +1,7 @@
 -- The first refusals, told from the table's octets, and what stays then: for calls that don't read the whole table.
 use mathlib.Core.Path.{_≡_, refl, sym, ap, _∙_}
-use mathlib.Core.Bool.{Bool, true, false, false≢true, _&&_, not}
-use mathlib.Core.List.{List, []}
+use mathlib.Core.Bool.{Bool, true, false, false≢true, not}
+use mathlib.Core.List.{List}
 use Prim.Native.Nat.{ℕ, _≤_}
 use native.Mathlib.Omega.{arith}
 use lib.Dec.{eqb, leb, ltb}
@@ -30,7 +30,7 @@ use Rattle.definition.specs.Ending.{End, end, endOf, gave, end-still}
 use Rattle.edge_layout.specs.Layout.{tableOctets, taken, spell, same, read, written}
 use Rattle.edge_layout.specs.Back.{written-back}
 use Rattle.edge_answer.specs.Answers.{toldOctets, answerOctets}
-use Rattle.edge.specs.Edge.{Edge, edge, lifted, onTable}
+use Rattle.edge.specs.Edge.{edge, lifted, onTable}
 use Rattle.edge_scan.specs.Scan.{validOctets}
 use Rattle.edge_row.specs.Row.{octets-long, slots-told, depth-told, packet-told}
 

@@ -1,13 +1,12 @@
 -- Octets written into a row that holds some of them already: what it holds need not be written.
 use mathlib.Core.Path.{_≡_, refl, sym, ap, _∙_}
 use mathlib.Core.List.{List, [], _∷_, _++_}
-use Prim.Native.Nat.{ℕ, zero, suc, _+_, _-_, _*_, _≤_, _<_}
+use Prim.Native.Nat.{ℕ, suc, _+_, _-_, _≤_, _<_}
 use native.Mathlib.Nat.{add-zero, zero-add}
 use native.Mathlib.Omega.{arith}
 use lib.ListN.{length, getD, set, take, drop, length-drop}
 use lib.Seq.{set-getD, getD-take, getD-drop, length-take-le}
-use Rattle.channel.specs.Limits.{slotsMost}
-use Rattle.edge_layout.specs.Layout.{headOctets, cell}
+use Rattle.edge_layout.specs.Layout.{cell}
 use Rattle.edge_layout_write.specs.Puts.{puts}
 use Rattle.edge_layout_write.specs.Cells.{place, puts-other}
 

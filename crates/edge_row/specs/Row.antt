@@ -1,13 +1,13 @@
 -- A table's octets with one row written are the spelling of the table with that slot put; and the row says that slot.
 use mathlib.Core.Path.{_≡_, refl, sym, ap, _∙_}
 use mathlib.Core.Bool.{Bool, true, false, false≢true}
-use mathlib.Core.List.{List, [], _∷_, _++_}
-use Prim.Native.Nat.{ℕ, suc, _+_, _-_, _*_, _/_, _%_, _≤_, _<_, min}
+use mathlib.Core.List.{List, _++_}
+use Prim.Native.Nat.{ℕ, _+_, _-_, _/_, _%_, _≤_, _<_, min}
 use native.Mathlib.Nat.{zero-add}
 use native.Mathlib.Omega.{arith}
 use lib.Dec.{eqb, ltb}
 use lib.ListN.{length, getD, set, take, drop, length-set, length-take, length-drop, List·getD-append}
-use lib.Seq.{sets, ext-getD, getD-set-same, getD-set-other}
+use lib.Seq.{ext-getD, getD-set-same, getD-set-other}
 use borrow.Author.Tests.{eqb-true, eqb-false, ltb-true, ltb-false, le-ltb}
 use Rattle.lists.specs.Choose.{choose}
 use Rattle.octets.specs.Octets.{le16, u16At}
@@ -16,8 +16,7 @@ use Rattle.channel.specs.Limits.{slotsMost}
 use Rattle.channel.specs.declared.Slot.{Slot}
 use Rattle.channel.specs.declared.Table.{Table}
 use Rattle.definition.specs.Table.{gap, slotAt, putSlot, withPeerCredits}
-use Rattle.edge_layout.specs.declared.Decoded.{Decoded}
-use Rattle.edge_layout.specs.Layout.{headOctets, spsmOctets, columnCount, tableOctets, row, tabulate, head, columns, spell, cell, slotIn, taken, same, read, written}
+use Rattle.edge_layout.specs.Layout.{headOctets, spsmOctets, columnCount, tableOctets, row, head, columns, spell, cell, slotIn, taken, same, read, written}
 use Rattle.edge_layout.specs.Rows.{row-length}
 use Rattle.edge_layout.specs.Columns.{tabulate-length, tabulate-at, head-length, spell-length, cell-at}
 use Rattle.edge_layout.specs.Back.{one-spelling}

@@ -8,19 +8,17 @@ use lib.Dec.{eqb, leb, ltb}
 use lib.ListN.{length, getD, take, length-take}
 use lib.Seq.{getD-take, take-nil}
 use borrow.Author.Tests.{eqb-true, eqb-false, le-leb, lt-leb, ltb-true, ltb-false, leb-true, leb-false}
-use Rattle.lists.specs.Both.{and-left, and-right, and-both, false-unless}
+use Rattle.lists.specs.Both.{and-both}
 use Rattle.lists.specs.Every.{every, every-passes}
 use Rattle.octets.specs.Octets.{u16At}
 use Rattle.channel.specs.Limits.{slotsMost}
-use Rattle.channel.specs.declared.Slot.{Slot}
-use Rattle.channel.specs.declared.Table.{Table}
-use Rattle.definition.specs.Table.{fresh, placeSize, placeOf, live, sizesFit, slotFits, wellFormed}
+use Rattle.definition.specs.Table.{fresh, placeSize, slotFits, wellFormed}
 use Rattle.edge_layout.specs.declared.Decoded.{Decoded}
 use Rattle.edge_layout.specs.Layout.{headOctets, tableOctets, tabulate, cell, slotIn, taken, read}
 use Rattle.edge_layout.specs.Spelled.{allBelow}
 use Rattle.edge_layout.specs.Columns.{tabulate-length, tabulate-at}
 use Rattle.edge_layout_decode.specs.Loops.{all-below, all-each}
-use Rattle.edge_layout_decode.specs.Whole.{spelled, notRead, read-passes, read-fails, read-other}
+use Rattle.edge_layout_decode.specs.Whole.{spelled, read-passes, read-fails, read-other}
 use Rattle.edge_scan.specs.Scan.{mostOf, rowFits, rowPasses, scanned, validOctets}
 
 -- ---- a number told octet by octet

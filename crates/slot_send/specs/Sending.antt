@@ -4,7 +4,6 @@ use mathlib.Core.List.{List}
 use Prim.Native.Nat.{ℕ, _-_}
 use lib.ListN.{length}
 use lib.Seq.{sets}
-use Rattle.lists.specs.Choose.{choose}
 use Rattle.codes.specs.declared.Refusal.the-variants.{ChannelClosed}
 use Rattle.sar_cut.specs.declared.Plan.{Plan}
 use Rattle.sar_cut.specs.declared.Plan.the-variants as Plan

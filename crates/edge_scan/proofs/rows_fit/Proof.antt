@@ -1,9 +1,7 @@
 -- `edge_scan::rows_fit` meets its contract: the rows below i are tested (Held).
 use mathlib.Core.Path.{_≡_}
-use mathlib.Core.Bool.{_||_}
 use Prim.Native.Nat.{_≤_, _-_}
 use native.Mathlib.Omega.{arith}
-use lib.Dec.{leb}
 use borrow.Author.Needs.{needs}
 use Rattle.channel.specs.Limits.{slotsMost}
 use Rattle.edge_layout_decode.specs.Loops.{Held, held-none, held-more}

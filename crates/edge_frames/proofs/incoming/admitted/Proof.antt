@@ -8,7 +8,7 @@ use borrow.Author.Tests.{not-true, not-false}
 use Rattle.octets.specs.Octets.{u16At}
 use Rattle.codes.specs.declared.Refusal.the-variants.{BadRoom, BadHandle}
 use Rattle.channel.specs.declared.ChannelIndex.{ChannelIndex}
-use Rattle.definition.specs.Table.{roomWidth, slotOf, isCid}
+use Rattle.definition.specs.Table.{roomWidth, isCid}
 use Rattle.edge_layout.specs.Layout.{read}
 use Rattle.edge_row.specs.Gate.{valid-long}
 use Rattle.edge_frames.specs.Incoming.{sized-told, refused-2, refused-4, frame-stopped, cid-told, refused-7, row-low, part-placed, have-placed, frame-placed}

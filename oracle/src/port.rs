@@ -38,6 +38,8 @@ impl Port for Program {
             .args(words)
             .stdin(Stdio::piped())
             .stdout(Stdio::piped())
+            // there `chanrun` says what is wrong with lines that can't be read, which the scripts have on purpose
+            .stderr(Stdio::null())
             .spawn()
             .map_err(|error| format!("{program}: {error}"))?;
         let mut input = child.stdin.take().expect("piped");

@@ -256,9 +256,9 @@ impl<'a> Words<'a> {
     }
 
     fn flag(&mut self, name: &'static str) -> Result<bool, Wrong> {
-        self.word(name, FLAG, |word| match word {
-            "0" => Some(false),
-            "1" => Some(true),
+        self.word(name, FLAG, |word| match number(word)? {
+            0 => Some(false),
+            1 => Some(true),
             _ => None,
         })
     }
@@ -431,6 +431,7 @@ mod tests {
             assert!(matches!(Call::parse(line), Call::Unread(_)), "{line}");
         }
         assert_eq!(Call::parse("R 00128"), Call::Register { spsm: 128 });
+        assert_eq!(Call::parse("P 1 01"), Call::NextPending { link: 1, up: true });
     }
 
     #[test]

@@ -1,5 +1,5 @@
 // A frame in on a table's octets where they stand, behind refusal 1: the sizes read from line 0, the other first refusals, one row read, `slot_frame` done on it,
-// and the columns written that a frame can change. What is right stands in specs/Incoming.antt.
+// and the columns written that a frame can change. What is right stands in specs/Incoming.antt of `edge_placed`.
 use channel::Answer;
 use channel::CID_BASE;
 use channel::Cid;
@@ -8,17 +8,18 @@ use codes::Refusal;
 ghost use mathlib.Core.Path.{_≡_};
 ghost use mathlib.Core.Bool.{true, _&&_};
 ghost use mathlib.Core.List.{[]};
-ghost use lib.Dec.{leb, ltb};
-ghost use lib.ListN.{length};
+ghost use lib.Dec.{eqb, leb, ltb};
+ghost use lib.ListN.{length, getD};
 ghost use Prim.Native.Nat.{_≤_, _<_};
 ghost use Rattle.channel.specs.Limits.{slotsMost, cidBase};
-ghost use Rattle.definition.specs.Table.{placeSize, slotOf};
+ghost use Rattle.octets.specs.Octets.{u16At};
+ghost use Rattle.definition.specs.Table.{placeSize, roomWidth, slotOf};
 ghost use Rattle.table_room.specs.Placed.{Placed};
 ghost use Rattle.edge.specs.Edge.{edge};
 ghost use Rattle.edge_layout.specs.Layout.{tableOctets, cell, slotIn};
 ghost use Rattle.edge_scan.specs.Scan.{validOctets};
-ghost use Rattle.edge_frames.specs.Frames.{dispatchEdge};
-ghost use Rattle.edge_frames.specs.Incoming.{framedEdge};
+ghost use Rattle.edge_placed.specs.Frames.{dispatchEdge};
+ghost use Rattle.edge_placed.specs.Incoming.{framedEdge};
 
 // Does the CID name one of n slots?
 fn names_slot(n: usize, cid: u16) -> bool
@@ -52,6 +53,17 @@ fn to_slot(
     edge_answer::put_answer(answer, a, w.octets)
 }
 
+// Has the room as many octets as the sizes in line 0 say? (Of a well-formed table.)
+pub fn room_fits(table: &[u8], long: usize) -> bool
+    requires { ⌜ validOctets (now table) ≡ true ⌝ }
+    ensures { λ r. ⌜ r ≡ eqb long (roomWidth (getD (now (table .entry)) 1 0) (getD (now (table .entry)) 2 0) (u16At (now (table .entry)) 3)) ⌝ }
+{
+    let n = octets::octet(table, 1) as usize;
+    let d = octets::octet(table, 2) as usize;
+    let m = octets::number(table, 3) as usize;
+    long == table_gate::room_size(n, d, m)
+}
+
 // A frame on octets that are a well-formed table's.
 pub fn admitted(
     table: &mut [u8],
@@ -67,10 +79,8 @@ pub fn admitted(
     let n = octets::octet(table, 1) as usize;
     let d = octets::octet(table, 2) as usize;
     let m = octets::number(table, 3) as usize;
-    let size = table_gate::room_size(n, d, m);
-    let other = room.len() != size;
     let beyond = HANDLE_MOST < link as usize;
-    if other {
+    if !room_fits(table, room.len()) {
         return edge_answer::put_answer(answer, Answer::Refused(Refusal::BadRoom), 0);
     }
     if beyond {

@@ -1,6 +1,7 @@
-// Frames and jobs, each on octets. Each is defined in specs/Frames.antt, by the call's own definition lifted through the two layouts. A frame in and a send work where the octets stand
-// (`incoming`, specs/Incoming.antt; specs/Placed.antt); of a take the table is read, the call made, the table and the answer written back. The exported names are in `entries`.
-mod incoming;
+// Frames and jobs, each on octets. Each is defined in specs/Frames.antt of `edge_placed`, by the call's own definition lifted through the two layouts. A frame in and a send work where the octets stand
+// (`incoming`, `outgoing`); of a take the table is read, the call made, the table and the answer written back. The exported names are in `entries`.
+pub mod incoming;
+pub mod outgoing;
 
 use channel::Answer;
 use channel::ChannelIndex;
@@ -8,7 +9,7 @@ use codes::Refusal;
 ghost use mathlib.Core.Path.{_≡_};
 ghost use mathlib.Core.List.{[]};
 ghost use Rattle.edge.specs.Edge.{edge};
-ghost use Rattle.edge_frames.specs.Frames.{dispatchEdge, sendEdge, receiveEdge};
+ghost use Rattle.edge_placed.specs.Frames.{dispatchEdge, sendEdge, receiveEdge};
 
 // A frame that came in. One row is read, and only the columns that a frame can change are written: the rest of it stays, and other rows.
 pub fn dispatch(
@@ -34,15 +35,8 @@ pub fn send(table: &mut [u8], answer: &mut [u8], out: &mut [u8], slot: u8, sdu: 
     if !edge_scan::valid(table) {
         return edge_answer::put_answer(answer, Answer::Refused(Refusal::BadTable), 0);
     }
-    if table[1] <= slot {
-        return edge_answer::put_answer(answer, Answer::Refused(Refusal::BadSlot), 0);
-    }
-    let x = edge_layout_read::slot_at(table, slot as usize);
-    let w = slot_send::send_from(x, sdu, out);
-    let y = w.slot;
-    let a = w.answer;
-    edge_layout_write::put_peer_credits(table, slot as usize, y.peer.credits);
-    edge_answer::put_answer(answer, a, w.octets)
+    let r = outgoing::sent(table, answer, out, slot, sdu);
+    r.number
 }
 
 // Takes the oldest job that waits in a slot.

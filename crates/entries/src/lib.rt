@@ -11,8 +11,11 @@ ghost use Rattle.edge_opening.specs.Opening.{createEdge, openedEdge, giveUpEdge
 ghost use Rattle.edge_pending.specs.Pending.{nextPendingEdge, acceptPendingEdge, rejectPendingEdge, rejectAllPendingEdge, dropPendingEdge};
 ghost use Rattle.edge_closing.specs.Holding.{incRefEdge, decRefEdge};
 ghost use Rattle.edge_closing.specs.Closing.{disconnectEdge, disconnectByCidEdge, disconnectedEdge, nextDisconnectEdge};
-ghost use Rattle.edge_frames.specs.Frames.{dispatchEdge, sendEdge, receiveEdge};
+ghost use Rattle.edge_placed.specs.Frames.{dispatchEdge, sendEdge, receiveEdge};
 ghost use Rattle.edge_signals.specs.Signals.{signalEdge};
+ghost use Rattle.edge_run.specs.Run.{runEdge};
+ghost use Rattle.edge_dispatch_run.specs.Frames.{dispatchRunEdge};
+ghost use Rattle.edge_send_run.specs.Jobs.{sendRunEdge};
 
 // Makes a table of n slots, depth d and packets of m octets, and zeroes its room. Table octets of another length are refused by 1.
 #[no_mangle]
@@ -359,6 +362,34 @@ pub extern "C" fn l2cap_send(
     ensures { λ r. ⌜ edge r (now (table .exit)) (now (answer .exit)) [] (now (out .exit)) [] ≡ sendEdge (now (table .entry)) (now (answer .entry)) (now (out .entry)) slot (now (sdu .entry)) ⌝ }
 {
     edge_frames::send(table, answer, out, slot, sdu)
+}
+
+// Frames that came in, one after the other: link, CID, length, payload.
+#[no_mangle]
+pub extern "C" fn l2cap_dispatch_run(
+    table: &mut [u8],
+    answer: &mut [u8],
+    room: &mut [u8],
+    frames: &[u8],
+    answers: &mut [u8],
+) -> u32
+    ensures { λ r. ⌜ runEdge r (now (table .exit)) (now (answer .exit)) (now (room .exit)) [] (now (answers .exit)) ≡ dispatchRunEdge (now (table .entry)) (now (answer .entry)) (now (room .entry)) (now (frames .entry)) (now (answers .entry)) ⌝ }
+{
+    edge_dispatch_run::dispatch_run(table, answer, room, frames, answers)
+}
+
+// Jobs that go out, one after the other: slot, length, octets.
+#[no_mangle]
+pub extern "C" fn l2cap_send_run(
+    table: &mut [u8],
+    answer: &mut [u8],
+    out: &mut [u8],
+    jobs: &[u8],
+    answers: &mut [u8],
+) -> u32
+    ensures { λ r. ⌜ runEdge r (now (table .exit)) (now (answer .exit)) [] (now (out .exit)) (now (answers .exit)) ≡ sendRunEdge (now (table .entry)) (now (answer .entry)) (now (out .entry)) (now (jobs .entry)) (now (answers .entry)) ⌝ }
+{
+    edge_send_run::send_run(table, answer, out, jobs, answers)
 }
 
 // Takes the oldest job that waits in a slot.

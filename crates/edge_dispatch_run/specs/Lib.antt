@@ -1,0 +1,2 @@
+-- What a run of frames leaves.
+pub mod Frames

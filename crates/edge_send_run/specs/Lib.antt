@@ -1,0 +1,2 @@
+-- What a run of jobs leaves.
+pub mod Jobs

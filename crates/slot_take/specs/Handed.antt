@@ -23,7 +23,7 @@ use Rattle.definition.specs.Frames.{shifted, upwards, oldest, copied, crediting
 use Rattle.table_endings.specs.Reply.{Replied}
 use Rattle.slot_work.specs.declared.Worked.{Worked}
 use Rattle.slot_work.specs.Work.{worked}
-use Rattle.slot_take.specs.Taking.{Take, keeps, handOf, grantedOf, Took}
+use Rattle.slot_take.specs.Taking.{keeps, handOf, grantedOf, Took}
 
 -- a queue of four lengths without its oldest
 pub shifted-four : (xs : List ℕ) → length xs ≡ 4 → getD xs 1 0 ∷ getD xs 2 0 ∷ getD xs 3 0 ∷ 0 ∷ [] ≡ drop 1 xs ++ (0 ∷ [])

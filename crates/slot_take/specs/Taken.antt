@@ -1,11 +1,11 @@
 -- A take that has passed the first refusals: what the definition has for the table is the work on its slot (Taking.antt), put into the table.
-use mathlib.Core.Path.{_≡_, refl, sym, ap, _∙_}
+use mathlib.Core.Path.{_≡_, refl, ap, _∙_}
 use mathlib.Core.Bool.{Bool, true, false}
 use mathlib.Core.List.{List, [], _∷_}
 use Prim.Native.Nat.{ℕ}
 use lib.Dec.{eqb}
 use lib.ListN.{length}
-use Rattle.lists.specs.Choose.{choose}
+use Rattle.lists.specs.Choose.{choose, if-cases}
 use Rattle.codes.specs.declared.Refusal.the-variants.{ChannelClosed}
 use Rattle.credit.specs.declared.Grant.{Grant}
 use Rattle.credit.specs.declared.Grant.the-variants as Grant
@@ -16,7 +16,7 @@ use Rattle.channel.specs.declared.Served.{Served}
 use Rattle.channel.specs.declared.Slot.{Slot}
 use Rattle.channel.specs.declared.Table.{Table}
 use Rattle.definition.specs.Mem.{given, size, sizes}
-use Rattle.definition.specs.Table.{width, slotAt, putSlot, nextId}
+use Rattle.definition.specs.Table.{width, slotAt, putSlot, nextId, withAccount, withQueue}
 use Rattle.definition.specs.Outcome.{Outcome, refuse, done}
 use Rattle.definition.specs.Ending.{end, endOf, gave}
 use Rattle.definition.specs.Frames.{crediting, grantIn, closed, taken, takenOn}
@@ -64,3 +64,18 @@ pub takes-in : (t : Table) (s : ℕ) {x : Slot} {id : ℕ} (room out job : List 
     → Took (width t) s (takeOf (t .d) (t .m) s id x (length job)) room out job r room′ out′ job′
     → end v room′ out′ job′ ≡ endOf t [] room out job (takenOn t s (length job))
 takes-in t s room out job e i p h = put-in t s (takeOf (t .d) (t .m) s (nextId t) (slotAt t s) (length job)) room out job p (rw (e, i) at h) ∙ take-in t s room out job
+
+-- ---- of a slot a take changes account and queue alone
+
+abbrev Alone : Slot → Take → Type 0
+Alone x k = k .work .slot ≡ withQueue (k .work .slot .queue) (withAccount (k .work .slot .account) x)
+
+granted-alone : (d m s id : ℕ) (x : Slot) (size : ℕ) (g : Grant) → Alone x (grantedOf d m s id x size g)
+unfolding grantedOf
+granted-alone d m s id x size Grant.Nothing = refl
+granted-alone d m s id x size (Grant.Credits n) = refl
+
+pub take-alone : (d m s id : ℕ) (x : Slot) (size : ℕ) → Alone x (takeOf d m s id x size)
+unfolding takeOf
+take-alone d m s id x size =
+    if-cases (Alone x) (closed (x .state)) (λ _. refl) (λ _. if-cases (Alone x) (eqb (x .queue .count) 0) (λ _. refl) (λ _. granted-alone d m s id x size (grantIn x)))

@@ -4,7 +4,6 @@ use mathlib.Core.Path.{_≡_}
 use mathlib.Core.List.{List, [], _∷_}
 use Prim.Native.Nat.{ℕ, _+_, _*_}
 use lib.Dec.{eqb}
-use lib.ListN.{length}
 use Rattle.lists.specs.Choose.{choose}
 use Rattle.codes.specs.declared.Refusal.the-variants.{ChannelClosed}
 use Rattle.credit.specs.declared.Grant.{Grant}

@@ -2,7 +2,7 @@
 -- identifier, which a signal uses.
 use mathlib.Core.Path.{_≡_, refl, sym, ap, _∙_}
 use mathlib.Core.Bool.{true}
-use mathlib.Core.List.{List, _++_}
+use mathlib.Core.List.{List}
 use Prim.Native.Nat.{ℕ, _+_, _<_}
 use native.Mathlib.Nat.{zero-add}
 use native.Mathlib.Omega.{arith}
@@ -18,7 +18,7 @@ use Rattle.edge_layout_write.specs.Puts.{puts, framedRow, takenRow}
 use Rattle.edge_layout_write.specs.Cells.{place, puts-other}
 use Rattle.edge_row.specs.Parts.{puts-held}
 use Rattle.edge_row.specs.Row.{holds}
-use Rattle.edge_row.specs.Framed.{localOf, framed-written}
+use Rattle.edge_row.specs.Framed.{framed-written}
 
 state-cells : (x : Slot) (e : ℕ) → e < 2 → getD (row x) (0 + e) 0 ≡ getD (stateOctets (x .state)) e 0
 unfolding row

@@ -1,10 +1,10 @@
-// Frames and jobs, each on octets. Each is defined in specs/Frames.antt of `edge_placed`, by the call's own definition lifted through the two layouts. A frame in and a send work where the octets stand
-// (`incoming`, `outgoing`); of a take the table is read, the call made, the table and the answer written back. The exported names are in `entries`.
+// Frames and jobs, each on octets. Each is defined in specs/Frames.antt of `edge_placed`, by the call's own definition lifted through the two layouts. Each works where the octets stand: a frame in
+// by `incoming`, a send by `outgoing`, a take by `taking`. The exported names are in `entries`.
 pub mod incoming;
 pub mod outgoing;
+mod taking;
 
 use channel::Answer;
-use channel::ChannelIndex;
 use codes::Refusal;
 ghost use mathlib.Core.Path.{_≡_};
 ghost use mathlib.Core.List.{[]};
@@ -39,7 +39,7 @@ pub fn send(table: &mut [u8], answer: &mut [u8], out: &mut [u8], slot: u8, sdu: 
     r.number
 }
 
-// Takes the oldest job that waits in a slot.
+// Takes the oldest job that waits in a slot. One row is read, and only its account, its queue and the table's next identifier are written: the rest of it stays, and other rows.
 pub fn receive(
     table: &mut [u8],
     answer: &mut [u8],
@@ -50,8 +50,8 @@ pub fn receive(
 ) -> u32
     ensures { λ r. ⌜ edge r (now (table .exit)) (now (answer .exit)) (now (room .exit)) (now (signal .exit)) (now (job .exit)) ≡ receiveEdge (now (table .entry)) (now (answer .entry)) (now (room .entry)) (now (signal .entry)) (now (job .entry)) slot ⌝ }
 {
-    let d = edge_layout_decode::decode(table);
-    let t = d.table;
-    let s = call_receive::receive(t, room, signal, ChannelIndex(slot), job);
-    edge::store(table, answer, d.ok, s)
+    if !edge_scan::valid(table) {
+        return edge_answer::put_answer(answer, Answer::Refused(Refusal::BadTable), 0);
+    }
+    taking::admitted(table, answer, room, signal, job, slot)
 }

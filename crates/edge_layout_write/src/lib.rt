@@ -27,7 +27,7 @@ ghost use lib.ListN.{length};
 ghost use Rattle.octets.specs.Octets.{le16};
 ghost use Rattle.channel.specs.Limits.{slotsMost};
 ghost use Rattle.edge_layout.specs.Layout.{tableOctets, peerOctets, assemblyOctets, queueOctets, row};
-ghost use Rattle.edge_layout_write.specs.Puts.{puts, framedRow};
+ghost use Rattle.edge_layout_write.specs.Puts.{puts, framedRow, takenRow};
 
 fn put_peer(t: &mut [u8], i: usize, p: Peer)
     requires { ⌜ (tableOctets ≤ length (now t)) × (i < slotsMost) ⌝ }
@@ -97,6 +97,17 @@ pub fn put_framed(t: &mut [u8], i: usize, x: Slot)
     put_account(t, i, a);
     let b = x.assembly;
     put_assembly(t, i, b);
+    let q = x.queue;
+    put_queue(t, i, q);
+}
+
+// Writes of the slot what a take can change: its account and the jobs that wait.
+pub fn put_taken(t: &mut [u8], i: usize, x: Slot)
+    requires { ⌜ (tableOctets ≤ length (now t)) × (i < slotsMost) ⌝ }
+    ensures { λ _. ⌜ now (t .exit) ≡ takenRow (now (t .entry)) i x ⌝ }
+{
+    let a = x.account;
+    put_account(t, i, a);
     let q = x.queue;
     put_queue(t, i, q);
 }

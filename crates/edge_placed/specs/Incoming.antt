@@ -11,7 +11,7 @@ use borrow.Author.Tests.{eqb-true}
 use Rattle.lists.specs.Choose.{choose, if-cases}
 use Rattle.octets.specs.Octets.{u16At}
 use Rattle.codes.specs.declared.Refusal.{Refusal}
-use Rattle.codes.specs.declared.Refusal.the-variants.{BadRoom, BadHandle, InvalidChannelId}
+use Rattle.codes.specs.declared.Refusal.the-variants.{BadHandle, InvalidChannelId}
 use Rattle.credit.specs.declared.CreditFlowControl.{CreditFlowControl}
 use Rattle.sar_join.specs.declared.Joined.{Joined}
 use Rattle.sar_join.specs.declared.Joined.the-variants as Joined
@@ -77,15 +77,12 @@ module _ (o : List ℕ) (v : validOctets o ≡ true) where
   pub sized-told : Sized (getD o 1 0) (getD o 2 0) (u16At o 3)
   sized-told = rw (slots-told o (valid-read o v), depth-told o (valid-read o v), packet-told o (valid-read o v)) at (formed-sizes (read o .table) (valid-formed o v))
 
-  room-told : roomSize (read o .table) ≡ roomWidth (getD o 1 0) (getD o 2 0) (u16At o 3)
+  pub room-told : roomSize (read o .table) ≡ roomWidth (getD o 1 0) (getD o 2 0) (u16At o 3)
   room-told = rw (slots-told o (valid-read o v), depth-told o (valid-read o v), packet-told o (valid-read o v))
-  -- ---- what the gate says of a call that is given a room and a link
+
+-- ---- what the gate says of a call that is given a room and a link
 
 module _ (n d m long link : ℕ) where
-  sized-2 : eqb long (roomWidth n d m) ≡ false → sizedVerdict n d m (Is long) Nothing (Is link) Nothing ≡ Stop BadRoom
-  unfolding sizedVerdict choose
-  sized-2 e = rw e
-
   sized-4 : eqb long (roomWidth n d m) ≡ true → ltb handleMost link ≡ true → sizedVerdict n d m (Is long) Nothing (Is link) Nothing ≡ Stop BadHandle
   unfolding sizedVerdict choose
   sized-4 e f = rw (e, f)
@@ -100,9 +97,6 @@ module _ (o : List ℕ) (v : validOctets o ≡ true) (long link : ℕ) where
 
   told : verdict (read o .table) (Is long) Nothing (Is link) Nothing ≡ sizedVerdict (getD o 1 0) (getD o 2 0) (u16At o 3) (Is long) Nothing (Is link) Nothing
   told = verdict-told o v (Is long) Nothing (Is link) Nothing
-
-  pub refused-2 : eqb long (roomWidth (getD o 1 0) (getD o 2 0) (u16At o 3)) ≡ false → Says (Stop BadRoom)
-  refused-2 e = told ∙ sized-2 (getD o 1 0) (getD o 2 0) (u16At o 3) long link e
 
   pub refused-4 : eqb long (roomWidth (getD o 1 0) (getD o 2 0) (u16At o 3)) ≡ true → ltb handleMost link ≡ true → Says (Stop BadHandle)
   refused-4 e f = told ∙ sized-4 (getD o 1 0) (getD o 2 0) (u16At o 3) long link e f

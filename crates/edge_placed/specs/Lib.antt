@@ -6,3 +6,5 @@ pub mod Sent
 pub mod Incoming
 -- Both leave a valid table valid.
 pub mod Valid
+-- A take on the table's octets where they stand.
+pub mod Taken

@@ -123,6 +123,15 @@ verdict-told o e roomed signal link slot =
     let ok = valid-read o e in
     rw (valid-formed o e, slots-told o ok, depth-told o ok, packet-told o ok)
 
+-- REFUSAL 2, whatever else the call is given
+sized-2 : (n d m long : ℕ) (signal link slot : Given) → eqb long (roomWidth n d m) ≡ false → sizedVerdict n d m (Is long) signal link slot ≡ Stop BadRoom
+unfolding sizedVerdict choose
+sized-2 n d m long signal link slot k = rw k
+
+pub refused-2 : (o : List ℕ) → validOctets o ≡ true → (long : ℕ) (signal link slot : Given) → eqb long (roomWidth (getD o 1 0) (getD o 2 0) (u16At o 3)) ≡ false
+    → verdict (read o .table) (Is long) signal link slot ≡ Stop BadRoom
+refused-2 o e long signal link slot k = verdict-told o e (Is long) signal link slot ∙ sized-2 (getD o 1 0) (getD o 2 0) (u16At o 3) long signal link slot k
+
 -- of a call that is given a slot alone: refusal 6, or none
 sized-6 : (n d m slot : ℕ) → leb n slot ≡ true → sizedVerdict n d m Nothing Nothing Nothing (Is slot) ≡ Stop BadSlot
 unfolding sizedVerdict choose

@@ -4,3 +4,4 @@ pub mod Row
 pub mod Gate
 pub mod Framed
 pub mod Stays
+pub mod Taken

@@ -8,10 +8,11 @@ use borrow.Author.Tests.{not-true, not-false}
 use Rattle.octets.specs.Octets.{u16At}
 use Rattle.codes.specs.declared.Refusal.the-variants.{BadRoom, BadHandle}
 use Rattle.channel.specs.declared.ChannelIndex.{ChannelIndex}
+use Rattle.channel.specs.declared.Given.the-variants.{Nothing, Is}
 use Rattle.definition.specs.Table.{roomWidth, isCid}
 use Rattle.edge_layout.specs.Layout.{read}
-use Rattle.edge_row.specs.Gate.{valid-long}
-use Rattle.edge_placed.specs.Incoming.{sized-told, refused-2, refused-4, frame-stopped, cid-told, refused-7, row-low, part-placed, have-placed, frame-placed}
+use Rattle.edge_row.specs.Gate.{valid-long, refused-2}
+use Rattle.edge_placed.specs.Incoming.{sized-told, refused-4, frame-stopped, cid-told, refused-7, row-low, part-placed, have-placed, frame-placed}
 use borrow.Author.Needs.{needs}
 use Rattle.edge_frames.proofs.incoming.admitted.Statement.{statement}
 use Rattle.edge_frames.proofs.incoming.admitted.Tie as tie
@@ -56,7 +57,7 @@ returns c =
     let r = c .before .before .before .before .before in
     let told = c .before .before .put-answer .ensures in
     let e : eqb (length (g .room .now)) (roomWidth (getD o 1 0) (getD o 2 0) (u16At o 3)) ≡ false = rw (r .room-size .ensures, r .before .before .before .before .before .octet .ensures, r .before .before .before .octet2 .ensures, r .before .number .ensures) at (not-true (eqb (length (g .room .now)) (r .room-size .result)) (c .before .before .before .before .if1 .taken)) in
-    rw (told .0, told .1) (frame-stopped o (g .answer .now) (g .room .now) (g .payload .now) (g .link) (g .cid) BadRoom (refused-2 o (b .pre) (length (g .room .now)) (g .link) e))
+    rw (told .0, told .1) (frame-stopped o (g .answer .now) (g .room .now) (g .payload .now) (g .link) (g .cid) BadRoom (refused-2 o (b .pre) (length (g .room .now)) Nothing (Is (g .link)) Nothing e))
 
 put-answer-requires-2 : tie.Need-put-answer-requires-2
 put-answer-requires-2 c κs = search needs

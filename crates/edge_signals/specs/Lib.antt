@@ -1,4 +1,4 @@
 -- Signals, on octets.
 pub mod Signals
--- A credit signal where the octets stand.
+-- The PDUs that begin with a credit signal, which works where the octets stand.
 pub mod Crediting

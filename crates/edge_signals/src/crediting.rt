@@ -1,5 +1,5 @@
 // A credit signal on a table's octets where they stand: the first refusals told from the octets, the row searched for in three columns, `slot_credits` done on its slot, and the columns
-// written that it changes. What is right stands in specs/Crediting.antt.
+// written that it changes. What is right stands in specs/Crediting.antt, and in specs/Credited.antt of `edge_placed`.
 use channel::Answer;
 use channel::HANDLE_MOST;
 use channel::SIGNAL_MOST;
@@ -25,7 +25,8 @@ ghost use Rattle.table_room.specs.Placed.{Placed};
 ghost use Rattle.edge.specs.Edge.{edge};
 ghost use Rattle.edge_layout.specs.Layout.{tableOctets, cell, slotIn};
 ghost use Rattle.edge_scan.specs.Scan.{validOctets};
-ghost use Rattle.edge_signals.specs.Crediting.{creditsIn, creditsEdge, rowOf, creditedRow, creditedEdge};
+ghost use Rattle.edge_placed.specs.Credited.{creditsEdge, rowOf, creditedRow, creditedEdge};
+ghost use Rattle.edge_signals.specs.Crediting.{creditsIn};
 
 // Code 0x16.
 const CREDITS: u8 = 0x16;

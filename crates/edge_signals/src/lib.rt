@@ -1,5 +1,5 @@
 // A signal PDU's first signal, on octets. It is defined in specs/Signals.antt, by the call's own definition lifted through the two layouts. A credit signal, which comes with every few
-// frames, works where the octets stand (`crediting`, specs/Crediting.antt); of every other the table is read, the call made, the table and the answer written back. The exported name is in
+// frames, works where the octets stand (`crediting`); of every other the table is read, the call made, the table and the answer written back. The exported name is in
 // `entries`.
 mod crediting;
 

@@ -1,7 +1,6 @@
 -- `on_credits::on_credits` meets its contract: no slot is found (credits-astray), and the work on the slot that is found, put into the table (credits-into).
 use mathlib.Core.Path.{sym, ap, _∙_}
 use mathlib.Core.List.{[]}
-use native.Mathlib.Omega.{arith}
 use borrow.Author.Tests.{le-leb, lt-leb}
 use Rattle.definition.specs.Mem.{sizes}
 use Rattle.definition.specs.Table.{placeOf, slotAt}

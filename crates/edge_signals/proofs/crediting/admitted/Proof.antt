@@ -16,7 +16,7 @@ use Rattle.definition.specs.Outcome.{verdict}
 use Rattle.edge_layout.specs.Layout.{read}
 use Rattle.edge_row.specs.Gate.{valid-long, valid-slots, stops-2, stops-3, stops-4, passes}
 use Rattle.edge_row.specs.Room.{sized-told, row-low, part-placed}
-use Rattle.edge_signals.specs.Crediting.{rowOf, credits-stopped, refused-8, credits-placed}
+use Rattle.edge_placed.specs.Credited.{rowOf, credits-stopped, refused-8, credits-placed}
 use borrow.Author.Needs.{needs}
 use Rattle.edge_signals.proofs.crediting.admitted.Statement.{statement}
 use Rattle.edge_signals.proofs.crediting.admitted.Tie as tie

@@ -1,6 +1,6 @@
 -- `edge_signals::crediting::connected_to` meets its contract: three columns tell it (connected-kind).
 use Rattle.edge_layout.specs.Layout.{cell, slotIn}
-use Rattle.edge_signals.specs.Crediting.{connected-kind}
+use Rattle.edge_placed.specs.Credited.{connected-kind}
 use borrow.Author.Needs.{needs}
 use Rattle.edge_signals.proofs.crediting.connected_to.Statement.{statement}
 use Rattle.edge_signals.proofs.crediting.connected_to.Tie as tie

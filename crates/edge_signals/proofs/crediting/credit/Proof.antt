@@ -7,7 +7,7 @@ use Rattle.codes.specs.declared.Refusal.the-variants.{BadTable}
 use Rattle.channel.specs.declared.Given.the-variants.{Nothing, Is}
 use Rattle.edge_scan.specs.Scan.{validOctets}
 use Rattle.edge_row.specs.Gate.{refused-1}
-use Rattle.edge_signals.specs.Crediting.{credits-stopped}
+use Rattle.edge_placed.specs.Credited.{credits-stopped}
 use borrow.Author.Needs.{needs}
 use Rattle.edge_signals.proofs.crediting.credit.Statement.{statement}
 use Rattle.edge_signals.proofs.crediting.credit.Tie as tie

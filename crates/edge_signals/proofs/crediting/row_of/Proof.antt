@@ -7,7 +7,7 @@ use lib.ListN.{getD}
 use Rattle.lists.specs.First.{Passed, passed-none, passed-more, passed-hit, passed-all}
 use Rattle.definition.specs.Table.{gap, connectedTo}
 use Rattle.edge_layout.specs.Layout.{taken}
-use Rattle.edge_signals.specs.Crediting.{rows-long, row-says}
+use Rattle.edge_placed.specs.Credited.{rows-long, row-says}
 use borrow.Author.Needs.{needs}
 use Rattle.edge_signals.proofs.crediting.row_of.Statement.{statement}
 use Rattle.edge_signals.proofs.crediting.row_of.Tie as tie

@@ -3,7 +3,7 @@ use Rattle.definition.specs.Mem.{sizes}
 use Rattle.definition.specs.Table.{placeSize}
 use Rattle.edge_layout.specs.Layout.{cell, slotIn}
 use Rattle.slot_credits.specs.Into.{credits-quiet}
-use Rattle.edge_signals.specs.Crediting.{creditedEdge}
+use Rattle.edge_placed.specs.Credited.{creditedEdge}
 use borrow.Author.Needs.{needs}
 use Rattle.edge_signals.proofs.crediting.to_slot.Statement.{statement}
 use Rattle.edge_signals.proofs.crediting.to_slot.Tie as tie

@@ -1,6 +1,7 @@
 -- `slot_credits::credit_at` meets its contract: code and definition test the same sum, and a channel that is left has its place for assembly zeroed.
 use mathlib.Core.Path.{sym}
 use mathlib.Core.List.{[]}
+use native.Mathlib.Omega.{arith}
 use borrow.Author.Tests.{lt-ltb, le-ltb}
 use Rattle.lists.specs.Choose.{choose}
 use Rattle.definition.specs.Mem.{sizes}
@@ -15,7 +16,9 @@ total-requires : tie.Need-total-requires
 total-requires c κs = search needs
 
 zero-assembly-requires : tie.Need-zero-assembly-requires
-zero-assembly-requires c κs = search needs
+zero-assembly-requires c κs =
+    let p = c .before .before .before .before .pre in
+    record { deep = p .deep; most = p .most; low = omega (arith, p .low); within = omega (arith, p .within) }
 
 left-requires : tie.Need-left-requires
 left-requires c κs = search needs

@@ -8,3 +8,5 @@ pub mod Incoming
 pub mod Valid
 -- A take on the table's octets where they stand.
 pub mod Taken
+-- A credit signal on the table's octets where they stand.
+pub mod Credited

@@ -1,13 +1,12 @@
 -- A take on the table's octets where they stand: the first refusals told from the octets, one row read, the work on its slot, and its account, its queue and the next
 -- identifier written.
 use mathlib.Core.Path.{_≡_, refl, sym, ap, _∙_}
-use mathlib.Core.Bool.{Bool, true, false}
+use mathlib.Core.Bool.{Bool, true, false, not}
 use mathlib.Core.List.{List, []}
 use Prim.Native.Nat.{ℕ, _<_}
-use native.Mathlib.Omega.{arith}
 use lib.Dec.{eqb, leb, ltb}
 use lib.ListN.{length, getD, set}
-use borrow.Author.Tests.{eqb-true, leb-false}
+use borrow.Author.Tests.{leb-false}
 use Rattle.lists.specs.Choose.{choose}
 use Rattle.octets.specs.Octets.{u16At}
 use Rattle.codes.specs.declared.Refusal.{Refusal}
@@ -18,16 +17,15 @@ use Rattle.channel.specs.declared.Given.the-variants.{Nothing, Is}
 use Rattle.channel.specs.declared.Slot.{Slot}
 use Rattle.channel.specs.declared.Table.{Table}
 use Rattle.channel.specs.declared.Verdict.{Verdict}
-use Rattle.channel.specs.declared.Verdict.the-variants.{Pass, Stop}
+use Rattle.channel.specs.declared.Verdict.the-variants.{Stop}
 use Rattle.channel_answer.specs.Tells.{answerNumber}
 use Rattle.definition.specs.Mem.{sizes, parts}
 use Rattle.definition.specs.Mem as mem
-use Rattle.definition.specs.Table.{partWidth, roomWidth, roomSize, slotAt, putSlot, nextId, idAfter, spent}
+use Rattle.definition.specs.Table.{partWidth, roomWidth, slotAt, putSlot, nextId, idAfter, spent}
 use Rattle.definition.specs.Outcome.{verdict, passed, only}
 use Rattle.definition.specs.Ending.{itself, end, endOf, gave}
 use Rattle.definition.specs.Frames.{receive, takenOn}
-use Rattle.table_gate_sizes.specs.Sizes.{formed-sizes}
-use Rattle.table_room.specs.Placed.{Placed, placed}
+use Rattle.table_room.specs.Placed.{Placed}
 use Rattle.slot_work.specs.declared.Worked.{Worked}
 use Rattle.slot_work.specs.Work.{workedOf}
 use Rattle.slot_take.specs.Taking.{Take, takeOf, idThen, tableThen, Took}
@@ -36,11 +34,11 @@ use Rattle.edge_layout.specs.Layout.{cell, slotIn, read, written}
 use Rattle.edge_layout_write.specs.Puts.{takenRow}
 use Rattle.edge.specs.Edge.{Edge, edge}
 use Rattle.edge_scan.specs.Scan.{validOctets}
-use Rattle.edge_row.specs.Row.{slots-told, depth-told, packet-told, identifier-told, slot-read, spent-written}
+use Rattle.edge_row.specs.Row.{depth-told, packet-told, identifier-told, slot-read, spent-written}
 use Rattle.edge_row.specs.Taken.{taken-written, identifier-kept}
-use Rattle.edge_row.specs.Gate.{answered, changes, stopped, valid-read, valid-formed, sizedVerdict, verdict-told}
+use Rattle.edge_row.specs.Gate.{answered, changes, stopped, valid-read, stops-3, stops-6, passes}
+use Rattle.edge_row.specs.Room as Room
 use Rattle.edge_placed.specs.Frames.{receiveEdge}
-use Rattle.edge_placed.specs.Incoming.{room-told}
 
 -- the work on the slot of row s, by what the octets say
 abbrev pub takeAt : (table : List ℕ) (d m s size : ℕ) → Take
@@ -72,21 +70,6 @@ taken-edge o a room out job d m s {x} {next} {id} {r} said stands given took =
     ∙ ap (λ (i : ℕ). leaves o a room out job (partWidth d m) s i (takeOf d m s (choose (eqb i 0) 1 i) x (length job))) stands
     ∙ ap (λ (y : Slot). leaves o a room out job (partWidth d m) s (getD o 5 0) (takeOf d m s (choose (eqb (getD o 5 0) 0) 1 (getD o 5 0)) y (length job))) said
 
--- ---- what the gate says of a call that is given a room, a signal buffer and a slot
-
-module _ (n d m long size slot : ℕ) (e : eqb long (roomWidth n d m) ≡ true) where
-  sized-3 : ltb size signalMost ≡ true → sizedVerdict n d m (Is long) (Is size) Nothing (Is slot) ≡ Stop NoRoom
-  unfolding sizedVerdict choose
-  sized-3 f = rw (e, f)
-
-  sized-6 : ltb size signalMost ≡ false → leb n slot ≡ true → sizedVerdict n d m (Is long) (Is size) Nothing (Is slot) ≡ Stop BadSlot
-  unfolding sizedVerdict choose
-  sized-6 f g = rw (e, f, g)
-
-  sized-pass : ltb size signalMost ≡ false → leb n slot ≡ false → sizedVerdict n d m (Is long) (Is size) Nothing (Is slot) ≡ Pass
-  unfolding sizedVerdict choose
-  sized-pass f g = rw (e, f, g)
-
 -- a take that the gate stops leaves the octets
 pub take-stopped : (o a room out job : List ℕ) (slot : ℕ) (r : Refusal) → verdict (read o .table) (Is (length room)) (Is (length out)) Nothing (Is slot) ≡ Stop r
     → edge (answerNumber (Refused r)) o (answered a (Refused r) 0) room out job ≡ receiveEdge o a room out job slot
@@ -97,31 +80,23 @@ module _ (o a room out job : List ℕ) (s : ℕ) (v : validOctets o ≡ true) (e
   abbrev t : Table
   t = read o .table
 
-  told : verdict t (Is (length room)) (Is (length out)) Nothing (Is s) ≡ sizedVerdict (getD o 1 0) (getD o 2 0) (u16At o 3) (Is (length room)) (Is (length out)) Nothing (Is s)
-  told = verdict-told o v (Is (length room)) (Is (length out)) Nothing (Is s)
-
   -- REFUSALS 3 AND 6
   pub take-3 : ltb (length out) signalMost ≡ true → edge (answerNumber (Refused NoRoom)) o (answered a (Refused NoRoom) 0) room out job ≡ receiveEdge o a room out job s
-  take-3 f = take-stopped o a room out job s NoRoom (told ∙ sized-3 (getD o 1 0) (getD o 2 0) (u16At o 3) (length room) (length out) s e f)
+  take-3 f = take-stopped o a room out job s NoRoom (stops-3 o v (Is (length room)) (Is (length out)) Nothing (Is s) (ap not e) f)
 
   pub take-6 : ltb (length out) signalMost ≡ false → leb (getD o 1 0) s ≡ true
       → edge (answerNumber (Refused BadSlot)) o (answered a (Refused BadSlot) 0) room out job ≡ receiveEdge o a room out job s
-  take-6 f g = take-stopped o a room out job s BadSlot (told ∙ sized-6 (getD o 1 0) (getD o 2 0) (u16At o 3) (length room) (length out) s e f g)
+  take-6 f g = take-stopped o a room out job s BadSlot (stops-6 o v (Is (length room)) (Is (length out)) Nothing (Is s) (ap not e) f refl g)
 
   -- ---- behind them
 
   module _ (f : ltb (length out) signalMost ≡ false) (g : leb (getD o 1 0) s ≡ false) where
-    -- the slot is one of the table's, and so one of the rows; its part lies in the room
-    low : s < t .n
-    low = rw (slots-told o (valid-read o v)) (leb-false (getD o 1 0) s g)
-
+    -- the slot is one of the rows, and its part lies in the room
     pub take-row : s < slotsMost
-    take-row = omega (arith, low, formed-sizes t (valid-formed o v) .n-most)
+    take-row = Room.row-low o v s (leb-false (getD o 1 0) s g)
 
     pub take-part : Placed (getD o 2 0) (u16At o 3) s (length room)
-    take-part =
-        let is : length room ≡ roomSize t = eqb-true (length room) _ e ∙ sym (room-told o v) in
-        rw (depth-told o (valid-read o v), packet-told o (valid-read o v)) at (placed {t = t} (record { sizes = formed-sizes t (valid-formed o v); is = is }) s low)
+    take-part = Room.part-placed o v s (leb-false (getD o 1 0) s g) (length room) e
 
     abbrev k : Take
     k = takeOf (t .d) (t .m) s (nextId t) (slotAt t s) (length job)
@@ -134,7 +109,7 @@ module _ (o a room out job : List ℕ) (s : ℕ) (v : validOctets o ≡ true) (e
         (parts itself [] (partWidth (t .d) (t .m)) (only s (k .work .moves)) room) (mem.written itself [] room (k .work .out) out) (mem.written itself [] room (k .job) job)
     unfolding receive
     ends =
-        ap (λ (x : Verdict). endOf t [] room out job (passed t x (takenOn t s (length job)))) (told ∙ sized-pass (getD o 1 0) (getD o 2 0) (u16At o 3) (length room) (length out) s e f g)
+        ap (λ (x : Verdict). endOf t [] room out job (passed t x (takenOn t s (length job)))) (passes o v (Is (length room)) (Is (length out)) Nothing (Is s) (ap not e) f refl g)
         ∙ sym (takes-in t s room out job {r = workedOf (k .work)} refl refl refl (record { gave = refl; moved = refl; told = refl; handed = refl }))
 
     -- the row written, for the slot that the take leaves

@@ -21,6 +21,7 @@ use Rattle.sar_join.specs.declared.Joined.{Joined}
 use Rattle.sar_join.specs.declared.Joined.the-variants as Joined
 use Rattle.sar_join.specs.Joining.{idle, reached, firstStep, joinStep}
 use Rattle.channel.specs.Limits.{slotsMost, depthMost, handleMost, creditsMost}
+use Rattle.channel.specs.declared.Given.the-variants.{Nothing, Is}
 use Rattle.channel.specs.declared.Slot.{Slot}
 use Rattle.channel.specs.declared.Table.{Table}
 use Rattle.definition.specs.Table.{placeOf, gap, slotAt, slotOf, isCid, isConnected, roomWidth, live, lensFit, sizesFit, slotFits, wellFormed, withAccount, withPeerCredits}
@@ -36,11 +37,11 @@ use Rattle.edge.specs.Edge.{Edge}
 use Rattle.edge_scan.specs.Scan.{validOctets}
 use Rattle.rules.specs.Keep.{every-set}
 use Rattle.edge_row.specs.Row.{slots-long, slots-told, slot-read}
-use Rattle.edge_row.specs.Gate.{valid-read, valid-formed, refused-6}
+use Rattle.edge_row.specs.Gate.{valid-read, valid-formed, refused-2, refused-6}
 use Rattle.edge_row.specs.Stays.{valid-put}
 use Rattle.edge_placed.specs.Frames.{dispatchEdge, sendEdge}
 use Rattle.edge_placed.specs.Sent.{slot-within, send-stopped, sent-table}
-use Rattle.edge_placed.specs.Incoming.{refused-2, refused-4, frame-stopped, refused-7, row-low, frame-table}
+use Rattle.edge_placed.specs.Incoming.{refused-4, frame-stopped, refused-7, row-low, frame-table}
 
 -- ---- what refusal 1 asks of a slot
 
@@ -194,7 +195,7 @@ module _ (o : List ℕ) (v : validOctets o ≡ true) where
     by-link e false f = by-cid e f (isCid t cid) refl
 
     by-room : (b : Bool) → fitting ≡ b → Kept (dispatchEdge o a room link cid p)
-    by-room false e = subst Kept (frame-stopped o a room p link cid BadRoom (refused-2 o v (length room) link e)) v
+    by-room false e = subst Kept (frame-stopped o a room p link cid BadRoom (refused-2 o v (length room) Nothing (Is link) Nothing e)) v
     by-room true e = by-link e (ltb handleMost link) refl
 
     -- A FRAME

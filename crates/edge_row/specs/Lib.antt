@@ -5,3 +5,4 @@ pub mod Gate
 pub mod Framed
 pub mod Stays
 pub mod Taken
+pub mod Room

@@ -1,5 +1,5 @@
 // The calls for C and Rust, on numbers and octets: a static library. Each entry reads the table from its 672 octets, makes the call, writes table and
-// answer back, or for a question the answer alone, and returns 0 or the refusal's number; a frame in, a send and a take read and write one row where it stands. It is the function of that name in `edge_asking`, `edge_pending`, `edge_opening`, `edge_closing`,
+// answer back, or for a question the answer alone, and returns 0 or the refusal's number; a frame in, a send, a take and a credit signal read and write one row where it stands. It is the function of that name in `edge_asking`, `edge_pending`, `edge_opening`, `edge_closing`,
 // `edge_signals` or `edge_frames`, whose definition is the entry's too. It is the call's own, lifted through the two layouts (Edge.antt of `edge`).
 ghost use mathlib.Core.Path.{_≡_};
 ghost use mathlib.Core.List.{[]};

@@ -37,7 +37,7 @@ use Rattle.table_room.specs.Placed.{Placed, placed}
 use Rattle.slot_work.specs.Work.{Work, workedOf, works-in}
 use Rattle.slot_frame.specs.FrameIn.{joinedTo, frameOf}
 use Rattle.slot_frame.specs.Admitted.{frame-quiet, frame-admitted, frame-astray}
-use Rattle.edge_layout.specs.Layout.{cell, slotIn, read}
+use Rattle.edge_layout.specs.Layout.{cell, slotIn, read, written}
 use Rattle.edge_layout_write.specs.Puts.{framedRow}
 use Rattle.edge.specs.Edge.{Edge, edge}
 use Rattle.edge_scan.specs.Scan.{validOctets}
@@ -172,6 +172,12 @@ module _ (o a room p : List ℕ) (link cid : ℕ) (v : validOctets o ≡ true) (
         ∙ sym (frame-admitted t link cid p room n)
         ∙ sym (works-in t s w js room [] [] {r = workedOf w} (ap (λ (k : ℕ). gave (w .answer) (putSlot t s (w .slot)) k) quiet) refl refl
         (rw (frame-quiet (t .d) (placeOf t) (slotAt t s) link p) (sym (written-none js room []))))
+
+    -- what the frame leaves, with its slot put into the table
+    pub frame-table : edge (answerNumber (w .answer)) (written o (putSlot t s (w .slot))) (answered a (w .answer) 0) (parts itself js (partWidth (t .d) (t .m)) (only s (w .moves)) room) [] [] ≡ dispatchEdge o a room link cid p
+    frame-table =
+        changes o a (parts itself js (partWidth (t .d) (t .m)) (only s (w .moves)) room) [] [] (λ t. endOf t (jobs t (frame link cid p)) room [] [] (frameIn t (length room) link cid p))
+        (w .answer) (putSlot t s (w .slot)) 0 (valid-read o v) ends refl
 
     -- THE COLUMNS WRITTEN ARE THE TABLE AFTER THE FRAME
     pub frame-placed : framedEdge o a room (getD o 2 0) (u16At o 3) s link p ≡ dispatchEdge o a room link cid p

@@ -4,3 +4,5 @@ pub mod Frames
 pub mod Sent
 -- A frame in on the table's octets where they stand.
 pub mod Incoming
+-- Both leave a valid table valid.
+pub mod Valid

@@ -1,5 +1,5 @@
 -- A send on the table's octets where they stand: one row read, the work on its slot, and the peer's credits written.
-use mathlib.Core.Path.{_≡_, sym, ap, _∙_}
+use mathlib.Core.Path.{_≡_, refl, sym, ap, _∙_}
 use mathlib.Core.Bool.{true, false}
 use mathlib.Core.List.{List, []}
 use Prim.Native.Nat.{ℕ, _<_}
@@ -41,18 +41,28 @@ pub send-stopped : (o a out sdu : List ℕ) (slot : ℕ) (r : Refusal) → verdi
 unfolding send
 send-stopped o a out sdu slot r e = stopped o a [] out [] (λ t. sdu) (λ t. sentOn t slot (length sdu) (length out)) Nothing Nothing Nothing (Is slot) r e
 
+-- what the send leaves, with its slot put into the table
+module _ (o a out sdu : List ℕ) (slot : ℕ) (v : validOctets o ≡ true) (n : leb (getD o 1 0) slot ≡ false) where
+  abbrev l : Work
+  l = sentFrom (slotAt (read o .table) slot) sdu out
+
+  left : endOf (read o .table) sdu [] out [] (send (read o .table) slot (length sdu) (length out)) ≡ into (read o .table) slot l
+  unfolding send
+  left =
+      let t = read o .table in
+      ap (λ (x : Verdict). endOf t sdu [] out [] (passed t x (sentOn t slot (length sdu) (length out)))) (passes-6 o v slot n)
+      ∙ sent-into t slot sdu out
+
+  pub sent-table : edge (answerNumber (l .gave .answer)) (written o (putSlot (read o .table) slot (l .gave .slot))) (answered a (l .gave .answer) (l .gave .octets)) [] (l .out) [] ≡ sendEdge o a out slot sdu
+  sent-table = changes o a [] (l .out) [] (λ t. endOf t sdu [] out [] (send t slot (length sdu) (length out))) (l .gave .answer) (putSlot (read o .table) slot (l .gave .slot)) (l .gave .octets) (valid-read o v) left refl
+
 module _ (o a out sdu : List ℕ) (slot : ℕ) (v : validOctets o ≡ true) (n : leb (getD o 1 0) slot ≡ false) {w : Worked} {out′ : List ℕ} (worked : work w out′ ≡ sentFrom (slotIn (cell o slot)) sdu out) where
   -- the row says the table's slot
   here : work w out′ ≡ sentFrom (slotAt (read o .table) slot) sdu out
   here = worked ∙ ap (λ (x : Slot). sentFrom x sdu out) (sym (slot-read o (valid-read o v) slot (slot-within o slot v n)))
 
   ends : endOf (read o .table) sdu [] out [] (send (read o .table) slot (length sdu) (length out)) ≡ into (read o .table) slot (work w out′)
-  unfolding send
-  ends =
-      let t = read o .table in
-      ap (λ (x : Verdict). endOf t sdu [] out [] (passed t x (sentOn t slot (length sdu) (length out)))) (passes-6 o v slot n)
-      ∙ sent-into t slot sdu out
-      ∙ ap (into t slot) (sym here)
+  ends = left o a out sdu slot v n ∙ ap (into (read o .table) slot) (sym here)
 
   credits : w .slot ≡ withPeerCredits (w .slot .peer .credits) (slotAt (read o .table) slot)
   credits =

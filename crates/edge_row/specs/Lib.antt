@@ -3,3 +3,4 @@ pub mod Parts
 pub mod Row
 pub mod Gate
 pub mod Framed
+pub mod Stays

@@ -87,10 +87,10 @@ module _ (o : List ℕ) (ok : read o .ok ≡ true) where
       go true e = rw e
       go false e = absurd (false≢true (rw e at ok))
 
-  spelling : o ≡ spell (read o .table)
+  pub spelling : o ≡ spell (read o .table)
   spelling = one-spelling o (read o .table) (ap (λ (b : Bool). record { ok = b; table = read o .table }) ok)
 
-  slots-long : length (read o .table .slots) ≡ slotsMost
+  pub slots-long : length (read o .table .slots) ≡ slotsMost
   unfolding taken
   slots-long = rw table-taken (tabulate-length (λ i. slotIn (cell o i)) slotsMost)
 
@@ -98,7 +98,7 @@ module _ (o : List ℕ) (ok : read o .ok ≡ true) where
   unfolding taken
   spsms-are = rw (table-taken, length-take, length-drop)
 
-  spsms-long : length (read o .table .spsms) ≡ spsmOctets
+  pub spsms-long : length (read o .table .spsms) ≡ spsmOctets
   spsms-long = omega (arith, spsms-are, ap length spelling, spell-length (read o .table))
 
   pub octets-long : length o ≡ tableOctets

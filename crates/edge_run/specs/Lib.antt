@@ -2,3 +2,5 @@
 pub mod Run
 -- By which a run's loop reads it.
 pub mod Turns
+-- And the loop itself.
+pub mod Running

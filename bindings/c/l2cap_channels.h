@@ -18,8 +18,7 @@
  *         Numbers have the lower octet first.
  * room    the memory in which jobs arrive and wait: L2CAP_ROOM_OCTETS(n, d, m) octets, zeroed by l2cap_make. Another length is refusal 2. Octets of no live job are zero.
  * signal  what goes out on the signalling channel is written here, with its L2CAP header: at least L2CAP_SIGNAL_OCTETS octets, else refusal 3.
- *
- * answers a run's alone: L2CAP_ANSWER_OCTETS octets for each of its frames or jobs, whose answers are written one behind the other.
+ * answers of a run alone: L2CAP_ANSWER_OCTETS octets for each of its frames or jobs, whose answers are written one behind the other.
  *
  * Overlap. No two memories of one call may overlap. That holds of those that are only read too (pdu, payload, sdu, frames, jobs, a const table): l2cap_send with sdu == out scrambles the job.
  * Null. A memory of length 0 may be a null pointer: it is not looked at. (A room or signal of length 0 is refused by its length, as above.)

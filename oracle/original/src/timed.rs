@@ -167,7 +167,6 @@ impl<const M: usize> Table<M> {
         let flow_policy = threshold.map_or(CreditFlowPolicy::Every(1), CreditFlowPolicy::MinThreshold);
         let config = L2capChannelConfig { mtu: None, mps: None, flow_policy, initial_credits: Some(credits) };
         let Poll::Ready(Ok(pending)) = poll_once(self.channels.next_pending(ConnHandle(link), self.connections)) else { return false };
-        self.empty_line();
         match poll_once(self.channels.accept_pending(pending.into_index(), &config, self.host::<Lined>())) {
             Poll::Ready(Ok(channel)) => {
                 forget(channel);
@@ -211,20 +210,17 @@ impl<const M: usize> Table<M> {
 
     #[inline(never)]
     pub fn try_send<T: Sink>(&self, slot: u8, sdu: &[u8], p_buf: &mut [u8]) -> bool {
-        self.empty_line();
         self.channels.try_send(index(slot), sdu, p_buf, self.host::<T>()).is_ok()
     }
 
     #[inline(never)]
     pub fn send<T: Sink>(&self, slot: u8, sdu: &[u8], p_buf: &mut [u8]) -> bool {
-        self.empty_line();
         matches!(poll_once(self.channels.send(index(slot), sdu, p_buf, self.host::<T>())), Poll::Ready(Ok(())))
     }
 
     /// The octets copied of the oldest job, where one waits.
     #[inline(never)]
     pub fn receive(&self, slot: u8, job: &mut [u8]) -> Option<usize> {
-        self.empty_line();
         match poll_once(self.channels.receive(index(slot), job, self.host::<Lined>())) {
             Poll::Ready(Ok(copied)) => Some(copied),
             _ => None,

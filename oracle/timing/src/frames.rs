@@ -75,6 +75,11 @@ impl Frames {
     pub fn count(&self) -> usize {
         self.octets.len() / self.size
     }
+
+    /// The jobs of frames that bring a whole one each.
+    pub fn jobs(&self) -> Vec<Vec<u8>> {
+        (0..self.count()).map(|k| self.at(k)[2..].to_vec()).collect()
+    }
 }
 
 /// A job's length and its octets.

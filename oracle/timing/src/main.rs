@@ -13,6 +13,8 @@ mod joining;
 mod original;
 mod port;
 mod row;
+#[cfg(runs)]
+mod runs;
 mod sending;
 mod taking;
 
@@ -38,6 +40,8 @@ fn main() {
     intake::rows(&clock);
     joining::rows(&clock);
     sending::rows(&clock);
+    #[cfg(runs)]
+    runs::rows(&clock);
     taking::rows(&clock);
     println!();
     growth::table(&clock);

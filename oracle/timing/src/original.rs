@@ -12,6 +12,7 @@ pub fn open<const M: usize>(channels: &Channels, out: usize) -> Table<M> {
     let table = Table::new(channels.n, out.max(64));
     table.register_spsm(SPSM);
     for slot in 0..channels.n {
+        table.empty_line();
         table.link(link(slot));
         let open = table.signal(link(slot), &channels.request(slot)) && table.accept(link(slot), channels.credits, channels.threshold);
         assert!(open && !table.signal_failed(), "the original's channels are not open");

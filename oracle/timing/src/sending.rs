@@ -10,26 +10,32 @@ use std::hint::black_box;
 
 const LONG: usize = 10;
 
-fn channels(n: usize, mps: usize, peer_credits: u16) -> Channels {
+pub fn channels(n: usize, mps: usize, peer_credits: u16) -> Channels {
     Channels { n, peer_mps: mps as u16, peer_credits, credits: D as u16, threshold: None }
 }
 
-/// A side of the original: one of its ways to send. The peer gives back the credits untimed.
-fn side<'a, const M: usize>(
+/// A side of the original: one of its ways to send. Where it copies frames, it starts again from the line's start after so many jobs. The peer gives back the credits untimed.
+pub fn side<'a, const M: usize>(
     clock: &'a Clock,
     table: &'a Table<M>,
     send: impl Fn(&Table<M>, u8, &[u8], &mut [u8]) -> bool + 'a,
     sdus: &'a [Vec<u8>],
     given: &'a [Vec<u8>],
+    line: usize,
 ) -> impl FnMut(&mut [u64]) + 'a {
     let mut packet = vec![0; M];
     move |ns: &mut [u64]| {
         packet.fill(0);
         table.clean_line();
-        let mut done = true;
+        let (mut done, mut left) = (true, 0);
         ns[0] += clock.time(|| {
             for _ in 0..D {
                 for (slot, sdu) in sdus.iter().enumerate() {
+                    if left == 0 {
+                        table.empty_line();
+                        left = line;
+                    }
+                    left -= 1;
                     done &= send(table, slot as u8, black_box(sdu), black_box(&mut packet));
                 }
             }
@@ -52,6 +58,7 @@ pub fn jobs<const M: usize>(clock: &Clock, n: usize, mps: usize, frames: usize) 
 
     for (slot, sdu) in sdus.iter().enumerate() {
         assert_eq!(port.send(slot, sdu), 0, "the port refuses a job");
+        lined.empty_line();
         assert!(lined.try_send::<Lined>(slot as u8, sdu, &mut [0; M]), "the original refuses a job");
         assert_eq!(&port.out[..port.written()], lined.line(), "the two send other octets");
     }
@@ -68,9 +75,9 @@ pub fn jobs<const M: usize>(clock: &Clock, n: usize, mps: usize, frames: usize) 
         given.iter().enumerate().for_each(|(slot, pdu)| refused |= port.signal(slot, pdu));
         assert_eq!(refused, 0, "the port refuses a job, or credits");
     };
-    let mut theirs = side(clock, &plain, Table::try_send::<Unlooked>, &sdus, &given);
-    let mut copied = side(clock, &lined, Table::try_send::<Lined>, &sdus, &given);
-    let mut polled = side(clock, &future, Table::send::<Unlooked>, &sdus, &given);
+    let mut theirs = side(clock, &plain, Table::try_send::<Unlooked>, &sdus, &given, 1);
+    let mut copied = side(clock, &lined, Table::try_send::<Lined>, &sdus, &given, 1);
+    let mut polled = side(clock, &future, Table::send::<Unlooked>, &sdus, &given, 1);
     let times = medians(1, &mut [&mut ours, &mut theirs, &mut copied, &mut polled]);
     (Times::each(&times[..3], 0, n * D), times[3][0] / (n * D) as f64)
 }

@@ -44,6 +44,7 @@ fn takes(clock: &Clock, size: usize, waiting: usize, grants: bool) -> Times {
         ns[0] += clock.time(|| {
             for round in buffers.chunks_exact_mut(N * job) {
                 for (slot, buffer) in round.chunks_exact_mut(job).enumerate() {
+                    table.empty_line();
                     done &= table.receive(slot as u8, black_box(buffer)) == Some(job);
                 }
             }

@@ -1,5 +1,5 @@
 // A frame in on a table's octets where they stand, behind refusal 1: the sizes read from line 0, the other first refusals, one row read, `slot_frame` done on it,
-// and the columns written that a frame can change. What is right stands in specs/Incoming.antt.
+// and the columns written that a frame can change. What is right stands in specs/Incoming.antt of `edge_placed`.
 use channel::Answer;
 use channel::CID_BASE;
 use channel::Cid;
@@ -17,8 +17,8 @@ ghost use Rattle.table_room.specs.Placed.{Placed};
 ghost use Rattle.edge.specs.Edge.{edge};
 ghost use Rattle.edge_layout.specs.Layout.{tableOctets, cell, slotIn};
 ghost use Rattle.edge_scan.specs.Scan.{validOctets};
-ghost use Rattle.edge_frames.specs.Frames.{dispatchEdge};
-ghost use Rattle.edge_frames.specs.Incoming.{framedEdge};
+ghost use Rattle.edge_placed.specs.Frames.{dispatchEdge};
+ghost use Rattle.edge_placed.specs.Incoming.{framedEdge};
 
 // Does the CID name one of n slots?
 fn names_slot(n: usize, cid: u16) -> bool

@@ -1,5 +1,5 @@
-// Frames and jobs, each on octets. Each is defined in specs/Frames.antt, by the call's own definition lifted through the two layouts. A frame in and a send work where the octets stand
-// (`incoming`, specs/Incoming.antt; specs/Placed.antt); of a take the table is read, the call made, the table and the answer written back. The exported names are in `entries`.
+// Frames and jobs, each on octets. Each is defined in specs/Frames.antt of `edge_placed`, by the call's own definition lifted through the two layouts. A frame in and a send work where the octets stand
+// (`incoming`); of a take the table is read, the call made, the table and the answer written back. The exported names are in `entries`.
 mod incoming;
 
 use channel::Answer;
@@ -8,7 +8,7 @@ use codes::Refusal;
 ghost use mathlib.Core.Path.{_≡_};
 ghost use mathlib.Core.List.{[]};
 ghost use Rattle.edge.specs.Edge.{edge};
-ghost use Rattle.edge_frames.specs.Frames.{dispatchEdge, sendEdge, receiveEdge};
+ghost use Rattle.edge_placed.specs.Frames.{dispatchEdge, sendEdge, receiveEdge};
 
 // A frame that came in. One row is read, and only the columns that a frame can change are written: the rest of it stays, and other rows.
 pub fn dispatch(

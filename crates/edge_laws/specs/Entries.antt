@@ -24,7 +24,7 @@ use Rattle.edge_opening.specs.Opening.{createEdge, openedEdge, giveUpEdge}
 use Rattle.edge_pending.specs.Pending.{nextPendingEdge, acceptPendingEdge, rejectPendingEdge, rejectAllPendingEdge, dropPendingEdge}
 use Rattle.edge_closing.specs.Holding.{incRefEdge, decRefEdge}
 use Rattle.edge_closing.specs.Closing.{disconnectEdge, disconnectByCidEdge, disconnectedEdge, nextDisconnectEdge}
-use Rattle.edge_frames.specs.Frames.{dispatchEdge, sendEdge, receiveEdge}
+use Rattle.edge_placed.specs.Frames.{dispatchEdge, sendEdge, receiveEdge}
 use Rattle.edge_signals.specs.Signals.{signalEdge}
 use Rattle.edge_laws.specs.NoTable.{shut, isRequest, isCall, serve-refuses, decide-refuses, no-slots, none-ends, leftAlone, on-none}
 

@@ -18,7 +18,7 @@ use Rattle.edge_opening.specs.Opening.{createEdge, openedEdge, giveUpEdge}
 use Rattle.edge_pending.specs.Pending.{nextPendingEdge, acceptPendingEdge, rejectPendingEdge, rejectAllPendingEdge, dropPendingEdge}
 use Rattle.edge_closing.specs.Holding.{incRefEdge, decRefEdge}
 use Rattle.edge_closing.specs.Closing.{disconnectEdge, disconnectByCidEdge, disconnectedEdge, nextDisconnectEdge}
-use Rattle.edge_frames.specs.Frames.{dispatchEdge, sendEdge, receiveEdge}
+use Rattle.edge_placed.specs.Frames.{dispatchEdge, sendEdge, receiveEdge}
 use Rattle.edge_signals.specs.Signals.{signalEdge}
 
 -- An entry with its numbers as C gives them, in C's order: flags, configurations and result codes are numbers. Buffers that it writes to (signal, out,

@@ -11,7 +11,7 @@ ghost use Rattle.edge_opening.specs.Opening.{createEdge, openedEdge, giveUpEdge
 ghost use Rattle.edge_pending.specs.Pending.{nextPendingEdge, acceptPendingEdge, rejectPendingEdge, rejectAllPendingEdge, dropPendingEdge};
 ghost use Rattle.edge_closing.specs.Holding.{incRefEdge, decRefEdge};
 ghost use Rattle.edge_closing.specs.Closing.{disconnectEdge, disconnectByCidEdge, disconnectedEdge, nextDisconnectEdge};
-ghost use Rattle.edge_frames.specs.Frames.{dispatchEdge, sendEdge, receiveEdge};
+ghost use Rattle.edge_placed.specs.Frames.{dispatchEdge, sendEdge, receiveEdge};
 ghost use Rattle.edge_signals.specs.Signals.{signalEdge};
 
 // Makes a table of n slots, depth d and packets of m octets, and zeroes its room. Table octets of another length are refused by 1.

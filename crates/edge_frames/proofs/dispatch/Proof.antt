@@ -7,7 +7,7 @@ use Rattle.codes.specs.declared.Refusal.the-variants.{BadTable}
 use Rattle.channel.specs.declared.Given.the-variants.{Nothing, Is}
 use Rattle.edge_scan.specs.Scan.{validOctets}
 use Rattle.edge_row.specs.Gate.{refused-1}
-use Rattle.edge_frames.specs.Incoming.{frame-stopped}
+use Rattle.edge_placed.specs.Incoming.{frame-stopped}
 use borrow.Author.Needs.{needs}
 use Rattle.edge_frames.proofs.dispatch.Statement.{statement}
 use Rattle.edge_frames.proofs.dispatch.Tie as tie

@@ -11,7 +11,7 @@ use Rattle.channel.specs.declared.Slot.{Slot}
 use Rattle.slot_send.specs.Sending.{sentFrom}
 use Rattle.edge_scan.specs.Scan.{validOctets}
 use Rattle.edge_row.specs.Gate.{valid-long, refused-1, refused-6}
-use Rattle.edge_frames.specs.Placed.{slot-within, send-stopped, sent-placed}
+use Rattle.edge_placed.specs.Sent.{slot-within, send-stopped, sent-placed}
 use borrow.Author.Needs.{needs}
 use Rattle.edge_frames.proofs.send.Statement.{statement}
 use Rattle.edge_frames.proofs.send.Tie as tie

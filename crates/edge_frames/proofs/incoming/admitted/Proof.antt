@@ -11,7 +11,7 @@ use Rattle.channel.specs.declared.ChannelIndex.{ChannelIndex}
 use Rattle.definition.specs.Table.{roomWidth, isCid}
 use Rattle.edge_layout.specs.Layout.{read}
 use Rattle.edge_row.specs.Gate.{valid-long}
-use Rattle.edge_frames.specs.Incoming.{sized-told, refused-2, refused-4, frame-stopped, cid-told, refused-7, row-low, part-placed, have-placed, frame-placed}
+use Rattle.edge_placed.specs.Incoming.{sized-told, refused-2, refused-4, frame-stopped, cid-told, refused-7, row-low, part-placed, have-placed, frame-placed}
 use borrow.Author.Needs.{needs}
 use Rattle.edge_frames.proofs.incoming.admitted.Statement.{statement}
 use Rattle.edge_frames.proofs.incoming.admitted.Tie as tie

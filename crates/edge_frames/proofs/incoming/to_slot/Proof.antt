@@ -3,7 +3,7 @@ use Rattle.definition.specs.Mem.{sizes}
 use Rattle.definition.specs.Table.{placeSize}
 use Rattle.edge_layout.specs.Layout.{cell, slotIn}
 use Rattle.slot_frame.specs.Admitted.{frame-quiet}
-use Rattle.edge_frames.specs.Incoming.{framedEdge}
+use Rattle.edge_placed.specs.Incoming.{framedEdge}
 use borrow.Author.Needs.{needs}
 use Rattle.edge_frames.proofs.incoming.to_slot.Statement.{statement}
 use Rattle.edge_frames.proofs.incoming.to_slot.Tie as tie

@@ -29,7 +29,7 @@ use Rattle.slot_send.specs.Into.{into, sent-into, credits-alone}
 use Rattle.edge_scan.specs.Scan.{validOctets}
 use Rattle.edge_row.specs.Row.{slot-read, credits-written}
 use Rattle.edge_row.specs.Gate.{answered, changes, stopped, valid-read, valid-slots, passes-6}
-use Rattle.edge_frames.specs.Frames.{sendEdge}
+use Rattle.edge_placed.specs.Frames.{sendEdge}
 
 -- a slot in use is one of the rows
 pub slot-within : (o : List ℕ) (slot : ℕ) → validOctets o ≡ true → leb (getD o 1 0) slot ≡ false → slot < slotsMost

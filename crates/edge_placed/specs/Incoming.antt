@@ -44,7 +44,7 @@ use Rattle.edge_scan.specs.Scan.{validOctets}
 use Rattle.edge_row.specs.Row.{slots-told, depth-told, packet-told, slot-read}
 use Rattle.edge_row.specs.Framed.{localOf, peerOf, framed-written}
 use Rattle.edge_row.specs.Gate.{answered, stays, changes, stopped, valid-read, valid-formed, sizedVerdict, verdict-told}
-use Rattle.edge_frames.specs.Frames.{dispatchEdge}
+use Rattle.edge_placed.specs.Frames.{dispatchEdge}
 
 -- what the work on the slot of row s leaves, in the octets and in the room
 unfoldable pub framedEdge : (table answer room : List ℕ) (d m s link : ℕ) (payload : List ℕ) → Edge

@@ -4,7 +4,8 @@
 use std::hint::black_box;
 use std::time::Instant;
 
-const SAMPLES: usize = 301;
+/// So many of each side, in one sitting.
+const SAMPLES: usize = 61;
 /// A sample lasts at least so long, added up over its stretches, so that the clock's steps don't show.
 const SAMPLE_NS: u64 = 20_000;
 
@@ -16,8 +17,7 @@ pub struct Clock {
 impl Clock {
     pub fn new() -> Self {
         let free = Self { cost: 0 };
-        let mut empty: Vec<u64> = (0..10_001).map(|_| free.time(|| ())).collect();
-        Self { cost: middle(&mut empty) }
+        Self { cost: middle((0..10_001).map(|_| free.time(|| ()) as f64).collect()) as u64 }
     }
 
     pub fn cost(&self) -> u64 {
@@ -44,8 +44,9 @@ fn sample(side: &mut Side, kinds: usize, stretches: u64) -> Vec<u64> {
     ns
 }
 
-fn middle(times: &mut [u64]) -> u64 {
-    times.sort_unstable();
+/// The median.
+pub fn middle(mut times: Vec<f64>) -> f64 {
+    times.sort_unstable_by(f64::total_cmp);
     times[times.len() / 2]
 }
 
@@ -59,8 +60,8 @@ pub fn medians(kinds: usize, sides: &mut [&mut Side]) -> Vec<Vec<f64>> {
     for _ in 0..SAMPLES {
         for (side, times) in sides.iter_mut().zip(&mut times) {
             let ns = sample(*side, kinds, stretches);
-            times.iter_mut().zip(ns).for_each(|(times, ns)| times.push(ns));
+            times.iter_mut().zip(ns).for_each(|(times, ns)| times.push(ns as f64 / stretches as f64));
         }
     }
-    times.iter_mut().map(|side| side.iter_mut().map(|kind| middle(kind) as f64 / stretches as f64).collect()).collect()
+    times.into_iter().map(|side| side.into_iter().map(middle).collect()).collect()
 }

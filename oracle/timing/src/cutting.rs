@@ -2,6 +2,7 @@
 //! write the same.
 
 use crate::clock::{medians, Clock};
+use crate::row::{Table, Times};
 use original_d4::encode_job;
 use std::hint::black_box;
 
@@ -38,31 +39,24 @@ fn original_send(out: &mut [u8], mps: u16, sdu: &[u8]) -> usize {
     encode_job(sdu, out, CID, mps).expect("the output holds the frames")
 }
 
-/// The two medians, in nanoseconds a turn.
-fn compare(clock: &Clock, port: &mut dyn FnMut(), other: &mut dyn FnMut()) -> (f64, f64) {
+/// Nanoseconds for each of so many frames of a turn.
+fn compare(clock: &Clock, frames: usize, port: &mut dyn FnMut(), other: &mut dyn FnMut()) -> Times {
     let mut ours = |ns: &mut [u64]| ns[0] += clock.time(|| (0..TURNS).for_each(|_| port()));
     let mut theirs = |ns: &mut [u64]| ns[0] += clock.time(|| (0..TURNS).for_each(|_| other()));
-    let times = medians(1, &mut [&mut ours, &mut theirs]);
-    (times[0][0] / TURNS as f64, times[1][0] / TURNS as f64)
+    Times::each(&medians(1, &mut [&mut ours, &mut theirs]), 0, TURNS * frames)
 }
 
-fn row(what: &str, octets: usize, (port, other): (f64, f64)) {
-    println!("| {what} | {octets} | {port:.1} | {other:.1} | {:.2} |", port / other);
-}
-
-pub fn table(clock: &Clock) {
-    println!("| what | octets | port, ns | original, ns | ratio |");
-    println!("|---|---|---|---|---|");
+pub fn rows(clock: &Clock, table: &mut Table) {
     for size in SIZES {
         let src = crate::octets(size, 0);
         let (mut ours, mut theirs) = (vec![0; size], vec![0; size]);
         port_copy(&mut ours, &src);
         rust_copy(&mut theirs, &src);
         assert_eq!(ours, theirs, "the two copies differ");
-        let times = compare(clock, &mut || port_copy(black_box(&mut ours), black_box(&src)), &mut || {
+        let times = compare(clock, 1, &mut || port_copy(black_box(&mut ours), black_box(&src)), &mut || {
             rust_copy(black_box(&mut theirs), black_box(&src))
         });
-        row("copy", size, times);
+        table.add(format!("copy | {size}"), times);
     }
     for frames in [1, FRAMES] {
         for size in SIZES {
@@ -74,6 +68,7 @@ pub fn table(clock: &Clock) {
             assert_eq!(ours, theirs, "the two outputs differ");
             let times = compare(
                 clock,
+                frames,
                 &mut || {
                     black_box(port_send(black_box(&mut ours), black_box(mps), black_box(&sdu)));
                 },
@@ -81,8 +76,8 @@ pub fn table(clock: &Clock) {
                     black_box(original_send(black_box(&mut theirs), black_box(mps), black_box(&sdu)));
                 },
             );
-            let each = (times.0 / frames as f64, times.1 / frames as f64);
-            row(if frames == 1 { "cut, a job of one frame" } else { "cut, a frame of sixteen" }, size, each);
+            let what = if frames == 1 { "cut, a job of one frame" } else { "cut, a frame of sixteen" };
+            table.add(format!("{what} | {size}"), times);
         }
     }
 }

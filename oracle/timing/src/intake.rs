@@ -106,8 +106,8 @@ pub fn whole<const M: usize>(clock: &Clock, n: usize, size: usize) -> Times {
     Times::each(&medians(1, &mut [&mut ours, &mut theirs, &mut copied]), 0, n * D)
 }
 
-pub fn rows(clock: &Clock) {
+pub fn rows(clock: &Clock, table: &mut row::Table) {
     for size in PAYLOADS {
-        row::print("frame in, a whole job", size, &whole::<M>(clock, N, size));
+        table.add(format!("frame in, a whole job | {size}"), whole::<M>(clock, N, size));
     }
 }

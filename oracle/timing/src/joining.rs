@@ -70,9 +70,9 @@ fn joined(clock: &Clock, size: usize) -> Vec<Times> {
     (0..KINDS.len()).map(|kind| Times::each(&times, kind, N * D * OF_KIND[kind])).collect()
 }
 
-pub fn rows(clock: &Clock) {
+pub fn rows(clock: &Clock, table: &mut row::Table) {
     let times = PAYLOADS.map(|size| joined(clock, size));
     for (kind, what) in KINDS.iter().enumerate() {
-        PAYLOADS.iter().zip(&times).for_each(|(size, times)| row::print(what, *size, &times[kind]));
+        PAYLOADS.iter().zip(&times).for_each(|(size, times)| table.add(format!("{what} | {size}"), times[kind]));
     }
 }

@@ -1,5 +1,5 @@
 //! Times the port beside the original, compiled unchanged, in one run: copying and cutting; then the C entries, called on tables whose channels are all open. Both are given the
-//! same octets and must give the same back. Samples of the two alternate, and medians are printed. No time is asserted.
+//! same octets and must give the same back. Samples of the two alternate, and medians are printed, in the end. No time is asserted.
 
 #[path = "../../entries/src/archive.rs"]
 #[allow(dead_code)]
@@ -19,6 +19,10 @@ mod sending;
 mod taking;
 
 use clock::Clock;
+use row::Table;
+
+/// Every row is timed so often, with all others between, so that what else the machine does for a while doesn't decide one.
+const SITTINGS: usize = 5;
 
 /// The table that most rows are timed on: the largest.
 const N: usize = 16;
@@ -34,17 +38,22 @@ fn octets(n: usize, seed: usize) -> Vec<u8> {
 
 fn main() {
     let clock = Clock::new();
-    cutting::table(&clock);
-    println!();
-    row::head();
-    intake::rows(&clock);
-    joining::rows(&clock);
-    sending::rows(&clock);
-    #[cfg(runs)]
-    runs::rows(&clock);
-    taking::rows(&clock);
-    println!();
-    growth::table(&clock);
-    println!();
+    let [mut cutting, mut entries, mut growth] = [(); 3].map(|()| Table::default());
+    for _ in 0..SITTINGS {
+        for table in [&mut cutting, &mut entries, &mut growth] {
+            table.again();
+        }
+        cutting::rows(&clock, &mut cutting);
+        intake::rows(&clock, &mut entries);
+        joining::rows(&clock, &mut entries);
+        sending::rows(&clock, &mut entries);
+        #[cfg(runs)]
+        runs::rows(&clock, &mut entries);
+        taking::rows(&clock, &mut entries);
+        growth::rows(&clock, &mut growth);
+    }
+    cutting.print("what | octets");
+    entries.print("what | octets");
+    growth.print("N | M | what | octets");
     println!("Reading the clock takes {} ns, which are taken off.", clock.cost());
 }

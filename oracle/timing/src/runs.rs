@@ -94,11 +94,11 @@ fn jobs_sent(clock: &Clock, mps: usize, run: usize) -> Times {
     Times::each(&medians(1, &mut [&mut ours, &mut theirs, &mut copied]), 0, N * D)
 }
 
-pub fn rows(clock: &Clock) {
+pub fn rows(clock: &Clock, table: &mut row::Table) {
     for run in RUNS {
-        PAYLOADS.iter().for_each(|size| row::print(&format!("frame in, in a run of {run}"), *size, &frames_in(clock, *size, run)));
+        PAYLOADS.iter().for_each(|size| table.add(format!("frame in, in a run of {run} | {size}"), frames_in(clock, *size, run)));
     }
     for run in RUNS {
-        PAYLOADS.iter().for_each(|size| row::print(&format!("send, one frame, in a run of {run}"), *size, &jobs_sent(clock, *size, run)));
+        PAYLOADS.iter().for_each(|size| table.add(format!("send, one frame, in a run of {run} | {size}"), jobs_sent(clock, *size, run)));
     }
 }

@@ -120,17 +120,18 @@ fn credit(clock: &Clock) -> Times {
     Times::each(&medians(1, &mut [&mut ours, &mut theirs]), 0, N * D)
 }
 
-pub fn rows(clock: &Clock) {
+pub fn rows(clock: &Clock, table: &mut row::Table) {
     let one = PAYLOADS.map(|mps| jobs::<M>(clock, N, mps, 1));
-    PAYLOADS.iter().zip(&one).for_each(|(mps, (times, _))| row::print("send, one frame", *mps, times));
+    PAYLOADS.iter().zip(&one).for_each(|(mps, (times, _))| table.add(format!("send, one frame | {mps}"), *times));
     for (mps, (times, future)) in PAYLOADS.iter().zip(&one) {
-        row::print("send, one frame, beside the future", *mps, &Times { port: times.port, original: *future, copied: None });
+        let beside = Times { port: times.port, original: *future, copied: None };
+        table.add(format!("send, one frame, beside the future | {mps}"), beside);
     }
     for mps in PAYLOADS {
         let (times, _) = jobs::<M>(clock, N, mps, LONG);
         let a_frame = |ns: f64| ns / LONG as f64;
         let each = Times { port: a_frame(times.port), original: a_frame(times.original), copied: times.copied.map(a_frame) };
-        row::print("send, a frame of ten", mps, &each);
+        table.add(format!("send, a frame of ten | {mps}"), each);
     }
-    row::print("signal, one credit", 8, &credit(clock));
+    table.add("signal, one credit | 8".to_string(), credit(clock));
 }

@@ -56,9 +56,9 @@ fn takes(clock: &Clock, size: usize, waiting: usize, grants: bool) -> Times {
     Times::each(&medians(1, &mut [&mut ours, &mut theirs]), 0, N * waiting)
 }
 
-pub fn rows(clock: &Clock) {
+pub fn rows(clock: &Clock, table: &mut row::Table) {
     for (what, waiting, grants) in [("take, with a grant", 1, true), ("take, without one", 1, false), ("take, of four that wait", D, false)]
     {
-        PAYLOADS.iter().for_each(|size| row::print(what, *size, &takes(clock, *size, waiting, grants)));
+        PAYLOADS.iter().for_each(|size| table.add(format!("{what} | {size}"), takes(clock, *size, waiting, grants)));
     }
 }

@@ -1,4 +1,5 @@
 -- `edge_frames::taking::from_slot` meets its contract: the work on the slot that the row says; its columns, the next identifier and the answer written.
+use native.Mathlib.Omega.{arith}
 use Rattle.edge_placed.specs.Taken.{taken-edge}
 use borrow.Author.Needs.{needs}
 use Rattle.edge_frames.proofs.taking.from_slot.Statement.{statement}
@@ -19,7 +20,7 @@ take-from-requires c κs = search needs
 put-taken-requires : tie.Need-put-taken-requires
 put-taken-requires c κs =
     let a = c .before .before .before .before .before .before .before .before .before .before .before .before .before .before .before .before .before .before .before .before .before .before .pre in
-    (a .0, a .1)
+    (a .0, omega (arith, a .1))
 
 id-then-requires : tie.Need-id-then-requires
 id-then-requires c κs = search needs

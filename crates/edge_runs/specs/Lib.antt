@@ -8,3 +8,4 @@ pub mod Isolation
 pub mod Rules
 pub mod Example
 pub mod Reading
+pub mod FrameRun

@@ -20,7 +20,7 @@ use Rattle.edge_layout.specs.Layout.{read}
 use Rattle.edge_scan.specs.Scan.{validOctets}
 use Rattle.edge_row.specs.Gate.{sizedVerdict, verdict-told}
 use Rattle.edge_run.specs.declared.Ended.{Ended}
-use Rattle.edge_run.specs.Run.{Ran, endedAs, ranOctets, runEdge, begun, told}
+use Rattle.edge_run.specs.Run.{endedAs, ranOctets, runEdge, begun, told}
 use Rattle.edge_dispatch_run.specs.Frames.{lentBy, framesRun, leftBy, dispatchRunEdge}
 
 -- ---- refusal 2, or none

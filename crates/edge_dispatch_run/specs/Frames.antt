@@ -1,6 +1,6 @@
 -- What a run of frames leaves on octets: what the frames leave one after the other (`dispatchEdge`), each of them a call of the run (crate edge_run).
 use mathlib.Core.List.{List, []}
-use Prim.Native.Nat.{ℕ, _+_, _*_}
+use Prim.Native.Nat.{ℕ, _+_}
 use lib.ListN.{length}
 use lib.Seq.{sets}
 use Rattle.octets.specs.Octets.{u16At, part}

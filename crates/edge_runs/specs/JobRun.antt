@@ -1,9 +1,9 @@
--- A run of frames or of jobs that is handed over at once (l2cap_dispatch_run, l2cap_send_run) is a run of entries: it leaves what the entries leave that are made one by one, and these are
--- named here. So what is promised of every run of entries is promised of one in which such runs stand.
+-- A run of jobs that is handed over at once (l2cap_send_run) is a run of entries: it leaves what the sends leave that are made one by one, each lent what the ones before it left of the
+-- output; they are named here. (Of a run of frames FrameRun.antt says it.) So what is promised of every run of entries is promised of one in which such runs stand.
 use mathlib.Core.Path.{_≡_, refl, sym, ap, _∙_}
 use mathlib.Core.Bool.{Bool, true, false}
 use mathlib.Core.List.{List, [], _∷_, _++_}
-use mathlib.Core.Logic.{inl, inr}
+use mathlib.Core.Logic.{inr}
 use Prim.Native.Nat.{ℕ, zero, suc, _+_, _-_, _*_, _≤_, _<_}
 use native.Mathlib.Omega.{arith}
 use lib.Dec.{leb, ltb}
@@ -12,25 +12,23 @@ use lib.Seq.{sets, length-sets, getD-drop, ext-getD}
 use Rattle.lists.specs.Choose.{choose, if-cases}
 use Rattle.octets.specs.Octets.{u16At, part}
 use Rattle.octets.specs.Sets.{sets-out, sets-inside, sets-over, sets-whole, cut-at, store, part-length, part-at, part-same}
-use Rattle.channel.specs.declared.Given.the-variants.{Nothing, Is}
-use Rattle.channel.specs.declared.Table.{Table}
+use Rattle.channel.specs.declared.Given.the-variants.{Nothing}
 use Rattle.channel.specs.declared.Verdict.{Verdict}
 use Rattle.channel.specs.declared.Verdict.the-variants.{Pass, Stop}
 use Rattle.definition.specs.Table.{if_then_else_}
 use Rattle.definition.specs.Mem.{Fill, fills, written}
 use Rattle.definition.specs.Outcome.{verdict}
 use Rattle.definition.specs.Frames as Frames
-use Rattle.definition.specs.Calls.{Window, frame, jobs, frameIn}
+use Rattle.definition.specs.Calls.{Window, jobs}
 use Rattle.definition.specs.Ending.{itself, endOf}
 use Rattle.definition.specs.Run.{lent, outWindow, jobWindow}
 use Rattle.edge_layout.specs.Layout.{read}
 use Rattle.edge.specs.Edge.{onTable, lifted}
-use Rattle.edge_placed.specs.Frames.{dispatchEdge, sendEdge, sentOctets}
+use Rattle.edge_placed.specs.Frames.{sendEdge}
 use Rattle.edge_placed.specs.Sent.{octets-within}
 use Rattle.edge_run.specs.Run.{Lent, answerSize, ran, begun}
-use Rattle.edge_dispatch_run.specs.Frames.{frameSize, frameCall, dispatchRunEdge}
 use Rattle.edge_send_run.specs.Jobs.{jobSize, jobCall, sendRunEdge}
-use Rattle.edge_runs.specs.Entries.{dispatch, send, leaves}
+use Rattle.edge_runs.specs.Entries.{send, leaves}
 use Rattle.edge_runs.specs.Run.{EdgeState, Asked, callIn, entered, Apart, BuffersApart, entries}
 
 -- ---- the entries that a run makes, for any kind of call
@@ -96,58 +94,11 @@ module _ (items : List ℕ) (size : (from : ℕ) → ℕ) (call : (from at : ℕ
         (λ _. if-cases BuffersApart (ltb (length (l .answers)) (answerSize * suc count)) (λ _. tt)
         (λ _. (apart used answer l, made-apart turns (suc count) (used + size used) (call used (answerSize * count) answer l)))))
 
--- ---- a run of frames
+-- ---- a run of jobs
 
 none-written : (js room : List ℕ) (fs : List Fill) → written itself js room fs [] ≡ []
 unfolding written
 none-written js room fs = sets-out {A = ℕ} [] 0 (fills itself js room fs) (omega arith)
-
-module _ (frames memory : List ℕ) where
-  abbrev frameAsked : (from : ℕ) → (answer : List ℕ) → Lent → Asked
-  frameAsked from answer l = record { entry = dispatch (u16At frames from) (u16At frames (from + 2)) (part frames (from + 6) (u16At frames (from + 4))); answer = answer }
-
-  abbrev lies : Lent → EdgeState
-  lies l = record { table = l .table; room = l .room; memory = memory }
-
-  -- a frame writes to no buffer
-  quiet : (table answer room : List ℕ) (link cid : ℕ) (p : List ℕ) → (dispatchEdge table answer room link cid p .out ≡ []) × (dispatchEdge table answer room link cid p .job ≡ [])
-  unfolding onTable lifted endOf
-  quiet table answer room link cid p =
-      let t = read table .table in
-      let o = frameIn t (length room) link cid p in
-      (none-written (jobs t (frame link cid p)) room (o .out), none-written (jobs t (frame link cid p)) room (o .job))
-
-  frame-step : (from at : ℕ) (answer : List ℕ) (l : Lent) → lies (frameCall frames from at answer l) ≡ entered (lies l) (frameAsked from answer l)
-  unfolding entered leaves choose
-  frame-step from at answer l =
-      let q = quiet (l .table) answer (l .room) (u16At frames from) (u16At frames (from + 2)) (part frames (from + 6) (u16At frames (from + 4))) in
-      rw (q .0, q .1)
-
-  -- the entries of the run: none, where the first refusals stop it
-  abbrev pub framesHanded : (table room answers : List ℕ) → Verdict → List Asked
-  framesHanded table room answers (Stop r) = []
-  framesHanded table room answers Pass = made frames (frameSize frames) (frameCall frames) frameAsked (length frames) 0 0 (record { table = table; room = room; out = []; wrote = 0; answers = answers })
-
-  by-verdict : (table answer room answers : List ℕ) (v : Verdict)
-      → lies (begun v (record { table = table; room = room; out = []; wrote = 0; answers = answers })
-      (ran frames (frameSize frames) (frameCall frames) (length frames) 0 0 (record { table = table; room = room; out = []; wrote = 0; answers = answers })) .lent)
-      ≡ entries (record { table = table; room = room; memory = memory }) (framesHanded table room answers v)
-  unfolding entries
-  by-verdict table answer room answers (Stop r) = refl
-  by-verdict table answer room answers Pass = ran-made frames (frameSize frames) (frameCall frames) frameAsked lies (λ _. Unit {0}) (λ _ _ _ _ _. tt) (λ from at answer l _. frame-step from at answer l) (length frames) 0 0 (record { table = table; room = room; out = []; wrote = 0; answers = answers }) tt
-
-  -- they are lent no buffers that overlap
-  pub frames-apart : (table room answers : List ℕ) (v : Verdict) → BuffersApart (framesHanded table room answers v)
-  frames-apart table room answers (Stop r) = tt
-  frames-apart table room answers Pass = made-apart frames (frameSize frames) (frameCall frames) frameAsked (λ from answer l. inl (omega arith)) (length frames) 0 0 _
-
-  -- WHAT l2cap_dispatch_run LEAVES IS WHAT l2cap_dispatch LEAVES, MADE FOR EACH FRAME
-  pub frames-made : (table answer room answers : List ℕ)
-      → record { table = dispatchRunEdge table answer room frames answers .table; room = dispatchRunEdge table answer room frames answers .room; memory = memory }
-      ≡ entries (record { table = table; room = room; memory = memory }) (framesHanded table room answers (verdict (read table .table) (Is (length room)) Nothing Nothing Nothing))
-  frames-made table answer room answers = by-verdict table answer room answers (verdict (read table .table) (Is (length room)) Nothing Nothing Nothing)
-
--- ---- a run of jobs
 
 -- what is written into a part that was written
 nested : (m : List ℕ) (f : ℕ) (xs : List ℕ) (k : ℕ) (ys : List ℕ) → f + length xs ≤ length m → k + length ys ≤ length xs → sets (sets m f xs) (f + k) ys ≡ sets m f (sets xs k ys)

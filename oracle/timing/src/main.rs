@@ -13,7 +13,6 @@ mod joining;
 mod original;
 mod port;
 mod row;
-#[cfg(runs)]
 mod runs;
 mod sending;
 mod taking;
@@ -47,7 +46,6 @@ fn main() {
         intake::rows(&clock, &mut entries);
         joining::rows(&clock, &mut entries);
         sending::rows(&clock, &mut entries);
-        #[cfg(runs)]
         runs::rows(&clock, &mut entries);
         taking::rows(&clock, &mut entries);
         growth::rows(&clock, &mut growth);

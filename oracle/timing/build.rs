@@ -1,6 +1,6 @@
 //! Links the archives of the port's crates `sar_speed` and `entries`: libspeed.a and libentries.a of the folder PORT_ARCHIVES.
 
-use std::{env, fs};
+use std::env;
 
 fn main() {
     println!("cargo:rerun-if-env-changed=PORT_ARCHIVES");
@@ -9,11 +9,5 @@ fn main() {
     for archive in ["speed", "entries"] {
         println!("cargo:rerun-if-changed={folder}/lib{archive}.a");
         println!("cargo:rustc-link-lib=static={archive}");
-    }
-    // Runs are timed where the archive has them.
-    println!("cargo:rustc-check-cfg=cfg(runs)");
-    let name = b"l2cap_dispatch_run";
-    if fs::read(format!("{folder}/libentries.a")).is_ok_and(|octets| octets.windows(name.len()).any(|part| part == name)) {
-        println!("cargo:rustc-cfg=runs");
     }
 }

@@ -45,7 +45,7 @@ fn sample(side: &mut Side, kinds: usize, stretches: u64) -> Vec<u64> {
 }
 
 /// The median.
-pub fn middle(mut times: Vec<f64>) -> f64 {
+fn middle(mut times: Vec<f64>) -> f64 {
     times.sort_unstable_by(f64::total_cmp);
     times[times.len() / 2]
 }

@@ -1,5 +1,5 @@
 //! Times the port beside the original, compiled unchanged, in one run: copying and cutting; then the C entries, called on tables whose channels are all open. Both are given the
-//! same octets and must give the same back. Samples of the two alternate, and medians are printed, in the end. No time is asserted.
+//! same octets and must give the same back. Samples of the two alternate, and their medians are printed, in the end. No time is asserted.
 
 #[path = "../../entries/src/archive.rs"]
 #[allow(dead_code)]
@@ -13,7 +13,6 @@ mod joining;
 mod original;
 mod port;
 mod row;
-#[cfg(runs)]
 mod runs;
 mod sending;
 mod taking;
@@ -21,7 +20,7 @@ mod taking;
 use clock::Clock;
 use row::Table;
 
-/// Every row is timed so often, with all others between, so that what else the machine does for a while doesn't decide one.
+/// Every row is timed so often, with all others between.
 const SITTINGS: usize = 5;
 
 /// The table that most rows are timed on: the largest.
@@ -47,7 +46,6 @@ fn main() {
         intake::rows(&clock, &mut entries);
         joining::rows(&clock, &mut entries);
         sending::rows(&clock, &mut entries);
-        #[cfg(runs)]
         runs::rows(&clock, &mut entries);
         taking::rows(&clock, &mut entries);
         growth::rows(&clock, &mut growth);

@@ -9,36 +9,6 @@ const DEFAULT: u32 = 0x1_0000;
 const EVERY: u8 = 0;
 const MIN_THRESHOLD: u8 = 1;
 
-#[cfg(runs)]
-extern "C" {
-    #[rustfmt::skip]
-    fn l2cap_dispatch_run(
-        table: *mut u8,
-        _: usize,
-        answer: *mut u8,
-        _: usize,
-        room: *mut u8,
-        _: usize,
-        frames: *const u8,
-        _: usize,
-        answers: *mut u8,
-        _: usize,
-    ) -> u32;
-    #[rustfmt::skip]
-    fn l2cap_send_run(
-        table: *mut u8,
-        _: usize,
-        answer: *mut u8,
-        _: usize,
-        out: *mut u8,
-        _: usize,
-        jobs: *const u8,
-        _: usize,
-        answers: *mut u8,
-        _: usize,
-    ) -> u32;
-}
-
 pub struct Port {
     table: [u8; TABLE_OCTETS],
     answer: [u8; 16],
@@ -91,46 +61,14 @@ impl Port {
         archive::signal(&mut self.table, &mut self.answer, &mut self.room, &mut self.signal, link(slot), 1, 1, pdu)
     }
 
-    #[cfg(runs)]
     #[inline]
     pub fn dispatch_run(&mut self, frames: &[u8], answers: &mut [u8]) -> u32 {
-        let Self { table, answer, room, .. } = self;
-        // SAFETY: valid slices with their own lengths, the lent ones borrowed for the call; the entry asks nothing more.
-        unsafe {
-            l2cap_dispatch_run(
-                table.as_mut_ptr(),
-                table.len(),
-                answer.as_mut_ptr(),
-                answer.len(),
-                room.as_mut_ptr(),
-                room.len(),
-                frames.as_ptr(),
-                frames.len(),
-                answers.as_mut_ptr(),
-                answers.len(),
-            )
-        }
+        archive::dispatch_run(&mut self.table, &mut self.answer, &mut self.room, frames, answers)
     }
 
-    #[cfg(runs)]
     #[inline]
     pub fn send_run(&mut self, jobs: &[u8], answers: &mut [u8]) -> u32 {
-        let Self { table, answer, out, .. } = self;
-        // SAFETY: as above.
-        unsafe {
-            l2cap_send_run(
-                table.as_mut_ptr(),
-                table.len(),
-                answer.as_mut_ptr(),
-                answer.len(),
-                out.as_mut_ptr(),
-                out.len(),
-                jobs.as_ptr(),
-                jobs.len(),
-                answers.as_mut_ptr(),
-                answers.len(),
-            )
-        }
+        archive::send_run(&mut self.table, &mut self.answer, &mut self.out, jobs, answers)
     }
 
     /// How many octets the last call wrote to its signal or its output.

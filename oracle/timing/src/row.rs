@@ -1,7 +1,5 @@
-//! A table of figures: of each row what the port takes, and the original without and with its copy. Each sitting adds to every row, in the same order; the medians of the sittings are
-//! printed.
-
-use crate::clock::middle;
+//! A table of figures: of each row what the port takes, and the original without and with its copy. Each sitting times every row, in the same order; a row keeps the figures of
+//! the sitting in which its sides together were fastest, so that they are of one time, and of a quiet one.
 
 /// Nanoseconds for one frame, job, take or signal.
 #[derive(Clone, Copy)]
@@ -18,12 +16,16 @@ impl Times {
         let one = |side: &Vec<f64>| side[kind] / of as f64;
         Self { port: one(&sides[0]), original: one(&sides[1]), copied: sides.get(2).map(one) }
     }
+
+    fn sum(&self) -> f64 {
+        self.port + self.original + self.copied.unwrap_or(0.0)
+    }
 }
 
 #[derive(Default)]
 pub struct Table {
-    rows: Vec<(String, Vec<Times>)>,
-    /// The row that is added to next.
+    rows: Vec<(String, Times)>,
+    /// The row that comes next in this sitting.
     next: usize,
 }
 
@@ -35,30 +37,25 @@ impl Table {
 
     /// A row begins with its label: what was timed, and its sizes, in columns.
     pub fn add(&mut self, label: String, times: Times) {
-        if self.next == self.rows.len() {
-            self.rows.push((label, Vec::new()));
+        match self.rows.get_mut(self.next) {
+            None => self.rows.push((label, times)),
+            Some((_, best)) if times.sum() < best.sum() => *best = times,
+            Some(_) => {}
         }
-        self.rows[self.next].1.push(times);
         self.next += 1;
     }
 
     pub fn print(&self, label: &str) {
-        let copies = self.rows.iter().any(|(_, times)| times[0].copied.is_some());
+        let copies = self.rows.iter().any(|(_, times)| times.copied.is_some());
         let head = format!("| {label} | port, ns | original, ns | ratio |{}", if copies { " with its copy, ns | ratio |" } else { "" });
         println!("{head}\n{}|", "|---".repeat(head.matches('|').count() - 1));
-        for (label, times) in &self.rows {
-            let of = |figure: fn(&Times) -> Option<f64>| times.iter().filter_map(figure).collect::<Vec<f64>>();
-            let port = middle(of(|times| Some(times.port)));
-            let original = middle(of(|times| Some(times.original)));
-            print!("| {label} | {port:.1} | {original:.1} | {:.2} |", port / original);
-            match of(|times| times.copied) {
-                _ if !copies => println!(),
-                none if none.is_empty() => println!(" | |"),
-                some => {
-                    let copied = middle(some);
-                    println!(" {copied:.1} | {:.2} |", port / copied);
-                }
-            }
+        for (label, Times { port, original, copied }) in &self.rows {
+            let end = match copied {
+                Some(copied) => format!(" {copied:.1} | {:.2} |", port / copied),
+                None if copies => " | |".to_string(),
+                None => String::new(),
+            };
+            println!("| {label} | {port:.1} | {original:.1} | {:.2} |{end}", port / original);
         }
         println!();
     }

@@ -1,15 +1,13 @@
 -- How a run of frames begins and what is told at its end: the first refusals by the table's octets, and the run's own answer.
-use mathlib.Core.Path.{_≡_, sym, ap, _∙_}
-use mathlib.Core.Bool.{true, false}
+use mathlib.Core.Path.{_≡_, refl, sym, ap, _∙_}
+use mathlib.Core.Bool.{true, not}
 use mathlib.Core.List.{List, []}
 use Prim.Native.Nat.{ℕ}
 use lib.Dec.{eqb}
 use lib.ListN.{length, getD}
 use lib.Seq.{sets}
-use Rattle.lists.specs.Choose.{choose}
 use Rattle.octets.specs.Octets.{u16At}
 use Rattle.codes.specs.declared.Refusal.{Refusal}
-use Rattle.codes.specs.declared.Refusal.the-variants.{BadRoom}
 use Rattle.codes.specs.Codes.{refusalNumber}
 use Rattle.channel.specs.declared.Given.the-variants.{Nothing, Is}
 use Rattle.channel.specs.declared.Verdict.{Verdict}
@@ -18,28 +16,14 @@ use Rattle.definition.specs.Table.{roomWidth}
 use Rattle.definition.specs.Outcome.{verdict}
 use Rattle.edge_layout.specs.Layout.{read}
 use Rattle.edge_scan.specs.Scan.{validOctets}
-use Rattle.edge_row.specs.Gate.{sizedVerdict, verdict-told}
+use Rattle.edge_row.specs.Gate.{passes}
 use Rattle.edge_run.specs.declared.Ended.{Ended}
 use Rattle.edge_run.specs.Run.{endedAs, ranOctets, runEdge, begun, told}
 use Rattle.edge_dispatch_run.specs.Frames.{lentBy, framesRun, leftBy, dispatchRunEdge}
 
--- ---- refusal 2, or none
-
-module _ (n d m long : ℕ) where
-  sized-2 : eqb long (roomWidth n d m) ≡ false → sizedVerdict n d m (Is long) Nothing Nothing Nothing ≡ Stop BadRoom
-  unfolding sizedVerdict choose
-  sized-2 e = rw e
-
-  sized-pass : eqb long (roomWidth n d m) ≡ true → sizedVerdict n d m (Is long) Nothing Nothing Nothing ≡ Pass
-  unfolding sizedVerdict choose
-  sized-pass e = rw e
-
-module _ (o : List ℕ) (v : validOctets o ≡ true) (long : ℕ) where
-  pub run-refused-2 : eqb long (roomWidth (getD o 1 0) (getD o 2 0) (u16At o 3)) ≡ false → verdict (read o .table) (Is long) Nothing Nothing Nothing ≡ Stop BadRoom
-  run-refused-2 e = verdict-told o v (Is long) Nothing Nothing Nothing ∙ sized-2 (getD o 1 0) (getD o 2 0) (u16At o 3) long e
-
-  pub run-passes : eqb long (roomWidth (getD o 1 0) (getD o 2 0) (u16At o 3)) ≡ true → verdict (read o .table) (Is long) Nothing Nothing Nothing ≡ Pass
-  run-passes e = verdict-told o v (Is long) Nothing Nothing Nothing ∙ sized-pass (getD o 1 0) (getD o 2 0) (u16At o 3) long e
+-- no refusal, where the room fits
+pub run-passes : (o : List ℕ) → validOctets o ≡ true → (long : ℕ) → eqb long (roomWidth (getD o 1 0) (getD o 2 0) (u16At o 3)) ≡ true → verdict (read o .table) (Is long) Nothing Nothing Nothing ≡ Pass
+run-passes o v long e = passes o v (Is long) Nothing Nothing Nothing (ap not e) refl refl refl
 
 -- ---- what is told
 

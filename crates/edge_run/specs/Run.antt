@@ -1,13 +1,12 @@
 -- A run: calls of one kind, handed over one after the other in one lent slice (`items`). It leaves what the calls leave that are made one by one, each answer over
 -- the next sixteen octets of `answers`. This page says so for any kind of call; it is told how many octets the call at a place
 -- has, and what that call leaves, whose answer stands at a place of the answers.
-use mathlib.Core.List.{List, []}
+use mathlib.Core.List.{List}
 use Prim.Native.Nat.{ℕ, zero, suc, _+_, _*_, _/_, _%_, min}
 use lib.Dec.{leb, ltb}
 use lib.ListN.{length}
 use lib.Seq.{sets}
 use Rattle.octets.specs.Octets.{part}
-use Rattle.codes.specs.declared.Refusal.{Refusal}
 use Rattle.codes.specs.declared.Refusal.the-variants.{NoRoom, Decode}
 use Rattle.codes.specs.Codes.{refusalNumber}
 use Rattle.channel.specs.declared.Verdict.{Verdict}

@@ -1,5 +1,5 @@
 -- The loop that makes a run: behind `count` calls, which took `used` octets, what is left of the run comes to the whole of it. Its start, its turn, and its three ends.
-use mathlib.Core.Path.{_≡_, refl, sym, ap, _∙_}
+use mathlib.Core.Path.{_≡_, sym, ap, _∙_}
 use Prim.Native.Nat.{ℕ, zero, suc, _+_, _-_, _*_, _≤_, _<_}
 use mathlib.Core.List.{List}
 use native.Mathlib.Omega.{arith}

@@ -9,7 +9,7 @@ use Rattle.octets.specs.Octets.{part}
 use Rattle.codes.specs.declared.Refusal.the-variants.{NoRoom, Decode}
 use Rattle.codes.specs.Codes.{refusalNumber}
 use Rattle.lists.specs.Choose.{choose}
-use Rattle.edge_run.specs.Run.{Lent, Ran, ended, answerSize, ran}
+use Rattle.edge_run.specs.Run.{Lent, ended, answerSize, ran}
 
 module _ (items : List ℕ) (size : (from : ℕ) → ℕ) (call : (from at : ℕ) → (answer : List ℕ) → Lent → Lent) (turns count used : ℕ) (l : Lent) where
   pub ran-over : leb (length items) used ≡ true → ran items size call (suc turns) count used l ≡ ended 0 count used l

@@ -19,7 +19,7 @@ use Rattle.definition.specs.Table.{if_then_else_}
 use Rattle.definition.specs.Mem.{Fill, fills, written}
 use Rattle.definition.specs.Outcome.{verdict}
 use Rattle.definition.specs.Frames as Frames
-use Rattle.definition.specs.Calls.{Window, jobs}
+use Rattle.definition.specs.Calls.{Window}
 use Rattle.definition.specs.Ending.{itself, endOf}
 use Rattle.definition.specs.Run.{lent, outWindow, jobWindow}
 use Rattle.edge_layout.specs.Layout.{read}

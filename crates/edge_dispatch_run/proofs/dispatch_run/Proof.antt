@@ -9,8 +9,8 @@ use Rattle.codes.specs.declared.Refusal.the-variants.{BadTable, BadRoom}
 use Rattle.channel.specs.declared.Given.the-variants.{Nothing, Is}
 use Rattle.definition.specs.Table.{roomWidth}
 use Rattle.edge_scan.specs.Scan.{validOctets}
-use Rattle.edge_row.specs.Gate.{refused-1}
-use Rattle.edge_dispatch_run.specs.Begins.{run-refused-2, run-passes, run-stopped, run-ends}
+use Rattle.edge_row.specs.Gate.{refused-1, refused-2}
+use Rattle.edge_dispatch_run.specs.Begins.{run-passes, run-stopped, run-ends}
 use borrow.Author.Needs.{needs}
 use Rattle.edge_dispatch_run.proofs.dispatch_run.Statement.{statement}
 use Rattle.edge_dispatch_run.proofs.dispatch_run.Tie as tie
@@ -60,7 +60,7 @@ returns-2 c =
     let valid : validOctets o ≡ true = sym (c .before .before .before .before .before .before .before .before .before .valid .ensures) ∙ not-false _ (c .before .before .before .before .before .before .before .before .if1 .left) in
     let other : eqb (length (g .room .now)) (roomWidth (getD o 1 0) (getD o 2 0) (u16At o 3)) ≡ false = sym (c .before .before .before .before .before .before .room-fits .ensures) ∙ not-true _ (c .before .before .before .before .before .if2 .taken) in
     let told = c .before .before .put-ended2 .ensures in
-    run-stopped o (g .answer .now) (g .room .now) (g .frames .now) (g .answers .now) BadRoom (run-refused-2 o valid (length (g .room .now)) other) (c .before .before .before .refused2 .ensures) (told .0) (told .1)
+    run-stopped o (g .answer .now) (g .room .now) (g .frames .now) (g .answers .now) BadRoom (refused-2 o valid (length (g .room .now)) Nothing Nothing Nothing other) (c .before .before .before .refused2 .ensures) (told .0) (told .1)
 
 frames-in-requires : tie.Need-frames-in-requires
 frames-in-requires c κs = sym (c .before .before .before .before .before .before .before .valid .ensures) ∙ not-false _ (c .before .before .before .before .before .before .if1 .left)

@@ -1,7 +1,7 @@
-// A run of frames on a table's octets where they stand: the table and the room are tested once, then each frame is a frame in (`incoming` of `edge_frames`). Defined in specs/Frames.antt, by the
+// A run of frames on a table's octets where they stand: the table and the room are tested once, then each frame is a frame in (`incoming` of `edge_dispatch`). Defined in specs/Frames.antt, by the
 // definition of one frame. The exported name is in `entries`.
 use codes::Refusal;
-use edge_frames::incoming;
+use edge_dispatch::incoming;
 use edge_run::ANSWER_OCTETS;
 use edge_run::Ended;
 ghost use mathlib.Core.Path.{_≡_};

@@ -1,9 +1,9 @@
-// A run of jobs on a table's octets where they stand: the table is tested once, then each job is a send (`outgoing` of `edge_frames`). Defined in specs/Jobs.antt, by the definition of one send. The
+// A run of jobs on a table's octets where they stand: the table is tested once, then each job is a send (`outgoing` of `edge_send`). Defined in specs/Jobs.antt, by the definition of one send. The
 // exported name is in `entries`.
 use codes::Refusal;
-use edge_frames::outgoing;
 use edge_run::ANSWER_OCTETS;
 use edge_run::Ended;
+use edge_send::outgoing;
 ghost use mathlib.Core.Path.{_≡_};
 ghost use mathlib.Core.Bool.{true};
 ghost use mathlib.Core.List.{[]};

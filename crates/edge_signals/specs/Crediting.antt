@@ -1,6 +1,6 @@
--- Which PDUs begin with a good credit signal, and that the call handles them so: what it then leaves stands in `edge_placed`.
+-- The call handles a PDU that begins with a good credit signal as `edge_credits` does: what it then leaves stands in `edge_placed`.
 use mathlib.Core.Path.{_≡_, refl, ap}
-use mathlib.Core.Bool.{Bool, true, false, false≢true, not}
+use mathlib.Core.Bool.{Bool, true, false, false≢true}
 use mathlib.Core.List.{List, [], _∷_}
 use Prim.Native.Nat.{ℕ}
 use native.Mathlib.Omega.{arith}
@@ -16,21 +16,12 @@ use Rattle.signal_bodies.specs.declared.le_credit.LeCreditFlowIndRead.{LeCredit
 use Rattle.signal_bodies.specs.declared.le_credit.LeCreditFlowIndRead.the-variants as Flow
 use Rattle.signal_bodies.specs.LeCreditBodies.{leCreditFlowInd}
 use Rattle.channel.specs.declared.Table.{Table}
-use Rattle.definition.specs.Table.{if_then_else_}
 use Rattle.definition.specs.Signals.{onCredits, handled, checked, signalled}
 use Rattle.edge_layout.specs.Layout.{read}
 use Rattle.edge.specs.Edge.{onTable, flag}
 use Rattle.edge_placed.specs.Credited.{creditsEdge}
+use Rattle.edge_credits.specs.CreditsIn.{behindHeaders, creditsIn}
 use Rattle.edge_signals.specs.Signals.{signalEdge}
-
--- the credits that the PDU's first signal gives, where every header is good, its code is 0x16 and its body is one
-abbrev behindHeaders : (pdu : List ℕ) → Checked → LeCreditFlowIndRead
-behindHeaders pdu Good = leCreditFlowInd (bodyIn pdu)
-behindHeaders pdu Cut = Flow.Decode
-behindHeaders pdu (Past id) = Flow.Decode
-
-unfoldable pub creditsIn : (pdu : List ℕ) → LeCreditFlowIndRead
-creditsIn pdu = if not (eqb (getD pdu 0 0) 0x16) then Flow.Decode else behindHeaders pdu (headersOf pdu)
 
 abbrev isRead : LeCreditFlowIndRead → Bool
 isRead Flow.Decode = false

@@ -1,8 +1,6 @@
 // A signal PDU's first signal, on octets. It is defined in specs/Signals.antt, by the call's own definition lifted through the two layouts. A credit signal, which comes with every few
-// frames, works where the octets stand (`crediting`); of every other the table is read, the call made, the table and the answer written back. The exported name is in
+// frames, works where the octets stand (`edge_credits`); of every other the table is read, the call made, the table and the answer written back. The exported name is in
 // `entries`.
-mod crediting;
-
 use signal_bodies::le_credit::LeCreditFlowIndRead;
 ghost use mathlib.Core.Path.{_≡_};
 ghost use mathlib.Core.List.{[]};
@@ -22,8 +20,15 @@ pub fn signal(
 ) -> u32
     ensures { λ r. ⌜ edge r (now (table .exit)) (now (answer .exit)) (now (room .exit)) (now (signal .exit)) [] ≡ signalEdge (now (table .entry)) (now (answer .entry)) (now (room .entry)) (now (signal .entry)) link listening central (now (pdu .entry)) ⌝ }
 {
-    match crediting::credits_in(pdu) {
-        LeCreditFlowIndRead::Is(ind) => crediting::credit(table, answer, room, signal, link, ind),
+    match edge_credits::credits_in(pdu) {
+        LeCreditFlowIndRead::Is(ind) => edge_credits::credit(
+            table,
+            answer,
+            room,
+            signal,
+            link,
+            ind,
+        ),
         LeCreditFlowIndRead::Decode => {
             let d = edge_layout_decode::decode(table);
             let t = d.table;

@@ -4,7 +4,15 @@ use channel::Answer;
 use channel::CID_BASE;
 use channel::Cid;
 use channel::HANDLE_MOST;
+use channel::Slot;
 use codes::Refusal;
+use edge_layout::HOLD;
+use edge_layout::LINK;
+use edge_layout::MPS;
+use edge_layout::MTU;
+use edge_layout::SPSM;
+use edge_layout::cells::number;
+use edge_layout::cells::octet;
 ghost use mathlib.Core.Path.{_≡_};
 ghost use mathlib.Core.Bool.{true, _&&_};
 ghost use mathlib.Core.List.{[]};
@@ -17,6 +25,7 @@ ghost use Rattle.definition.specs.Table.{placeSize, roomWidth, slotOf};
 ghost use Rattle.table_room.specs.Placed.{Placed};
 ghost use Rattle.edge.specs.Edge.{edge};
 ghost use Rattle.edge_layout.specs.Layout.{tableOctets, cell, slotIn};
+ghost use Rattle.edge_layout_write.specs.Puts.{framedRow};
 ghost use Rattle.edge_scan.specs.Scan.{validOctets};
 ghost use Rattle.edge_placed.specs.Frames.{dispatchEdge};
 ghost use Rattle.edge_placed.specs.Incoming.{framedEdge};
@@ -29,6 +38,45 @@ fn names_slot(n: usize, cid: u16) -> bool
         return false;
     }
     ((cid - CID_BASE) as usize) < n
+}
+
+// The slot that row i says, as `edge_layout_read::slot_at` reads it: with one caller, into which the compiler puts it.
+fn row(t: &[u8], i: usize) -> Slot
+    requires { ⌜ (tableOctets ≤ length (now t)) × (i < slotsMost) ⌝ }
+    ensures { λ r. ⌜ r ≡ slotIn (cell (now (t .entry)) i) ⌝ }
+{
+    let state = edge_layout_read::state_at(t, i);
+    let account = edge_layout_read::account_at(t, i);
+    let peer = edge_layout_read::peer_at(t, i);
+    let assembly = edge_layout_read::assembly_at(t, i);
+    let queue = edge_layout_read::queue_at(t, i);
+    Slot {
+        state,
+        link: number(t, i, LINK),
+        spsm: number(t, i, SPSM),
+        mps: number(t, i, MPS),
+        mtu: number(t, i, MTU),
+        account,
+        hold: octet(t, i, HOLD),
+        peer,
+        assembly,
+        queue,
+    }
+}
+
+// Writes what a frame can change of the slot, as `edge_layout_write::put_framed` does: with one caller too.
+fn put_row(t: &mut [u8], i: usize, x: Slot)
+    requires { ⌜ (tableOctets ≤ length (now t)) × (i < slotsMost) ⌝ }
+    ensures { λ _. ⌜ now (t .exit) ≡ framedRow (now (t .entry)) i x ⌝ }
+{
+    let k = x.state;
+    edge_layout_write::put_state(t, i, k);
+    let a = x.account;
+    edge_layout_write::put_account(t, i, a);
+    let b = x.assembly;
+    edge_layout_write::put_assembly(t, i, b);
+    let q = x.queue;
+    edge_layout_write::put_queue(t, i, q);
 }
 
 // A frame to slot s, whose part is in the room and whose row is in the table's octets.
@@ -45,11 +93,11 @@ fn to_slot(
     requires { ⌜ (tableOctets ≤ length (now table)) × (s < slotsMost) × Placed d m s (length (now room)) × (slotIn (cell (now table) s) .assembly .have ≤ placeSize m) ⌝ }
     ensures { λ r. ⌜ edge r (now (table .exit)) (now (answer .exit)) (now (room .exit)) [] [] ≡ framedEdge (now (table .entry)) (now (answer .entry)) (now (room .entry)) d m s link (now (payload .entry)) ⌝ }
 {
-    let x = edge_layout_read::slot_at(table, s);
+    let x = row(table, s);
     let w = slot_frame::frame_at(room, d, m, s, x, link, payload);
     let y = w.slot;
     let a = w.answer;
-    edge_layout_write::put_framed(table, s, y);
+    put_row(table, s, y);
     edge_answer::put_answer(answer, a, w.octets)
 }
 

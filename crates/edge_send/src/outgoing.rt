@@ -1,11 +1,23 @@
 // A send on a table's octets where they stand, behind refusal 1: the slot held against N, one row read, `slot_send` done on it, and the peer's credits written.
 // What is right stands in specs/Sent.antt of `edge_placed`.
 use channel::Answer;
+use channel::Slot;
 use codes::Refusal;
+use edge_layout::HOLD;
+use edge_layout::LINK;
+use edge_layout::MPS;
+use edge_layout::MTU;
+use edge_layout::SPSM;
+use edge_layout::cells::number;
+use edge_layout::cells::octet;
 ghost use mathlib.Core.Path.{_≡_};
 ghost use mathlib.Core.Bool.{true};
 ghost use mathlib.Core.List.{[]};
+ghost use lib.ListN.{length};
+ghost use Prim.Native.Nat.{_≤_, _<_};
+ghost use Rattle.channel.specs.Limits.{slotsMost};
 ghost use Rattle.edge.specs.Edge.{edge};
+ghost use Rattle.edge_layout.specs.Layout.{tableOctets, cell, slotIn};
 ghost use Rattle.edge_scan.specs.Scan.{validOctets};
 ghost use Rattle.edge_placed.specs.Frames.{sendEdge, sentOctets};
 
@@ -13,6 +25,30 @@ ghost use Rattle.edge_placed.specs.Frames.{sendEdge, sentOctets};
 pub struct Said {
     pub number: u32,
     pub octets: usize,
+}
+
+// The slot that row i says, as `edge_layout_read::slot_at` reads it: with one caller, into which the compiler puts it.
+fn row(t: &[u8], i: usize) -> Slot
+    requires { ⌜ (tableOctets ≤ length (now t)) × (i < slotsMost) ⌝ }
+    ensures { λ r. ⌜ r ≡ slotIn (cell (now (t .entry)) i) ⌝ }
+{
+    let state = edge_layout_read::state_at(t, i);
+    let account = edge_layout_read::account_at(t, i);
+    let peer = edge_layout_read::peer_at(t, i);
+    let assembly = edge_layout_read::assembly_at(t, i);
+    let queue = edge_layout_read::queue_at(t, i);
+    Slot {
+        state,
+        link: number(t, i, LINK),
+        spsm: number(t, i, SPSM),
+        mps: number(t, i, MPS),
+        mtu: number(t, i, MTU),
+        account,
+        hold: octet(t, i, HOLD),
+        peer,
+        assembly,
+        queue,
+    }
 }
 
 // A send on octets that are a well-formed table's.
@@ -25,7 +61,7 @@ pub fn sent(table: &mut [u8], answer: &mut [u8], out: &mut [u8], slot: u8, sdu: 
         let number = edge_answer::put_answer(answer, Answer::Refused(Refusal::BadSlot), 0);
         return Said { number, octets: 0 };
     }
-    let x = edge_layout_read::slot_at(table, slot as usize);
+    let x = row(table, slot as usize);
     let w = slot_send::send_from(x, sdu, out);
     let y = w.slot;
     let a = w.answer;

@@ -8,16 +8,16 @@ use borrow.Author.Needs.{needs}
 use Rattle.edge_dispatch.proofs.incoming.to_slot.Statement.{statement}
 use Rattle.edge_dispatch.proofs.incoming.to_slot.Tie as tie
 
-slot-at-requires : tie.Need-slot-at-requires
-slot-at-requires c κs = search needs
+row-requires : tie.Need-row-requires
+row-requires c κs = search needs
 
 frame-at-requires : tie.Need-frame-at-requires
 frame-at-requires c κs =
     let a = c .before .before .before .before .before .before .before in
-    (a .pre .2, rw (c .before .slot-at .ensures) (a .pre .3))
+    (a .pre .2, rw (c .before .row .ensures) (a .pre .3))
 
-put-framed-requires : tie.Need-put-framed-requires
-put-framed-requires c κs = search needs
+put-row-requires : tie.Need-put-row-requires
+put-row-requires c κs = search needs
 
 put-answer-requires : tie.Need-put-answer-requires
 put-answer-requires c κs = search needs
@@ -35,17 +35,17 @@ returns : tie.Need-returns
 unfolding framedEdge sizes
 returns c =
     let g = c .before .before .before .before .before .before .before .before .before .before .before .before .before .before .before .before .before .before .before .args in
-    let f = rw (c .before .before .before .before .before .before .before .before .before .before .before .before .before .slot-at .ensures) at (c .before .before .before .before .before .before .before .before .before .before .before .frame-at .ensures) in
+    let f = rw (c .before .before .before .before .before .before .before .before .before .before .before .before .before .row .ensures) at (c .before .before .before .before .before .before .before .before .before .before .before .frame-at .ensures) in
     let told = c .before .before .put-answer .ensures in
-    rw (told .0, told .1, c .before .before .before .before .before .before .put-framed .ensures, f .1, f .0, frame-quiet (g .d) (placeSize (g .m)) (slotIn (cell (g .table .now) (g .s))) (g .link) (g .payload .now))
+    rw (told .0, told .1, c .before .before .before .before .before .before .put-row .ensures, f .1, f .0, frame-quiet (g .d) (placeSize (g .m)) (slotIn (cell (g .table .now) (g .s))) (g .link) (g .payload .now))
 
 pub to-slot-spec : {M : Type 1} → statement M
 to-slot-spec =
     tie.close
     (tie.spec
-    slot-at-requires
+    row-requires
     frame-at-requires
-    put-framed-requires
+    put-row-requires
     put-answer-requires
     same-length
     same-length-2

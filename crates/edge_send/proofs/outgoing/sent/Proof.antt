@@ -36,8 +36,8 @@ returns c =
     let stop = refused-6 o (start .pre) (a .slot) none in
     (rw (told .0, told .1) (send-stopped o (a .answer .now) (a .out .now) (a .sdu .now) (a .slot) BadSlot stop), stopped-octets o (a .out .now) (a .sdu .now) (a .slot) BadSlot stop)
 
-slot-at-requires : tie.Need-slot-at-requires
-slot-at-requires c κs =
+row-requires : tie.Need-row-requires
+row-requires c κs =
     let start = c .before .before .before .before .before .before .before in
     let o = start .args .table .now in
     let slot = start .args .slot in
@@ -76,7 +76,7 @@ returns-2 c =
     let one : leb (getD o 1 0) (a .slot) ≡ false = lt-leb (getD o 1 0) (a .slot) (tested .if1 .left) in
     let told = c .before .before .put-answer2 .ensures in
     let w = c .before .before .before .before .before .before .before .before .before .before .before in
-    let worked = w .send-from .ensures ∙ ap (λ (x : Slot). sentFrom x (a .sdu .now) (a .out .now)) (w .before .before .slot-at .ensures) in (
+    let worked = w .send-from .ensures ∙ ap (λ (x : Slot). sentFrom x (a .sdu .now) (a .out .now)) (w .before .before .row .ensures) in (
       rw (told .0, told .1, c .before .before .before .before .before .before .put-peer-credits .ensures) (sent-placed o (a .answer .now) (a .out .now) (a .sdu .now) (a .slot) (start .pre) one worked),
       octets-sent o (a .answer .now) (a .out .now) (a .sdu .now) (a .slot) (start .pre) one worked,
     )
@@ -89,7 +89,7 @@ sent-spec =
     put-answer-requires
     same-length
     returns
-    slot-at-requires
+    row-requires
     send-from-requires
     put-peer-credits-requires
     put-answer-requires-2

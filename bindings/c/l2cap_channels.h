@@ -13,13 +13,14 @@
  *           0       its kind (enum l2cap_answer)
  *           1       the refusal's number, or 0
  *           2..6    how many octets were written at the start of `signal` or `out`
- *           6..14   four numbers, by the kind
+ *           6..14   four numbers, by the kind (of a run two, of four octets each)
  *           14..16  zeros
  *         Numbers have the lower octet first.
  * room    the memory in which jobs arrive and wait: L2CAP_ROOM_OCTETS(n, d, m) octets, zeroed by l2cap_make. Another length is refusal 2. Octets of no live job are zero.
  * signal  what goes out on the signalling channel is written here, with its L2CAP header: at least L2CAP_SIGNAL_OCTETS octets, else refusal 3.
+ * answers of a run alone: L2CAP_ANSWER_OCTETS octets for each of its frames or jobs, whose answers are written one behind the other.
  *
- * Overlap. No two memories of one call may overlap. That holds of those that are only read too (pdu, payload, sdu, a const table): l2cap_send with sdu == out scrambles the job.
+ * Overlap. No two memories of one call may overlap. That holds of those that are only read too (pdu, payload, sdu, frames, jobs, a const table): l2cap_send with sdu == out scrambles the job.
  * Null. A memory of length 0 may be a null pointer: it is not looked at. (A room or signal of length 0 is refused by its length, as above.)
  * Limits. n 1 to 16 slots, d 1 to 4 waiting jobs a slot, packets of m 29 to 1,024 octets; links 0 to 0x0EFF, a higher one is refusal 4; slots 0 to n - 1, a higher one is refusal 6;
  * a slot's CID is L2CAP_CID_BASE + slot. A flag is 0 for no; every other number is yes.
@@ -53,6 +54,10 @@ extern "C" {
 #define L2CAP_SIGNAL_OCTETS 18
 #define L2CAP_CID_BASE 0x40
 
+/* The octets of a run: of each frame link, CID and length before the payload; of each job slot and length before its own. */
+#define L2CAP_RUN_FRAME_HEAD 6
+#define L2CAP_RUN_JOB_HEAD 3
+
 /* The room of n slots, d waiting jobs a slot and packets of m octets: in each slot a place for the job that arrives, and one for each that waits. */
 #define L2CAP_ROOM_OCTETS(n, d, m) ((size_t)(n) * ((size_t)(d) + 1) * ((size_t)(m) - 6))
 
@@ -63,7 +68,7 @@ extern "C" {
 enum l2cap_refusal {
     L2CAP_BAD_TABLE = 1,             /* sizes outside the limits, or octets that spell no well-formed table */
     L2CAP_BAD_ROOM = 2,              /* the room's length isn't the table's */
-    L2CAP_NO_ROOM = 3,               /* a signal buffer under 18 octets, or an output too short for the frames */
+    L2CAP_NO_ROOM = 3,               /* a signal buffer under 18 octets, or an output too short for the frames; a run whose answers are full: what was done before stands */
     L2CAP_BAD_HANDLE = 4,            /* a link above 0x0EFF */
     L2CAP_BAD_SPSM = 5,              /* an SPSM outside 1 to 255 */
     L2CAP_BAD_SLOT = 6,              /* the table has no such slot */
@@ -75,7 +80,7 @@ enum l2cap_refusal {
     L2CAP_INSUFFICIENT_SPACE = 12,   /* our MPS above m - 4 or our MTU above m - 6; a job above the peer's MTU; a create has used an identifier */
     L2CAP_NO_CHANNEL_AVAILABLE = 13, /* no slot is free; the create has used an identifier */
     L2CAP_BUSY = 14,                 /* the job needs more frames than we have credits */
-    L2CAP_DECODE = 15,               /* a signal that can't be read: a reject is written where its header can; a result that is no result code */
+    L2CAP_DECODE = 15,               /* a signal that can't be read: a reject is written where its header can; a result that is no result code; a run that ends in the middle of a frame or a job: what was done before stands */
     L2CAP_NOT_SUPPORTED = 16,        /* an unknown signal: a reject is written */
     L2CAP_CONNECT_ERROR = 17,        /* the peer refused our request, with a result code: l2cap_signal leaves the slot failed, l2cap_opened has freed it */
     L2CAP_DISCONNECTED = 18,         /* the link or the channel is down; where it wasn't before, l2cap_opened has freed the slot */
@@ -98,7 +103,8 @@ enum l2cap_answer {
     L2CAP_ANSWER_JOB = 7,       /* link, octets copied, octets in all */
     L2CAP_ANSWER_ATTENTION = 8, /* set, count, lowest */
     L2CAP_ANSWER_NUMBER = 9,    /* the number asked for */
-    L2CAP_ANSWER_EVENT = 10     /* min, max, latency, timeout */
+    L2CAP_ANSWER_EVENT = 10,    /* min, max, latency, timeout */
+    L2CAP_ANSWER_RUN = 11       /* calls made, octets that they took: two numbers of four octets each */
 };
 
 /* The result of a connect response (Core, Vol 3 Part A, 4.23). */
@@ -168,6 +174,38 @@ static inline uint16_t l2cap_answer_interval_min(const uint8_t *answer) { return
 static inline uint16_t l2cap_answer_interval_max(const uint8_t *answer) { return l2cap_answer_number(answer, 1); }
 static inline uint16_t l2cap_answer_latency(const uint8_t *answer) { return l2cap_answer_number(answer, 2); }
 static inline uint16_t l2cap_answer_timeout(const uint8_t *answer) { return l2cap_answer_number(answer, 3); }
+
+/* How many calls of a run were made, and how many of its octets they took: the run goes on from there. Above 4,294,967,295 both are told as that. */
+static inline uint32_t l2cap_answer_run_count(const uint8_t *answer) { return l2cap_answer_number(answer, 0) | (uint32_t)l2cap_answer_number(answer, 1) << 16; }
+static inline uint32_t l2cap_answer_run_used(const uint8_t *answer) { return l2cap_answer_number(answer, 2) | (uint32_t)l2cap_answer_number(answer, 3) << 16; }
+
+/* The answer of call k of a run. */
+static inline const uint8_t *l2cap_run_answer(const uint8_t *answers, size_t k) { return answers + L2CAP_ANSWER_OCTETS * k; }
+
+/* ---- a run written: at += l2cap_run_frame(run + at, sizeof run - at, ...) */
+
+/* A number of two octets, and the octets that it counts. */
+static inline void l2cap_run_part(uint8_t *run, const uint8_t *octets, uint16_t octets_len) {
+    size_t i;
+    run[0] = (uint8_t)octets_len, run[1] = (uint8_t)(octets_len >> 8);
+    for (i = 0; i < octets_len; i++) run[2 + i] = octets[i];
+}
+
+/* Writes a frame at the start of the octets that are left for a run, and gives how many it took: 0, and nothing is written, where they are too few. */
+static inline size_t l2cap_run_frame(uint8_t *run, size_t run_len, uint16_t link, uint16_t cid, const uint8_t *payload, uint16_t payload_len) {
+    if (run_len < (size_t)L2CAP_RUN_FRAME_HEAD + payload_len) return 0;
+    run[0] = (uint8_t)link, run[1] = (uint8_t)(link >> 8), run[2] = (uint8_t)cid, run[3] = (uint8_t)(cid >> 8);
+    l2cap_run_part(run + 4, payload, payload_len);
+    return (size_t)L2CAP_RUN_FRAME_HEAD + payload_len;
+}
+
+/* The same of a job. */
+static inline size_t l2cap_run_job(uint8_t *run, size_t run_len, uint8_t slot, const uint8_t *sdu, uint16_t sdu_len) {
+    if (run_len < (size_t)L2CAP_RUN_JOB_HEAD + sdu_len) return 0;
+    run[0] = slot;
+    l2cap_run_part(run + 1, sdu, sdu_len);
+    return (size_t)L2CAP_RUN_JOB_HEAD + sdu_len;
+}
 
 /* ---- making a table */
 
@@ -355,6 +393,25 @@ uint32_t l2cap_send(uint8_t *table, size_t table_len, uint8_t *answer, size_t an
  * Writes: table; room; job; signal, the grant, which uses an identifier. l2cap_answer_written is 0 where none is due.
  * Answer: Job; Done where no job waits, and nothing is written. */
 uint32_t l2cap_receive(uint8_t *table, size_t table_len, uint8_t *answer, size_t answer_len, uint8_t *room, size_t room_len, uint8_t *signal, size_t signal_len, uint8_t *job, size_t job_len, uint8_t slot);
+
+/* ---- runs: many frames or jobs at once, each as if by a call of its own. Table and room are tested once for all of them. */
+
+/* Takes in frames that came, of any links, one behind the other in `frames`: link, CID and the payload's length, two octets each with the lower first, then the payload. Each is l2cap_dispatch, on what the ones before it left,
+ * and its answer is written to the next L2CAP_ANSWER_OCTETS octets of `answers`. A frame that is refused doesn't end the run: the next is taken in. No job is taken between two frames of a run: let it bring each slot at
+ * most as many jobs as can still wait there, or the rest is dropped (21).
+ * Refusals: 1 2 15 3. 1 and 2: nothing was done. 15 where what is left is no whole frame, 3 where it is one and answers has fewer than L2CAP_ANSWER_OCTETS octets left: that frame and what follows it were not taken in, and what was
+ * done before stands. The answer says how far the run came, so that the next goes on from there. What a frame was refused by stands in its own answer alone.
+ * Writes: table; room; answers.
+ * Answer: Run, whatever is returned. An empty run is 0, with counts of 0. */
+uint32_t l2cap_dispatch_run(uint8_t *table, size_t table_len, uint8_t *answer, size_t answer_len, uint8_t *room, size_t room_len, const uint8_t *frames, size_t frames_len, uint8_t *answers, size_t answers_len);
+
+/* Cuts jobs into frames, one behind the other in `jobs`: slot, one octet; the job's length, two octets with the lower first; the job. Each is l2cap_send, on what the ones before it left: its frames stand in `out` behind those of
+ * the jobs before it, l2cap_answer_written of its own answer is how many octets they have, and its link is there too. A job that is refused doesn't end the run, and writes nothing: the next is tried. So of two jobs for one slot the first
+ * can be refused, by 14 or 3, and the second, which is shorter, goes out. Where the jobs of a slot must keep their order, a run has one of them.
+ * Refusals: 1 15 3. As l2cap_dispatch_run has them.
+ * Writes: table; out; answers. l2cap_answer_written is how many octets of frames the whole run wrote.
+ * Answer: Run, whatever is returned. An empty run is 0, with counts of 0. */
+uint32_t l2cap_send_run(uint8_t *table, size_t table_len, uint8_t *answer, size_t answer_len, uint8_t *out, size_t out_len, const uint8_t *jobs, size_t jobs_len, uint8_t *answers, size_t answers_len);
 
 /* ---- questions: the table is only read */
 

@@ -9,7 +9,7 @@
 /* The largest table, and a stack of many times what a call takes. Right below its caller's frame nothing is painted: the painter stands there. */
 enum { N = 16, D = 4, M = 1024, STACK = 65536, PAINT = 0xA5, PAINTER = 64, SIGNALS = 250 };
 
-static uint8_t table[L2CAP_TABLE_OCTETS], answer[L2CAP_ANSWER_OCTETS], room[L2CAP_ROOM_OCTETS(N, D, M)], signal[L2CAP_SIGNAL_OCTETS], out[4096], job[M], many[4 * SIGNALS];
+static uint8_t table[L2CAP_TABLE_OCTETS], answer[L2CAP_ANSWER_OCTETS], room[L2CAP_ROOM_OCTETS(N, D, M)], signal[L2CAP_SIGNAL_OCTETS], out[4096], job[M], many[4 * SIGNALS], run[M], answers[2 * L2CAP_ANSWER_OCTETS];
 static uint8_t stack[STACK] __attribute__((aligned(16)));
 static ucontext_t here, there;
 static const uint8_t *caller;
@@ -49,6 +49,7 @@ static void calls(void) {
     static const uint8_t credits[] = {0x16, 8, 4, 0, 0x50, 0, 3, 0}, wish[] = {0x12, 9, 8, 0, 6, 0, 12, 0, 3, 0, 200, 0}, unknown[] = {0x30, 9, 0, 0};
     static const uint8_t ends[] = {0x06, 9, 4, 0, 0x41, 0, 0x50, 0}, ended[] = {0x07, 9, 4, 0, 0x50, 0, 0x40, 0};
     static const uint8_t whole[1002] = {0xE8, 3}, start[] = {0xE8, 3, 1};
+    size_t n;
 
     CALL("make", l2cap_make(LENT, IN(room), N, D, M));
     CALL("register_spsm", l2cap_register_spsm(LENT, 0x80));
@@ -74,8 +75,13 @@ static void calls(void) {
     CALL("mps", l2cap_mps(LENT, 0));
     CALL("peer_mtu", l2cap_peer_mtu(LENT, 0));
     CALL("peer_mps", l2cap_peer_mps(LENT, 0));
+    n = l2cap_run_frame(run, sizeof run, 1, 0x7F, IN(start));
+    n += l2cap_run_frame(run + n, sizeof run - n, 1, 0x40, IN(start));
+    CALL("dispatch_run, two frames", l2cap_dispatch_run(LENT, IN(room), run, n, IN(answers)));
     CALL("receive", l2cap_receive(LENT, IN(room), IN(signal), IN(job), 0));
     CALL("send, 44 frames", l2cap_send(LENT, IN(out), 0, whole, 1000));
+    n = l2cap_run_job(run, sizeof run, 0, whole, 1000);
+    CALL("send_run, a job of 44 frames", l2cap_send_run(LENT, IN(out), run, n, IN(answers)));
     CALL("dispatch, a bad frame", l2cap_dispatch(LENT, IN(room), 1, 0x40, IN(whole)));
     CALL("next_disconnect, ours", l2cap_next_disconnect(LENT, IN(room), IN(signal)));
     CALL("signal, a disconnect response", SIGNAL(ended));

@@ -1,4 +1,4 @@
-/* The archive from C and from C++: a phone connects, a job comes in and is taken, the link goes down; a channel of our own; then the refusals that no script reaches. Every reader of an answer is used. */
+/* The archive from C and from C++: a phone connects, a job comes in and is taken, the link goes down; a channel of our own; runs of frames and jobs; then the refusals that no script reaches. Every reader of an answer is used. */
 #include "l2cap_channels.h"
 #include <stdio.h>
 #include <string.h>
@@ -142,6 +142,56 @@ static void our_own(void) {
     check(refused(l2cap_signal(LENT, IN(room), IN(signal), 2, 0, 1, IN(unknown)), L2CAP_NOT_SUPPORTED) && wrote(signal, IN(reject)), "an unknown signal is refusal 16, and a reject goes back");
 }
 
+/* Two slots of one phone, and runs of frames and jobs for them. */
+static void runs(void) {
+    static const uint8_t first[] = {0x14, 7, 10, 0, 0x80, 0, 0x50, 0, 100, 0, 23, 0, 2, 0}, second[] = {0x14, 8, 10, 0, 0x80, 0, 0x51, 0, 100, 0, 23, 0, 2, 0};
+    static const uint8_t whole[] = {3, 0, 1, 2, 3}, half[] = {4, 0, 5, 6}, rest[] = {7, 8}, told[] = {L2CAP_ANSWER_RUN, 0, 0, 0, 0, 0, 4, 0, 0, 0, 35, 0, 0, 0, 0, 0};
+    static const uint8_t out_first[] = {4, 0, 0x50, 0, 2, 0, 7, 8}, out_second[] = {6, 0, 0x51, 0, 4, 0, 4, 0, 5, 6};
+    uint8_t run[64], answers[4 * L2CAP_ANSWER_OCTETS], before[L2CAP_TABLE_OCTETS];
+    size_t n = 0, cut;
+    uint8_t slot;
+
+    check(l2cap_make(LENT, IN(room), N, D, M) == 0 && l2cap_register_spsm(LENT, 128) == 0, "a new table");
+    check(l2cap_signal(LENT, IN(room), IN(signal), 1, 1, 0, IN(first)) == 0 && l2cap_signal(LENT, IN(room), IN(signal), 1, 1, 0, IN(second)) == 0, "two requests");
+    for (slot = 0; slot < N; slot++)
+        check(l2cap_next_pending(LENT, 1, 1) == 0 && l2cap_accept_pending(LENT, IN(signal), slot, L2CAP_DEFAULT, L2CAP_DEFAULT, L2CAP_EVERY, 1, L2CAP_DEFAULT) == 0, "accepted");
+
+    n += l2cap_run_frame(run + n, sizeof run - n, 1, L2CAP_CID_BASE + 1, IN(half));
+    n += l2cap_run_frame(run + n, sizeof run - n, 1, L2CAP_CID_BASE, IN(whole));
+    n += l2cap_run_frame(run + n, sizeof run - n, 1, L2CAP_CID_BASE + N, NONE);
+    n += l2cap_run_frame(run + n, sizeof run - n, 1, L2CAP_CID_BASE + 1, IN(rest));
+    check(n == 4 * L2CAP_RUN_FRAME_HEAD + sizeof whole + sizeof half + sizeof rest, "a run of four frames");
+    check(l2cap_run_frame(run, L2CAP_RUN_FRAME_HEAD + 1, 1, L2CAP_CID_BASE, IN(rest)) == 0 && run[6] == half[0], "a frame without a place is not written");
+    memcpy(before, table, sizeof table);
+    for (cut = 0; cut < sizeof answers; cut += 7) {
+        memcpy(table, before, sizeof table);
+        memset(room, 0, sizeof room);
+        check(l2cap_dispatch_run(LENT, IN(room), run, n, answers, cut) == L2CAP_NO_ROOM && l2cap_answer_run_count(answer) == cut / L2CAP_ANSWER_OCTETS, "answers that are full are refusal 3");
+    }
+    memcpy(table, before, sizeof table);
+    memset(room, 0, sizeof room);
+    check(l2cap_dispatch_run(LENT, IN(room), run, n - 1, IN(answers)) == L2CAP_DECODE && l2cap_answer_run_count(answer) == 3 && l2cap_answer_run_used(answer) == n - 8, "a cut frame is refusal 15");
+    memcpy(table, before, sizeof table);
+    memset(room, 0, sizeof room);
+    check(l2cap_dispatch_run(LENT, IN(room), run, n, IN(answers)) == 0 && !memcmp(answer, told, sizeof told) && is(L2CAP_ANSWER_RUN), "four frames");
+    check(l2cap_answer_refusal(l2cap_run_answer(answers, 2)) == L2CAP_INVALID_CHANNEL_ID && l2cap_answer_refusal(l2cap_run_answer(answers, 3)) == 0, "one of no channel, and the next is taken in");
+    check(l2cap_receive(LENT, IN(room), IN(signal), IN(job), 0) == 0 && l2cap_answer_job_length(answer) == 3 && !memcmp(job, whole + 2, 3), "a job in one frame");
+    check(l2cap_receive(LENT, IN(room), IN(signal), IN(job), 1) == 0 && l2cap_answer_job_length(answer) == 4 && !memcmp(job, half + 2, 2) && !memcmp(job + 2, rest, 2), "and one in two");
+
+    n = l2cap_run_job(IN(run), 0, IN(rest));
+    n += l2cap_run_job(run + n, sizeof run - n, 0, job, 45); /* three frames, and slot 0 has one credit left */
+    n += l2cap_run_job(run + n, sizeof run - n, 1, IN(half));
+    check(n == 3 * L2CAP_RUN_JOB_HEAD + 51 && l2cap_run_job(run, 4, 0, IN(rest)) == 0, "a run of three jobs");
+    memset(out, 9, sizeof out);
+    check(l2cap_send_run(LENT, IN(out), run, n, IN(answers)) == 0 && is(L2CAP_ANSWER_RUN) && l2cap_answer_run_count(answer) == 3 && l2cap_answer_run_used(answer) == n, "three jobs");
+    check(l2cap_answer_written(answer) == 18 && l2cap_answer_written(answers) == 8 && l2cap_answer_written(l2cap_run_answer(answers, 2)) == 10, "two of them are written");
+    check(l2cap_answer_refusal(l2cap_run_answer(answers, 1)) == L2CAP_BUSY && l2cap_answer_link(l2cap_run_answer(answers, 2)) == 1, "the second needs more credits, and the third goes out");
+    check(!memcmp(out, out_first, 8) && !memcmp(out + 8, out_second, 10) && out[18] == 9, "their frames, one behind the other");
+
+    check(l2cap_dispatch_run(LENT, IN(room), NONE, NONE) == 0 && is(L2CAP_ANSWER_RUN) && l2cap_send_run(LENT, NONE, NONE, NONE) == 0 && l2cap_answer_run_used(answer) == 0, "an empty run");
+    check(l2cap_dispatch_run(LENT, room, 1, NONE, NONE) == L2CAP_BAD_ROOM && l2cap_dispatch_run(NONE, answer, sizeof answer, NONE, NONE, NONE) == L2CAP_BAD_TABLE, "a bad room, and no table");
+}
+
 /* The octets of an answer, each number above what one octet holds. */
 static void readers(void) {
     static const uint8_t octets[L2CAP_ANSWER_OCTETS] = {L2CAP_ANSWER_DUE, 2, 0x01, 0x02, 0x03, 0x84, 0x11, 0x12, 0x13, 0x14, 0x15, 0x16, 0x17, 0x98, 0, 0};
@@ -149,6 +199,8 @@ static void readers(void) {
     check(l2cap_answer_number(octets, 0) == 0x1211 && l2cap_answer_number(octets, 3) == 0x9817, "numbers of two octets");
     check(l2cap_answer_attention_set(octets) == 0x1211, "a set of sixteen slots");
     check(l2cap_answer_slot(octets) == 0x13, "a slot behind its link");
+    check(l2cap_answer_run_count(octets) == 0x14131211 && l2cap_answer_run_used(octets) == 0x98171615, "a run's numbers, of four octets");
+    check(l2cap_run_answer(octets, 1) == octets + 16, "the next answer of a run");
 }
 
 int main(void) {
@@ -157,6 +209,7 @@ int main(void) {
     nothing_lent();
     an_end();
     our_own();
+    runs();
     readers();
     printf("%d passed, %d failed\n", passed, failed);
     return failed != 0;

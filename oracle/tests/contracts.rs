@@ -135,13 +135,32 @@ fn each_entry_leaves_what_its_line_says() {
     let lines = read("edge_runs/specs/Entries.antt");
     let source = read("entries/src/lib.rt");
     let mut entries = contracts(&source, " pub extern \"C\" fn ");
-    // the first starts a run, the second is a function of the PDU alone, the third a number
-    entries.retain(|(name, _)| !["l2cap_make", "l2cap_signal_rest", "l2cap_version_1"].contains(name));
+    // the first starts a run, the second is a function of the PDU alone, the third a number; the last two are calls handed over together, by the definitions that two of these lines have
+    let others = ["l2cap_make", "l2cap_signal_rest", "l2cap_version_1", "l2cap_dispatch_run", "l2cap_send_run"];
+    entries.retain(|(name, _)| !others.contains(name));
     for (name, contract) in &entries {
         assert!(contract.starts_with(&format!("{} ≡ ", end(&source, name))), "{name}: no word of\n{}", end(&source, name));
         assert!(lines.contains(&line(contract)), "{name}: no line has\n{}", line(contract));
     }
     assert_eq!(entries.len(), 27, "entries that are calls of a run");
+}
+
+/// A call that `edge_whole` makes by value has the contract of the entry that it is held to, and so has the function of its crate that a run's entry is.
+#[test]
+fn twins_have_one_contract() {
+    let entries = read("entries/src/lib.rt");
+    let entries = contracts(&entries, " pub extern \"C\" fn ");
+    let of = |name: &str| entries.iter().find(|(entry, _)| entry.strip_prefix("l2cap_") == Some(name)).expect(name).1;
+    let whole = read("edge_whole/src/lib.rt");
+    let whole = contracts(&whole, " pub extern \"C\" fn ");
+    assert_eq!(whole.len(), 4);
+    for (name, contract) in whole {
+        assert_eq!(contract, of(name.strip_prefix("whole_").expect(name)), "{name}");
+    }
+    for name in ["dispatch_run", "send_run"] {
+        let source = read(&format!("edge_{name}/src/lib.rt"));
+        assert!(contracts(&source, " pub fn ").contains(&(name, of(name))), "{name}");
+    }
 }
 
 #[test]

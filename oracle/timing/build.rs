@@ -1,11 +1,13 @@
-//! Links the archive of the port's crate `sar_speed`, which stands in the folder PORT_ARCHIVE.
+//! Links the archives of the port's crates `sar_speed` and `entries`: libspeed.a and libentries.a of the folder PORT_ARCHIVES.
 
 use std::env;
 
 fn main() {
-    println!("cargo:rerun-if-env-changed=PORT_ARCHIVE");
-    let folder = env::var("PORT_ARCHIVE").expect("PORT_ARCHIVE names the folder of libspeed.a: start ../speed");
-    println!("cargo:rerun-if-changed={folder}/libspeed.a");
+    println!("cargo:rerun-if-env-changed=PORT_ARCHIVES");
+    let folder = env::var("PORT_ARCHIVES").expect("PORT_ARCHIVES names the folder of libspeed.a and libentries.a: start ../speed");
     println!("cargo:rustc-link-search=native={folder}");
-    println!("cargo:rustc-link-lib=static=speed");
+    for archive in ["speed", "entries"] {
+        println!("cargo:rerun-if-changed={folder}/lib{archive}.a");
+        println!("cargo:rustc-link-lib=static={archive}");
+    }
 }

@@ -3,8 +3,8 @@
 use crate::codes::{ChannelIndex, ConnHandle, LeCreditConnResultCode, Refusal};
 use crate::slots::Slots;
 
-/// The octets of an answer.
-pub(crate) const ANSWER_OCTETS: usize = 16;
+/// The octets of an answer: a run is lent so many for each of its frames or jobs.
+pub const ANSWER_OCTETS: usize = 16;
 
 const AT: u8 = 2;
 const OPENED: u8 = 4;
@@ -35,10 +35,24 @@ impl Answer {
         ConnHandle(self.number(0))
     }
 
+    /// Why there is none, where the call was refused.
+    pub(crate) fn refusal(&self) -> Option<Refusal> {
+        match self.0[1] {
+            0 => None,
+            number => Some(Refusal::told(number.into(), self.first())),
+        }
+    }
+
     /// The octets that were written at the start of `buffer`.
     pub(crate) fn written<'b>(&self, buffer: &'b [u8]) -> &'b [u8] {
         let count = u32::from_le_bytes([self.0[2], self.0[3], self.0[4], self.0[5]]);
         buffer.get(..count as usize).unwrap_or(&[])
+    }
+
+    /// Of a run: how many calls were made, and how many of its octets they took.
+    pub(crate) fn ran(&self) -> (usize, usize) {
+        let number = |low: u16, high: u16| (usize::from(high) << 16) | usize::from(low);
+        (number(self.number(0), self.number(1)), number(self.number(2), self.number(3)))
     }
 
     /// The slot, where the answer has one.

@@ -59,17 +59,19 @@ mod entries;
 mod hold;
 pub mod life;
 mod manager;
+mod run;
 mod slots;
 mod table;
 
 pub use answer::{
     Attention, ChannelSignal, ChannelState, ConnParamUpdateReq, CreditFlowPolicy, FrameIter, Frames, L2capChannelConfig, Outgoing,
-    Received, Signalled,
+    Received, Signalled, ANSWER_OCTETS,
 };
 pub use codes::{ChannelIndex, Cid, ConnHandle, LeConnRole, LeCreditConnResultCode, Refusal, CID_BASE, SLOTS};
 pub use credits::{frames, least_credits, ConfigError};
 pub use hold::{Hold, StillHeld};
 pub use manager::{ChannelManager, SIGNAL_OCTETS};
+pub use run::{Dispatched, FrameRun, JobRun, PushError, Sent};
 pub use slots::{SlotIter, Slots};
 pub use table::{room_octets, Slot, Table, TABLE_OCTETS};
 

@@ -13,7 +13,8 @@
 //! 2. disconnects: [`next_disconnect`] until none is due; what it writes goes out;
 //! 3. holds: [`dec_ref`] on every slot that [`Table::held`] names.
 //!
-//! `examples/printer.rs` is such a loop.
+//! `examples/printer.rs` is such a loop. Packets that came together can go in together: their frames by [`dispatch_run`], in the order in which they came and up to the next
+//! packet of signals, then the three steps once. As no job is taken meanwhile, such a run brings a slot no more jobs than can still wait there.
 //!
 //! # A phone that connects and leaves
 //!
@@ -100,6 +101,7 @@
 //! [`disconnect`]: crate::ChannelManager::disconnect
 //! [`disconnected`]: crate::ChannelManager::disconnected
 //! [`dispatch`]: crate::ChannelManager::dispatch
+//! [`dispatch_run`]: crate::ChannelManager::dispatch_run
 //! [`drop_pending`]: crate::ChannelManager::drop_pending
 //! [`give_up`]: crate::ChannelManager::give_up
 //! [`Hold`]: crate::Hold

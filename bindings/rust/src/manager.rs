@@ -1,9 +1,12 @@
 //! The calls.
 
-use crate::answer::{Attention, ChannelSignal, ConnParamUpdateReq, Frames, L2capChannelConfig, Outgoing, Received, Signalled};
+use crate::answer::{
+    Attention, ChannelSignal, ConnParamUpdateReq, Frames, L2capChannelConfig, Outgoing, Received, Signalled, ANSWER_OCTETS,
+};
 use crate::codes::{ChannelIndex, Cid, ConnHandle, LeConnRole, LeCreditConnResultCode, Refusal};
 use crate::entries::{self, Returned};
 use crate::hold::{Hold, StillHeld};
+use crate::run::{Dispatched, FrameRun, JobRun, Sent};
 use crate::table::{Table, TABLE_OCTETS};
 
 /// The longest signal that is written: a lent signal buffer has at least so many octets.
@@ -340,6 +343,99 @@ impl<'r> ChannelManager<'r> {
     pub fn send<'b>(&mut self, index: ChannelIndex, sdu: &[u8], out: &'b mut [u8]) -> Result<Frames<'b>, Refusal> {
         let answer = entries::send(&mut self.table.0, out, index.0, sdu).told()?;
         Ok(answer.frames(out))
+    }
+
+    /// Takes in the frames of a run, one after the other, as so many calls of [`dispatch`](Self::dispatch) would: what each came to is given in their order. The
+    /// table and the room are tested once for all of them. A frame that is refused doesn't end the run: the next is taken in.
+    ///
+    /// Frames that were taken in, refused or not, leave the run. Where `answers` has fewer places than the run has frames, the others stay in it: call again until
+    /// the run is empty. Nothing is taken between two frames of a run, so that a slot has no more places for jobs than before it: a run brings at most as many jobs
+    /// a slot as can wait, or the rest is refused by 21.
+    ///
+    /// Refusals, with which no frame was taken in and all are still in the run: 1, 2; 3 where `answers` has no place. Of each frame those of
+    /// [`dispatch`](Self::dispatch).
+    ///
+    /// ```
+    /// # use l2cap_channels::*;
+    /// # fn main() -> Result<(), Box<dyn core::error::Error>> {
+    /// # let mut room = [0; room_octets(2, 2, 64)];
+    /// # let mut channels = ChannelManager::new(2, 2, 64, &mut room)?;
+    /// # channels.register_spsm(0x80)?;
+    /// # let (phone, mut signal) = (ConnHandle(1), [0; SIGNAL_OCTETS]);
+    /// # channels.feed_pdu(phone, true, LeConnRole::Peripheral, &[0x14, 7, 10, 0, 0x80, 0, 0x50, 0, 100, 0, 23, 0, 5, 0], |_, _| {});
+    /// # let index = channels.next_pending(phone, true)?.expect("a pending channel").into_index();
+    /// # channels.accept_pending(index, &L2capChannelConfig::default(), &mut signal)?;
+    /// // What the controller has for us: half a job, the other half, and a frame for no channel.
+    /// let came: [(ConnHandle, Cid, &[u8]); 3] = [(phone, Cid(0x40), &[3, 0, b'j']), (phone, Cid(0x40), b"ob"), (phone, Cid(0x7F), &[0, 0])];
+    ///
+    /// let (mut octets, mut answers) = ([0; 256], [[0; ANSWER_OCTETS]; 8]);
+    /// let (mut run, mut frames) = (FrameRun::new(&mut octets), came.into_iter().peekable());
+    /// let mut came_to = Vec::new();
+    /// while frames.peek().is_some() {
+    ///     run.fill(&mut frames)?;
+    ///     while !run.is_empty() {
+    ///         came_to.extend(channels.dispatch_run(&mut run, &mut answers)?);
+    ///     }
+    /// }
+    /// assert_eq!(came_to, [Ok(()), Ok(()), Err(Refusal::InvalidChannelId)]);
+    /// assert_eq!(channels.receive(index, &mut [0; 58], &mut signal)?.expect("a job").sdu, b"job");
+    /// # Ok(())
+    /// # }
+    /// ```
+    pub fn dispatch_run<'a>(&mut self, run: &mut FrameRun<'_>, answers: &'a mut [[u8; ANSWER_OCTETS]]) -> Result<Dispatched<'a>, Refusal> {
+        let returned = entries::dispatch_run(&mut self.table.0, self.room, run.left(), answers.as_flattened_mut());
+        run.made(returned, answers)
+    }
+
+    /// Cuts the jobs of a run into frames, one job after the other, as so many calls of [`send`](Self::send) would, each with what the jobs before it left of `out`:
+    /// the frames of each, or why it was not sent, are given in their order. The table is tested once for all of them.
+    ///
+    /// A job that is refused doesn't end the run: the next is tried. So of two jobs for one channel the first can be refused, by 14 or 3, and the second, which is
+    /// shorter, goes out. Where jobs of a channel must keep their order, a run has one of them.
+    ///
+    /// Jobs that were tried, sent or not, leave the run. Where `answers` has fewer places than the run has jobs, the others stay in it: call again until the run
+    /// is empty, once the frames are out of `out`.
+    ///
+    /// Refusals, with which no job was tried and all are still in the run: 1; 3 where `answers` has no place. Of each job those of [`send`](Self::send).
+    ///
+    /// ```
+    /// # use l2cap_channels::*;
+    /// # fn main() -> Result<(), Box<dyn core::error::Error>> {
+    /// # let mut room = [0; room_octets(2, 2, 64)];
+    /// # let mut channels = ChannelManager::new(2, 2, 64, &mut room)?;
+    /// # channels.register_spsm(0x80)?;
+    /// # let (phone, mut signal) = (ConnHandle(1), [0; SIGNAL_OCTETS]);
+    /// # channels.feed_pdu(phone, true, LeConnRole::Peripheral, &[0x14, 7, 10, 0, 0x80, 0, 0x50, 0, 100, 0, 23, 0, 2, 0], |_, _| {});
+    /// # let index = channels.next_pending(phone, true)?.expect("a pending channel").into_index();
+    /// # channels.accept_pending(index, &L2capChannelConfig::default(), &mut signal)?;
+    /// // The phone takes frames of 23 octets, and has given us two credits.
+    /// let (mut octets, mut out, mut answers) = ([0; 256], [0; 256], [[0; ANSWER_OCTETS]; 8]);
+    /// let mut run = JobRun::new(&mut octets);
+    /// run.push(index, b"printed")?;
+    /// run.push(index, &[b'.'; 60])?;
+    /// run.push(index, b"paper is low")?;
+    ///
+    /// let (mut sent, mut refused) = (Vec::new(), Vec::new());
+    /// for (job, frames) in channels.send_run(&mut run, &mut out, &mut answers)?.enumerate() {
+    ///     match frames {
+    ///         Ok(frames) => sent.extend(frames.iter().map(|frame| (frames.handle, frame.len()))),
+    ///         Err(refusal) => refused.push((job, refusal)), // keep the job
+    ///     }
+    /// }
+    /// // The second job needs three credits. The third goes out before it.
+    /// assert_eq!(refused, [(1, Refusal::Busy)]);
+    /// assert_eq!(sent, [(phone, 13), (phone, 18)]);
+    /// # Ok(())
+    /// # }
+    /// ```
+    pub fn send_run<'o, 'a>(
+        &mut self,
+        run: &mut JobRun<'_>,
+        out: &'o mut [u8],
+        answers: &'a mut [[u8; ANSWER_OCTETS]],
+    ) -> Result<Sent<'o, 'a>, Refusal> {
+        let returned = entries::send_run(&mut self.table.0, out, run.left(), answers.as_flattened_mut());
+        run.made(returned, out, answers)
     }
 
     /// Takes the oldest job that waits, as far as `sdu` reaches, and grants the peer new credits where they are due; none where no job waits.

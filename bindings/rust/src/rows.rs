@@ -1,6 +1,6 @@
-// The entries' rows. A call (`fn`): its name, the entry, and behind table and answer the slices that it is lent; its numbers; the slices that it reads. A question (`ask`), which reads the
-// table and is lent the answer alone: its name, the entry, its numbers. They stand here once, for the macro that makes functions of them: `entries!` of entries.rs, and the oracle's, which
-// calls the archive beside the original.
+// The entries' rows. A call (`fn`): its name, the entry, and behind table and answer the slices that it is lent; its numbers; the slices that it reads; and of a run the answers, which it is lent too. A question
+// (`ask`), which reads the table and is lent the answer alone: its name, the entry, its numbers. They stand here once, for the macro that makes functions of them: `entries!` of entries.rs, the one of the
+// tests, and the oracle's, which calls the archive beside the original.
 macro_rules! rows {
     ($of:ident) => {
         $of! {
@@ -24,6 +24,8 @@ macro_rules! rows {
             fn dispatch = l2cap_dispatch(room; link: u16, cid: u16; payload);
             fn send = l2cap_send(out; slot: u8; sdu);
             fn receive = l2cap_receive(room, signal, job; slot: u8;);
+            fn dispatch_run = l2cap_dispatch_run(room;; frames; answers);
+            fn send_run = l2cap_send_run(out;; jobs; answers);
             fn send_conn_param_update_req = l2cap_send_conn_param_update_req(signal; link: u16, min: u16, max: u16, latency: u16, timeout: u16;);
             fn send_conn_param_update_res = l2cap_send_conn_param_update_res(signal; link: u16, result: u16;);
             ask attention = l2cap_attention();

@@ -1,6 +1,6 @@
 //! The entries and the numbers with names are declared twice, for C and for Rust: the two must say the same.
 
-use l2cap_channels::{LeCreditConnResultCode, Refusal, CID_BASE, SIGNAL_OCTETS, TABLE_OCTETS};
+use l2cap_channels::{FrameRun, JobRun, LeCreditConnResultCode, Refusal, ANSWER_OCTETS, CID_BASE, SIGNAL_OCTETS, TABLE_OCTETS};
 use std::collections::BTreeMap;
 use std::path::Path;
 
@@ -40,7 +40,7 @@ fn header() -> Entries {
     entries
 }
 
-/// The rows of the entries. A call: slices that are lent, numbers, slices that are read. A question: numbers. Table and answer come first, a question's table to be read.
+/// The rows of the entries. A call: slices that are lent, numbers, slices that are read, and a run's answers. A question: numbers. Table and answer come first, a question's table to be read.
 fn wrapper() -> Entries {
     let text = read("src/rows.rs");
     let rows = text.split("$of! {").nth(1).and_then(|rest| rest.split("\n        }").next()).expect("the rows");
@@ -53,15 +53,17 @@ fn wrapper() -> Entries {
         let groups: Vec<Vec<&str>> =
             parameters.split(';').map(|group| group.split(',').map(str::trim).filter(|name| !name.is_empty()).collect()).collect();
         let none = Vec::new();
-        let (table, lent, numbers, read) = match (kind, &groups[..]) {
-            ("fn", [lent, numbers, read]) => ("*mut u8", lent, numbers, read),
-            ("ask", [numbers]) => ("*const u8", &none, numbers, &none),
+        let (table, lent, numbers, read, behind) = match (kind, &groups[..]) {
+            ("fn", [lent, numbers, read]) => ("*mut u8", lent, numbers, read, &none),
+            ("fn", [lent, numbers, read, behind]) => ("*mut u8", lent, numbers, read, behind),
+            ("ask", [numbers]) => ("*const u8", &none, numbers, &none, &none),
             _ => panic!("a row of no kind: {row}"),
         };
         let mut types = Vec::from(slice(table));
         types.extend(["answer"].iter().chain(lent).flat_map(|_| slice("*mut u8")));
         types.extend(numbers.iter().map(|number| number.split_once(": ").expect("a number's type").1.to_owned()));
         types.extend(read.iter().flat_map(|_| slice("*const u8")));
+        types.extend(behind.iter().flat_map(|_| slice("*mut u8")));
         types.push("u32".into());
         entries.insert(entry.into(), types);
     }
@@ -149,7 +151,10 @@ fn sizes_are_the_same() {
         value.strip_prefix("0x").map_or_else(|| value.parse(), |hex| usize::from_str_radix(hex, 16)).expect(value)
     };
     assert_eq!(define("L2CAP_TABLE_OCTETS"), TABLE_OCTETS);
+    assert_eq!(define("L2CAP_ANSWER_OCTETS"), ANSWER_OCTETS);
     assert_eq!(define("L2CAP_SIGNAL_OCTETS"), SIGNAL_OCTETS);
+    assert_eq!(define("L2CAP_RUN_FRAME_HEAD"), FrameRun::HEAD);
+    assert_eq!(define("L2CAP_RUN_JOB_HEAD"), JobRun::HEAD);
     assert_eq!(define("L2CAP_CID_BASE"), usize::from(CID_BASE));
 }
 

@@ -26,7 +26,7 @@ fn refusing(refusal: Refusal, table: &Table, room: &[u8], link: ConnHandle, inde
     names
 }
 
-const LENT_ROOM: [&str; 14] = [
+const LENT_ROOM: [&str; 15] = [
     "signal",
     "reject_pending",
     "reject_all_pending",
@@ -40,6 +40,7 @@ const LENT_ROOM: [&str; 14] = [
     "next_disconnect",
     "dispatch",
     "receive",
+    "dispatch_run",
     "make",
 ];
 

@@ -59,10 +59,10 @@ fn numbers(cell: &str) -> Vec<u8> {
     cell.split(' ').map(|number| number.parse().expect("numbers with a space between")).collect()
 }
 
-/// Each call's name, the letter of its line, and its refusals in order.
+/// Each call's name, the letter of its line, and its refusals in order. A run has no line.
 fn calls() -> Vec<(String, String, Vec<u8>)> {
     let bare = |cell: &str| cell.trim_matches('`').to_owned();
-    table("The calls").iter().map(|row| (bare(&row[0]), bare(&row[1]), numbers(&row[2]))).collect()
+    table("The calls").iter().map(|row| (bare(&row[0]), row[1].replace('–', ""), numbers(&row[2]))).collect()
 }
 
 /// A call's refusals: those that it tests first, and its own.
@@ -87,7 +87,7 @@ fn its_tables_agree() {
     for row in table("The refusals") {
         let number = row[0].parse().expect("a number");
         let listed = calls.iter().filter(|(_, _, list)| list.contains(&number));
-        let given: Vec<String> = listed.map(|(name, letter, _)| format!("`{name}` `{letter}`")).collect();
+        let given: Vec<String> = listed.map(|(name, letter, _)| format!("`{name}` {letter}").trim_end().to_owned()).collect();
         let wanted = if given.len() == calls.len() { "every call".to_owned() } else { given.join(", ") };
         assert_eq!(row[4], wanted, "refusal {number}");
     }
@@ -309,6 +309,9 @@ fn any_call(name: &str, chance: &mut Chance, channels: &mut ChannelManager<'_>, 
             let most = chance.of(&[5, out.len()]);
             channels.send(index, &vec![1; length], &mut out[..most]).err()
         }
+        // a run that has no place for an answer
+        "dispatch_run" if chance.of(&[true, false]) => channels.dispatch_run(&mut one_frame(&mut [0; 8], link), &mut []).err(),
+        "send_run" if chance.of(&[true, false]) => channels.send_run(&mut one_job(&mut [0; 8], index), out, &mut []).err(),
         other => call(other, channels, link, index, &mut signal),
     }
 }
@@ -350,7 +353,9 @@ fn runs_by_chance_give_what_it_lists() {
     for row in table("The signals") {
         listed.insert(row[0].clone(), numbers(&row[2]).into_iter().collect());
     }
-    // In Rust a result is a type: a reject with a number that is none can't be said.
-    assert!(listed.get_mut("reject_pending").expect("a reject").remove(&15));
+    // In Rust results and runs are types: a reject with a number that is none can't be said, nor half a frame.
+    for name in ["reject_pending", "dispatch_run", "send_run"] {
+        assert!(listed.get_mut(name).expect(name).remove(&15));
+    }
     assert_eq!(seen, listed);
 }

@@ -12,7 +12,7 @@ ghost use Rattle.channel_answer.specs.Tells.{tells, answerNumber};
 ghost use Rattle.edge_answer.specs.Answers.{toldOctets};
 
 // Writes what was told, and how many octets the call wrote.
-fn put_told(out: &mut [u8], x: Told, n: usize)
+pub fn put_told(out: &mut [u8], x: Told, n: usize)
     ensures { λ _. ⌜ now (out .exit) ≡ sets (now (out .entry)) 0 (toldOctets x n) ⌝ }
 {
     let k = least(n, 4294967295);

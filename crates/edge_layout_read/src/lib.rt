@@ -35,14 +35,14 @@ ghost use lib.ListN.{length};
 ghost use Rattle.channel.specs.Limits.{slotsMost};
 ghost use Rattle.edge_layout.specs.Layout.{tableOctets, cell, slotIn};
 
-fn state_at(t: &[u8], i: usize) -> ChannelState
+pub fn state_at(t: &[u8], i: usize) -> ChannelState
     requires { ⌜ (tableOctets ≤ length (now t)) × (i < slotsMost) ⌝ }
     ensures { λ r. ⌜ r ≡ slotIn (cell (now (t .entry)) i) .state ⌝ }
 {
     edge_layout::state_of(octet(t, i, KIND), octet(t, i, VALUE))
 }
 
-fn account_at(t: &[u8], i: usize) -> CreditFlowControl
+pub fn account_at(t: &[u8], i: usize) -> CreditFlowControl
     requires { ⌜ (tableOctets ≤ length (now t)) × (i < slotsMost) ⌝ }
     ensures { λ r. ⌜ r ≡ slotIn (cell (now (t .entry)) i) .account ⌝ }
 {
@@ -54,7 +54,7 @@ fn account_at(t: &[u8], i: usize) -> CreditFlowControl
     }
 }
 
-fn peer_at(t: &[u8], i: usize) -> Peer
+pub fn peer_at(t: &[u8], i: usize) -> Peer
     requires { ⌜ (tableOctets ≤ length (now t)) × (i < slotsMost) ⌝ }
     ensures { λ r. ⌜ r ≡ slotIn (cell (now (t .entry)) i) .peer ⌝ }
 {
@@ -66,7 +66,7 @@ fn peer_at(t: &[u8], i: usize) -> Peer
     }
 }
 
-fn assembly_at(t: &[u8], i: usize) -> Assembly
+pub fn assembly_at(t: &[u8], i: usize) -> Assembly
     requires { ⌜ (tableOctets ≤ length (now t)) × (i < slotsMost) ⌝ }
     ensures { λ r. ⌜ r ≡ slotIn (cell (now (t .entry)) i) .assembly ⌝ }
 {
@@ -76,7 +76,7 @@ fn assembly_at(t: &[u8], i: usize) -> Assembly
     }
 }
 
-fn queue_at(t: &[u8], i: usize) -> Queue
+pub fn queue_at(t: &[u8], i: usize) -> Queue
     requires { ⌜ (tableOctets ≤ length (now t)) × (i < slotsMost) ⌝ }
     ensures { λ r. ⌜ r ≡ slotIn (cell (now (t .entry)) i) .queue ⌝ }
 {

@@ -14,3 +14,7 @@ puts o i c (v ∷ vs) = puts (set o (i + (headOctets + slotsMost * c)) v) i (suc
 -- the columns of row i that a frame can change, with those of slot x
 abbrev pub framedRow : List ℕ → ℕ → Slot → List ℕ
 framedRow o i x = puts (puts (puts (puts o i 0 (stateOctets (x .state))) i 10 (accountOctets (x .account))) i 26 (assemblyOctets (x .assembly))) i 30 (queueOctets (x .queue))
+
+-- those that a take can change
+abbrev pub takenRow : List ℕ → ℕ → Slot → List ℕ
+takenRow o i x = puts (puts o i 10 (accountOctets (x .account))) i 30 (queueOctets (x .queue))

@@ -15,11 +15,11 @@ use edge_layout::PEER_CREDITS;
 use edge_layout::PEER_MPS;
 use edge_layout::PEER_MTU;
 use edge_layout::WANT;
-use local::put_account;
+pub use local::put_account;
 use local::put_local;
 use local::put_number;
 use local::put_octet;
-use local::put_state;
+pub use local::put_state;
 use sar_join::Assembly;
 ghost use mathlib.Core.Path.{_≡_};
 ghost use Prim.Native.Nat.{_≤_, _<_};
@@ -27,7 +27,7 @@ ghost use lib.ListN.{length};
 ghost use Rattle.octets.specs.Octets.{le16};
 ghost use Rattle.channel.specs.Limits.{slotsMost};
 ghost use Rattle.edge_layout.specs.Layout.{tableOctets, peerOctets, assemblyOctets, queueOctets, row};
-ghost use Rattle.edge_layout_write.specs.Puts.{puts, framedRow};
+ghost use Rattle.edge_layout_write.specs.Puts.{puts, framedRow, takenRow};
 
 fn put_peer(t: &mut [u8], i: usize, p: Peer)
     requires { ⌜ (tableOctets ≤ length (now t)) × (i < slotsMost) ⌝ }
@@ -47,7 +47,7 @@ pub fn put_peer_credits(t: &mut [u8], i: usize, credits: u16)
     put_number(t, i, PEER_CREDITS, credits);
 }
 
-fn put_assembly(t: &mut [u8], i: usize, a: Assembly)
+pub fn put_assembly(t: &mut [u8], i: usize, a: Assembly)
     requires { ⌜ (tableOctets ≤ length (now t)) × (i < slotsMost) ⌝ }
     ensures { λ _. ⌜ now (t .exit) ≡ puts (now (t .entry)) i 26 (assemblyOctets a) ⌝ }
 {
@@ -55,7 +55,7 @@ fn put_assembly(t: &mut [u8], i: usize, a: Assembly)
     put_number(t, i, WANT, a.want);
 }
 
-fn put_queue(t: &mut [u8], i: usize, q: Queue)
+pub fn put_queue(t: &mut [u8], i: usize, q: Queue)
     requires { ⌜ (tableOctets ≤ length (now t)) × (i < slotsMost) ⌝ }
     ensures { λ _. ⌜ now (t .exit) ≡ puts (now (t .entry)) i 30 (queueOctets q) ⌝ }
 {
@@ -97,6 +97,17 @@ pub fn put_framed(t: &mut [u8], i: usize, x: Slot)
     put_account(t, i, a);
     let b = x.assembly;
     put_assembly(t, i, b);
+    let q = x.queue;
+    put_queue(t, i, q);
+}
+
+// Writes of the slot what a take can change: its account and the jobs that wait.
+pub fn put_taken(t: &mut [u8], i: usize, x: Slot)
+    requires { ⌜ (tableOctets ≤ length (now t)) × (i < slotsMost) ⌝ }
+    ensures { λ _. ⌜ now (t .exit) ≡ takenRow (now (t .entry)) i x ⌝ }
+{
+    let a = x.account;
+    put_account(t, i, a);
     let q = x.queue;
     put_queue(t, i, q);
 }

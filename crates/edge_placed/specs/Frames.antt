@@ -5,6 +5,7 @@ use lib.ListN.{length}
 use Rattle.definition.specs.Calls.{frame, jobs, frameIn}
 use Rattle.definition.specs.Ending.{endOf}
 use Rattle.definition.specs.Frames.{send, receive}
+use Rattle.edge_layout.specs.Layout.{read}
 use Rattle.edge.specs.Edge.{Edge, onTable}
 
 -- A frame that came in.
@@ -14,6 +15,10 @@ dispatchEdge table answer room link cid payload = onTable table answer (λ t. en
 -- Cuts a job into frames.
 abbrev pub sendEdge : (table answer out : List ℕ) (slot : ℕ) (sdu : List ℕ) → Edge
 sendEdge table answer out slot sdu = onTable table answer (λ t. endOf t sdu [] out [] (send t slot (length sdu) (length out)))
+
+-- how many octets of frames that writes
+abbrev pub sentOctets : (table out : List ℕ) (slot : ℕ) (sdu : List ℕ) → ℕ
+sentOctets table out slot sdu = let t = read table .table in endOf t sdu [] out [] (send t slot (length sdu) (length out)) .served .octets
 
 -- Takes the oldest job that waits in a slot.
 abbrev pub receiveEdge : (table answer room signal job : List ℕ) (slot : ℕ) → Edge

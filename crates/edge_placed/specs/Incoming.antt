@@ -4,14 +4,12 @@ use mathlib.Core.Path.{_≡_, refl, sym, ap, _∙_}
 use mathlib.Core.Bool.{Bool, true, false, not, _&&_}
 use mathlib.Core.List.{List, []}
 use Prim.Native.Nat.{ℕ, _≤_, _<_}
-use native.Mathlib.Omega.{arith}
 use lib.Dec.{eqb, leb, ltb}
 use lib.ListN.{length, getD}
-use borrow.Author.Tests.{eqb-true}
-use Rattle.lists.specs.Choose.{choose, if-cases}
+use Rattle.lists.specs.Choose.{if-cases}
 use Rattle.octets.specs.Octets.{u16At}
 use Rattle.codes.specs.declared.Refusal.{Refusal}
-use Rattle.codes.specs.declared.Refusal.the-variants.{BadRoom, BadHandle, InvalidChannelId}
+use Rattle.codes.specs.declared.Refusal.the-variants.{BadHandle, InvalidChannelId}
 use Rattle.credit.specs.declared.CreditFlowControl.{CreditFlowControl}
 use Rattle.sar_join.specs.declared.Joined.{Joined}
 use Rattle.sar_join.specs.declared.Joined.the-variants as Joined
@@ -25,25 +23,26 @@ use Rattle.channel.specs.declared.Verdict.{Verdict}
 use Rattle.channel.specs.declared.Verdict.the-variants.{Pass, Stop}
 use Rattle.channel_answer.specs.Tells.{answerNumber}
 use Rattle.definition.specs.Mem.{sizes, parts}
-use Rattle.definition.specs.Table.{placeSize, partWidth, roomWidth, roomSize, placeOf, slotAt, slotOf, isCid, isConnected, withAccount, putSlot}
+use Rattle.definition.specs.Table.{placeSize, partWidth, roomWidth, placeOf, slotAt, slotOf, isCid, isConnected, withAccount, putSlot}
 use Rattle.definition.specs.Outcome.{verdict, passed, only}
 use Rattle.definition.specs.Ending.{itself, end, endOf, gave, written-none}
 use Rattle.definition.specs.Frames.{dispatch, admitted}
 use Rattle.definition.specs.Calls.{frame, headOf, jobs, frameIn}
 use Rattle.definition.specs.Tells.{cid-within}
-use Rattle.table_gate_sizes.specs.Sizes.{Sized, formed-sizes}
 use Rattle.table_gate.specs.Fits.{have-fits}
-use Rattle.table_room.specs.Placed.{Placed, placed}
+use Rattle.table_room.specs.Placed.{Placed}
 use Rattle.slot_work.specs.Work.{Work, workedOf, works-in}
 use Rattle.slot_frame.specs.FrameIn.{joinedTo, frameOf}
 use Rattle.slot_frame.specs.Admitted.{frame-quiet, frame-admitted, frame-astray}
-use Rattle.edge_layout.specs.Layout.{cell, slotIn, read}
+use Rattle.edge_layout.specs.Layout.{cell, slotIn, read, written}
 use Rattle.edge_layout_write.specs.Puts.{framedRow}
 use Rattle.edge.specs.Edge.{Edge, edge}
 use Rattle.edge_scan.specs.Scan.{validOctets}
 use Rattle.edge_row.specs.Row.{slots-told, depth-told, packet-told, slot-read}
 use Rattle.edge_row.specs.Framed.{localOf, peerOf, framed-written}
-use Rattle.edge_row.specs.Gate.{answered, stays, changes, stopped, valid-read, valid-formed, sizedVerdict, verdict-told}
+use Rattle.edge_row.specs.Gate.{answered, stays, changes, stopped, valid-read, valid-formed, stops-4, passes}
+use Rattle.edge_row.specs.Room as Room
+pub use Rattle.edge_row.specs.Room.{sized-told}
 use Rattle.edge_placed.specs.Frames.{dispatchEdge}
 
 -- what the work on the slot of row s leaves, in the octets and in the room
@@ -71,44 +70,17 @@ frame-local d place x link p =
     (λ _. if-cases (Same x) (not (eqb (x .link) link)) (λ _. (refl, refl))
     (λ _. if-cases (Same x) (eqb (x .account .credits) 0) (λ _. (refl, refl)) (λ _. joined-local place x _ _ _)))
 
--- ---- the sizes in line 0
-
-module _ (o : List ℕ) (v : validOctets o ≡ true) where
-  pub sized-told : Sized (getD o 1 0) (getD o 2 0) (u16At o 3)
-  sized-told = rw (slots-told o (valid-read o v), depth-told o (valid-read o v), packet-told o (valid-read o v)) at (formed-sizes (read o .table) (valid-formed o v))
-
-  room-told : roomSize (read o .table) ≡ roomWidth (getD o 1 0) (getD o 2 0) (u16At o 3)
-  room-told = rw (slots-told o (valid-read o v), depth-told o (valid-read o v), packet-told o (valid-read o v))
-  -- ---- what the gate says of a call that is given a room and a link
-
-module _ (n d m long link : ℕ) where
-  sized-2 : eqb long (roomWidth n d m) ≡ false → sizedVerdict n d m (Is long) Nothing (Is link) Nothing ≡ Stop BadRoom
-  unfolding sizedVerdict choose
-  sized-2 e = rw e
-
-  sized-4 : eqb long (roomWidth n d m) ≡ true → ltb handleMost link ≡ true → sizedVerdict n d m (Is long) Nothing (Is link) Nothing ≡ Stop BadHandle
-  unfolding sizedVerdict choose
-  sized-4 e f = rw (e, f)
-
-  sized-pass : eqb long (roomWidth n d m) ≡ true → ltb handleMost link ≡ false → sizedVerdict n d m (Is long) Nothing (Is link) Nothing ≡ Pass
-  unfolding sizedVerdict choose
-  sized-pass e f = rw (e, f)
+-- ---- what the gate says of a call that is given a room and a link
 
 module _ (o : List ℕ) (v : validOctets o ≡ true) (long link : ℕ) where
   abbrev Says : Verdict → Type 0
   Says x = verdict (read o .table) (Is long) Nothing (Is link) Nothing ≡ x
 
-  told : verdict (read o .table) (Is long) Nothing (Is link) Nothing ≡ sizedVerdict (getD o 1 0) (getD o 2 0) (u16At o 3) (Is long) Nothing (Is link) Nothing
-  told = verdict-told o v (Is long) Nothing (Is link) Nothing
-
-  pub refused-2 : eqb long (roomWidth (getD o 1 0) (getD o 2 0) (u16At o 3)) ≡ false → Says (Stop BadRoom)
-  refused-2 e = told ∙ sized-2 (getD o 1 0) (getD o 2 0) (u16At o 3) long link e
-
   pub refused-4 : eqb long (roomWidth (getD o 1 0) (getD o 2 0) (u16At o 3)) ≡ true → ltb handleMost link ≡ true → Says (Stop BadHandle)
-  refused-4 e f = told ∙ sized-4 (getD o 1 0) (getD o 2 0) (u16At o 3) long link e f
+  refused-4 e f = stops-4 o v (Is long) Nothing (Is link) Nothing (ap not e) refl f
 
   pub passes-4 : eqb long (roomWidth (getD o 1 0) (getD o 2 0) (u16At o 3)) ≡ true → ltb handleMost link ≡ false → Says Pass
-  passes-4 e f = told ∙ sized-pass (getD o 1 0) (getD o 2 0) (u16At o 3) long link e f
+  passes-4 e f = passes o v (Is long) Nothing (Is link) Nothing (ap not e) refl f refl
 
 -- a frame that the gate stops leaves the octets
 pub frame-stopped : (o a room p : List ℕ) (link cid : ℕ) (r : Refusal) → verdict (read o .table) (Is (length room)) Nothing (Is link) Nothing ≡ Stop r
@@ -150,13 +122,14 @@ module _ (o a room p : List ℕ) (link cid : ℕ) (v : validOctets o ≡ true) (
     js = jobOctets (slotAt t s .assembly) p
 
     -- the slot is one of the rows, and its part lies in the room
+    in-use : s < getD o 1 0
+    in-use = rw (← slots-told o (valid-read o v)) (cid-within t cid n)
+
     pub row-low : s < slotsMost
-    row-low = omega (arith, cid-within t cid n, formed-sizes t (valid-formed o v) .n-most)
+    row-low = Room.row-low o v s in-use
 
     pub part-placed : Placed (getD o 2 0) (u16At o 3) s (length room)
-    part-placed =
-        let is : length room ≡ roomSize t = eqb-true (length room) _ e ∙ sym (room-told o v) in
-        rw (depth-told o (valid-read o v), packet-told o (valid-read o v)) at (placed {t = t} (record { sizes = formed-sizes t (valid-formed o v); is = is }) s (cid-within t cid n))
+    part-placed = Room.part-placed o v s in-use (length room) e
 
     pub have-placed : slotIn (cell o s) .assembly .have ≤ placeSize (u16At o 3)
     have-placed = rw (slot-read o (valid-read o v) s row-low, packet-told o (valid-read o v)) at (have-fits t s (valid-formed o v) (cid-within t cid n))
@@ -172,6 +145,12 @@ module _ (o a room p : List ℕ) (link cid : ℕ) (v : validOctets o ≡ true) (
         ∙ sym (frame-admitted t link cid p room n)
         ∙ sym (works-in t s w js room [] [] {r = workedOf w} (ap (λ (k : ℕ). gave (w .answer) (putSlot t s (w .slot)) k) quiet) refl refl
         (rw (frame-quiet (t .d) (placeOf t) (slotAt t s) link p) (sym (written-none js room []))))
+
+    -- what the frame leaves, with its slot put into the table
+    pub frame-table : edge (answerNumber (w .answer)) (written o (putSlot t s (w .slot))) (answered a (w .answer) 0) (parts itself js (partWidth (t .d) (t .m)) (only s (w .moves)) room) [] [] ≡ dispatchEdge o a room link cid p
+    frame-table =
+        changes o a (parts itself js (partWidth (t .d) (t .m)) (only s (w .moves)) room) [] [] (λ t. endOf t (jobs t (frame link cid p)) room [] [] (frameIn t (length room) link cid p))
+        (w .answer) (putSlot t s (w .slot)) 0 (valid-read o v) ends refl
 
     -- THE COLUMNS WRITTEN ARE THE TABLE AFTER THE FRAME
     pub frame-placed : framedEdge o a room (getD o 2 0) (u16At o 3) s link p ≡ dispatchEdge o a room link cid p

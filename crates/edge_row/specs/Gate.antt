@@ -123,18 +123,74 @@ verdict-told o e roomed signal link slot =
     let ok = valid-read o e in
     rw (valid-formed o e, slots-told o ok, depth-told o ok, packet-told o ok)
 
+-- ---- WHICH OF ITS TESTS STOPS A CALL, whatever of the four it is given
+
+abbrev OtherRoom : (n d m : ℕ) → Given → Bool → Type 0
+OtherRoom n d m roomed b = fails (λ size. not (eqb size (roomWidth n d m))) roomed ≡ b
+
+abbrev Short : Given → Bool → Type 0
+Short signal b = fails (λ size. ltb size signalMost) signal ≡ b
+
+abbrev Beyond : Given → Bool → Type 0
+Beyond link b = fails (λ l. ltb handleMost l) link ≡ b
+
+abbrev NoSlot : (n : ℕ) → Given → Bool → Type 0
+NoSlot n slot b = fails (λ s. leb n s) slot ≡ b
+
+module _ (n d m : ℕ) (roomed signal link slot : Given) where
+  sized-2 : OtherRoom n d m roomed true → sizedVerdict n d m roomed signal link slot ≡ Stop BadRoom
+  unfolding sizedVerdict choose
+  sized-2 r = rw r
+
+  sized-3 : OtherRoom n d m roomed false → Short signal true → sizedVerdict n d m roomed signal link slot ≡ Stop NoRoom
+  unfolding sizedVerdict choose
+  sized-3 r s = rw (r, s)
+
+  sized-4 : OtherRoom n d m roomed false → Short signal false → Beyond link true → sizedVerdict n d m roomed signal link slot ≡ Stop BadHandle
+  unfolding sizedVerdict choose
+  sized-4 r s l = rw (r, s, l)
+
+  sized-6 : OtherRoom n d m roomed false → Short signal false → Beyond link false → NoSlot n slot true → sizedVerdict n d m roomed signal link slot ≡ Stop BadSlot
+  unfolding sizedVerdict choose
+  sized-6 r s l k = rw (r, s, l, k)
+
+  sized-pass : OtherRoom n d m roomed false → Short signal false → Beyond link false → NoSlot n slot false → sizedVerdict n d m roomed signal link slot ≡ Pass
+  unfolding sizedVerdict choose
+  sized-pass r s l k = rw (r, s, l, k)
+
+module _ (o : List ℕ) (v : validOctets o ≡ true) (roomed signal link slot : Given) where
+  abbrev Says : Verdict → Type 0
+  Says x = verdict (read o .table) roomed signal link slot ≡ x
+
+  told : Says (sizedVerdict (getD o 1 0) (getD o 2 0) (u16At o 3) roomed signal link slot)
+  told = verdict-told o v roomed signal link slot
+
+  pub stops-2 : OtherRoom (getD o 1 0) (getD o 2 0) (u16At o 3) roomed true → Says (Stop BadRoom)
+  stops-2 r = told ∙ sized-2 (getD o 1 0) (getD o 2 0) (u16At o 3) roomed signal link slot r
+
+  module _ (r : OtherRoom (getD o 1 0) (getD o 2 0) (u16At o 3) roomed false) where
+    pub stops-3 : Short signal true → Says (Stop NoRoom)
+    stops-3 s = told ∙ sized-3 (getD o 1 0) (getD o 2 0) (u16At o 3) roomed signal link slot r s
+
+    module _ (s : Short signal false) where
+      pub stops-4 : Beyond link true → Says (Stop BadHandle)
+      stops-4 l = told ∙ sized-4 (getD o 1 0) (getD o 2 0) (u16At o 3) roomed signal link slot r s l
+
+      pub stops-6 : Beyond link false → NoSlot (getD o 1 0) slot true → Says (Stop BadSlot)
+      stops-6 l k = told ∙ sized-6 (getD o 1 0) (getD o 2 0) (u16At o 3) roomed signal link slot r s l k
+
+      pub passes : Beyond link false → NoSlot (getD o 1 0) slot false → Says Pass
+      passes l k = told ∙ sized-pass (getD o 1 0) (getD o 2 0) (u16At o 3) roomed signal link slot r s l k
+
+-- REFUSAL 2, whatever else the call is given
+pub refused-2 : (o : List ℕ) → validOctets o ≡ true → (long : ℕ) (signal link slot : Given) → eqb long (roomWidth (getD o 1 0) (getD o 2 0) (u16At o 3)) ≡ false
+    → verdict (read o .table) (Is long) signal link slot ≡ Stop BadRoom
+refused-2 o e long signal link slot k = stops-2 o e (Is long) signal link slot (ap not k)
+
 -- of a call that is given a slot alone: refusal 6, or none
-sized-6 : (n d m slot : ℕ) → leb n slot ≡ true → sizedVerdict n d m Nothing Nothing Nothing (Is slot) ≡ Stop BadSlot
-unfolding sizedVerdict choose
-sized-6 n d m slot k = rw k
-
-sized-pass : (n d m slot : ℕ) → leb n slot ≡ false → sizedVerdict n d m Nothing Nothing Nothing (Is slot) ≡ Pass
-unfolding sizedVerdict choose
-sized-pass n d m slot k = rw k
-
 module _ (o : List ℕ) (e : validOctets o ≡ true) (slot : ℕ) where
   pub refused-6 : leb (getD o 1 0) slot ≡ true → verdict (read o .table) Nothing Nothing Nothing (Is slot) ≡ Stop BadSlot
-  refused-6 k = verdict-told o e Nothing Nothing Nothing (Is slot) ∙ sized-6 (getD o 1 0) (getD o 2 0) (u16At o 3) slot k
+  refused-6 k = stops-6 o e Nothing Nothing Nothing (Is slot) refl refl refl k
 
   pub passes-6 : leb (getD o 1 0) slot ≡ false → verdict (read o .table) Nothing Nothing Nothing (Is slot) ≡ Pass
-  passes-6 k = verdict-told o e Nothing Nothing Nothing (Is slot) ∙ sized-pass (getD o 1 0) (getD o 2 0) (u16At o 3) slot k
+  passes-6 k = passes o e Nothing Nothing Nothing (Is slot) refl refl refl k

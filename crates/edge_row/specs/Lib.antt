@@ -3,3 +3,6 @@ pub mod Parts
 pub mod Row
 pub mod Gate
 pub mod Framed
+pub mod Stays
+pub mod Taken
+pub mod Room

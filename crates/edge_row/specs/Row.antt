@@ -15,7 +15,7 @@ use Rattle.octets.specs.Sets.{sets-whole}
 use Rattle.channel.specs.Limits.{slotsMost}
 use Rattle.channel.specs.declared.Slot.{Slot}
 use Rattle.channel.specs.declared.Table.{Table}
-use Rattle.definition.specs.Table.{gap, slotAt, putSlot, withPeerCredits}
+use Rattle.definition.specs.Table.{gap, slotAt, putSlot, nextId, idAfter, spent, withPeerCredits}
 use Rattle.edge_layout.specs.Layout.{headOctets, spsmOctets, columnCount, tableOctets, row, head, columns, spell, cell, slotIn, taken, same, read, written}
 use Rattle.edge_layout.specs.Rows.{row-length}
 use Rattle.edge_layout.specs.Columns.{tabulate-length, tabulate-at, head-length, spell-length, cell-at}
@@ -76,6 +76,11 @@ module _ (t : Table) (i : ℕ) (x : Slot) (p : length (t .spsms) ≡ spsmOctets)
       let put-long : length (spell (putSlot t i x)) ≡ tableOctets = spell-length (putSlot t i x) ∙ omega (arith, p) in
       ext-getD 0 _ _ (put-long ∙ sym (puts-length (spell t) i 0 (row x) ∙ long)) (λ k l. at-place k (omega (arith, put-long)) (ltb k headOctets) refl)
 
+-- the spelling with another next identifier: octet 5
+spell-spent : (t : Table) (i : ℕ) (x : Slot) → spell (putSlot (spent t) i x) ≡ set (spell (putSlot t i x)) 5 (idAfter (nextId t))
+unfolding spell head
+spell-spent t i x = refl
+
 -- ---- of octets that were read
 
 module _ (o : List ℕ) (ok : read o .ok ≡ true) where
@@ -87,10 +92,10 @@ module _ (o : List ℕ) (ok : read o .ok ≡ true) where
       go true e = rw e
       go false e = absurd (false≢true (rw e at ok))
 
-  spelling : o ≡ spell (read o .table)
+  pub spelling : o ≡ spell (read o .table)
   spelling = one-spelling o (read o .table) (ap (λ (b : Bool). record { ok = b; table = read o .table }) ok)
 
-  slots-long : length (read o .table .slots) ≡ slotsMost
+  pub slots-long : length (read o .table .slots) ≡ slotsMost
   unfolding taken
   slots-long = rw table-taken (tabulate-length (λ i. slotIn (cell o i)) slotsMost)
 
@@ -98,11 +103,18 @@ module _ (o : List ℕ) (ok : read o .ok ≡ true) where
   unfolding taken
   spsms-are = rw (table-taken, length-take, length-drop)
 
-  spsms-long : length (read o .table .spsms) ≡ spsmOctets
+  pub spsms-long : length (read o .table .spsms) ≡ spsmOctets
   spsms-long = omega (arith, spsms-are, ap length spelling, spell-length (read o .table))
 
   pub octets-long : length o ≡ tableOctets
   octets-long = ap length spelling ∙ spell-length (read o .table) ∙ omega (arith, spsms-long)
+
+  -- a table of as many octets, written over them all
+  whole : (t : Table) → length (t .spsms) ≡ spsmOctets → written o t ≡ spell t
+  unfolding written choose
+  whole t p =
+      let long : length o ≡ length (spell t) = octets-long ∙ sym (spell-length t ∙ omega (arith, p)) in
+      rw (le-ltb (length o) tableOctets (omega (arith, octets-long))) (sets-whole o (spell t) long)
 
   -- the sizes stand in line 0
   pub slots-told : read o .table .n ≡ getD o 1 0
@@ -117,6 +129,11 @@ module _ (o : List ℕ) (ok : read o .ok ≡ true) where
   unfolding taken
   packet-told = ap (λ (t : Table). t .m) table-taken
 
+  -- and the next identifier
+  pub identifier-told : read o .table .identifier ≡ getD o 5 0
+  unfolding taken
+  identifier-told = ap (λ (t : Table). t .identifier) table-taken
+
   module _ (i : ℕ) (h : i < slotsMost) where
     -- THE ROW SAYS ITS SLOT
     pub slot-read : slotAt (read o .table) i ≡ slotIn (cell o i)
@@ -128,13 +145,9 @@ module _ (o : List ℕ) (ok : read o .ok ≡ true) where
 
     -- ONE ROW WRITTEN IS THE TABLE WITH THAT SLOT PUT
     pub row-written : (x : Slot) → written o (putSlot (read o .table) i x) ≡ puts o i 0 (row x)
-    unfolding written choose
     row-written x =
         let t = read o .table in
-        let e = spell-put t i x spsms-long slots-long h in
-        let long : length o ≡ length (spell (putSlot t i x)) = octets-long ∙ sym (spell-length (putSlot t i x) ∙ omega (arith, spsms-long)) in
-        rw (le-ltb (length o) tableOctets (omega (arith, octets-long)))
-        (sets-whole o (spell (putSlot t i x)) long ∙ e ∙ ap (λ (l : List ℕ). puts l i 0 (row x)) (sym spelling))
+        whole (putSlot t i x) spsms-long ∙ spell-put t i x spsms-long slots-long h ∙ ap (λ (l : List ℕ). puts l i 0 (row x)) (sym spelling)
 
     -- of a slot that differs in the columns from c on alone, these are written
     pub part-written : (x : Slot) (c : ℕ) (ys : List ℕ) → c + length ys ≤ columnCount
@@ -148,3 +161,9 @@ module _ (o : List ℕ) (ok : read o .ok ≡ true) where
     pub credits-written : (n : ℕ) → written o (putSlot (read o .table) i (withPeerCredits n (slotAt (read o .table) i))) ≡ puts o i 24 (le16 n)
     unfolding row
     credits-written n = part-written (withPeerCredits n (slotAt (read o .table) i)) 24 (le16 n) (omega arith) refl
+
+    -- THE OCTET OF THE NEXT IDENTIFIER WRITTEN is the table with that identifier used
+    pub spent-written : (x : Slot) → written o (putSlot (spent (read o .table)) i x) ≡ set (written o (putSlot (read o .table) i x)) 5 (idAfter (nextId (read o .table)))
+    spent-written x =
+        let t = read o .table in
+        whole (putSlot (spent t) i x) spsms-long ∙ spell-spent t i x ∙ ap (λ (l : List ℕ). set l 5 (idAfter (nextId t))) (sym (whole (putSlot t i x) spsms-long))

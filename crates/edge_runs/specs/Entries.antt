@@ -1,6 +1,6 @@
 -- The entries of the C library (crate entries) as calls of a run: what each is given, what it leaves on octets, and which call of the definition it
 -- is. `leaves` passes each entry's numbers and octets to the definition by which its `ensures` is said, and does nothing else. l2cap_make starts a run
--- (Run.antt); l2cap_signal_rest is a function of the PDU alone.
+-- (Run.antt); l2cap_signal_rest is a function of the PDU alone; l2cap_dispatch_run is the entries that its frames are (FrameRun.antt).
 use mathlib.Core.List.{List, [], _∷_}
 use Prim.Native.Nat.{ℕ}
 use Rattle.codes.specs.Codes.{resultOf}

@@ -8,3 +8,5 @@ pub mod Isolation
 pub mod Rules
 pub mod Example
 pub mod Reading
+pub mod FrameRun
+pub mod JobRun

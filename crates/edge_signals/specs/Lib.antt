@@ -1,2 +1,4 @@
 -- Signals, on octets.
 pub mod Signals
+-- The PDUs that begin with a credit signal, which works where the octets stand.
+pub mod Crediting

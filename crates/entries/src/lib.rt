@@ -1,6 +1,7 @@
 // The calls for C and Rust, on numbers and octets: a static library. Each entry reads the table from its 672 octets, makes the call, writes table and
-// answer back, or for a question the answer alone, and returns 0 or the refusal's number; a frame in and a send read and write one row where it stands. It is the function of that name in `edge_asking`, `edge_pending`, `edge_opening`, `edge_closing`,
-// `edge_signals` or `edge_frames`, whose definition is the entry's too. It is the call's own, lifted through the two layouts (Edge.antt of `edge`).
+// answer back, or for a question the answer alone, and returns 0 or the refusal's number; a frame in, a send, a take, a credit signal and the two runs read and write one row where it stands. It is the
+// function of that name in `edge_asking`, `edge_pending`, `edge_opening`, `edge_closing`, `edge_signals`, `edge_dispatch`, `edge_send`, `edge_receive`, `edge_dispatch_run` or `edge_send_run`, whose definition is
+// the entry's too. It is the call's own, lifted through the two layouts (Edge.antt of `edge`); of a run the calls', one after the other (Run.antt of `edge_run`).
 ghost use mathlib.Core.Path.{_≡_};
 ghost use mathlib.Core.List.{[]};
 ghost use lib.ListN.{length};
@@ -13,6 +14,9 @@ ghost use Rattle.edge_closing.specs.Holding.{incRefEdge, decRefEdge};
 ghost use Rattle.edge_closing.specs.Closing.{disconnectEdge, disconnectByCidEdge, disconnectedEdge, nextDisconnectEdge};
 ghost use Rattle.edge_placed.specs.Frames.{dispatchEdge, sendEdge, receiveEdge};
 ghost use Rattle.edge_signals.specs.Signals.{signalEdge};
+ghost use Rattle.edge_run.specs.Run.{runEdge};
+ghost use Rattle.edge_dispatch_run.specs.Frames.{dispatchRunEdge};
+ghost use Rattle.edge_send_run.specs.Jobs.{sendRunEdge};
 
 // Makes a table of n slots, depth d and packets of m octets, and zeroes its room. Table octets of another length are refused by 1.
 #[no_mangle]
@@ -344,7 +348,7 @@ pub extern "C" fn l2cap_dispatch(
 ) -> u32
     ensures { λ r. ⌜ edge r (now (table .exit)) (now (answer .exit)) (now (room .exit)) [] [] ≡ dispatchEdge (now (table .entry)) (now (answer .entry)) (now (room .entry)) link cid (now (payload .entry)) ⌝ }
 {
-    edge_frames::dispatch(table, answer, room, link, cid, payload)
+    edge_dispatch::dispatch(table, answer, room, link, cid, payload)
 }
 
 // Cuts a job into frames.
@@ -358,7 +362,35 @@ pub extern "C" fn l2cap_send(
 ) -> u32
     ensures { λ r. ⌜ edge r (now (table .exit)) (now (answer .exit)) [] (now (out .exit)) [] ≡ sendEdge (now (table .entry)) (now (answer .entry)) (now (out .entry)) slot (now (sdu .entry)) ⌝ }
 {
-    edge_frames::send(table, answer, out, slot, sdu)
+    edge_send::send(table, answer, out, slot, sdu)
+}
+
+// Frames that came in, one after the other: link, CID, length, payload.
+#[no_mangle]
+pub extern "C" fn l2cap_dispatch_run(
+    table: &mut [u8],
+    answer: &mut [u8],
+    room: &mut [u8],
+    frames: &[u8],
+    answers: &mut [u8],
+) -> u32
+    ensures { λ r. ⌜ runEdge r (now (table .exit)) (now (answer .exit)) (now (room .exit)) [] (now (answers .exit)) ≡ dispatchRunEdge (now (table .entry)) (now (answer .entry)) (now (room .entry)) (now (frames .entry)) (now (answers .entry)) ⌝ }
+{
+    edge_dispatch_run::dispatch_run(table, answer, room, frames, answers)
+}
+
+// Jobs that go out, one after the other: slot, length, octets.
+#[no_mangle]
+pub extern "C" fn l2cap_send_run(
+    table: &mut [u8],
+    answer: &mut [u8],
+    out: &mut [u8],
+    jobs: &[u8],
+    answers: &mut [u8],
+) -> u32
+    ensures { λ r. ⌜ runEdge r (now (table .exit)) (now (answer .exit)) [] (now (out .exit)) (now (answers .exit)) ≡ sendRunEdge (now (table .entry)) (now (answer .entry)) (now (out .entry)) (now (jobs .entry)) (now (answers .entry)) ⌝ }
+{
+    edge_send_run::send_run(table, answer, out, jobs, answers)
 }
 
 // Takes the oldest job that waits in a slot.
@@ -373,7 +405,7 @@ pub extern "C" fn l2cap_receive(
 ) -> u32
     ensures { λ r. ⌜ edge r (now (table .exit)) (now (answer .exit)) (now (room .exit)) (now (signal .exit)) (now (job .exit)) ≡ receiveEdge (now (table .entry)) (now (answer .entry)) (now (room .entry)) (now (signal .entry)) (now (job .entry)) slot ⌝ }
 {
-    edge_frames::receive(table, answer, room, signal, job, slot)
+    edge_receive::receive(table, answer, room, signal, job, slot)
 }
 
 // How many octets of a PDU stand behind its first signal: what `l2cap_signal` is called with next. No slice crosses the edge.

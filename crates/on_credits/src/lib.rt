@@ -1,28 +1,19 @@
 // The peer's credits: code 0x16 (`handle_credit_flow` in the original). It stands behind the gate, which has found room and signal buffer
-// to be as long as the table says; it is `pub` for the signal call alone. Its contract is the equation with the definition's handler.
+// to be as long as the table says; it is `pub` for the signal call alone. The slot is searched for, `slot_credits` does the signal's work on it and on its part of the room, and it is put
+// back. Its contract is the equation with the definition's handler.
 ghost use mathlib.Core.Path.{_≡_};
 ghost use mathlib.Core.List.{[]};
-ghost use Prim.Native.Nat.{_+_, _≤_};
+ghost use Prim.Native.Nat.{_≤_};
 ghost use lib.ListN.{length};
 ghost use Rattle.channel.specs.Limits.{signalMost};
 ghost use Rattle.definition.specs.Ending.{end, endOf};
 ghost use Rattle.definition.specs.Signals.{onCredits};
 ghost use Rattle.table_room.specs.Placed.{RoomOf};
-use channel::Answer;
-use channel::CREDITS_MOST;
-use channel::ChannelState;
 use channel::Served;
 use channel::Table;
 use codes::Refusal;
 use signal_bodies::le_credit::LeCreditFlowIndRead;
 use table_slot::Want;
-
-// What the peer holds and what it is given.
-fn total(held: u16, more: u16) -> u32
-    ensures { λ r. ⌜ r ≡ held + more ⌝ }
-{
-    held as u32 + more as u32
-}
 
 // Code 0x16: more credits for the first Connected slot of this link with that peer CID; a sum above 65,535 ends the channel.
 pub fn on_credits(
@@ -45,19 +36,10 @@ pub fn on_credits(
                 return table::refused(t, Refusal::NotFound);
             }
             let x = table::slot_at(t, s);
-            let sum = total(x.peer.credits, ind.credits);
-            if CREDITS_MOST < sum {
-                return table_endings::leave(
-                    t,
-                    room,
-                    s,
-                    x,
-                    ChannelState::Disconnecting(false),
-                    Answer::Refused(Refusal::InvalidValue),
-                );
-            }
-            let y = table_slot::with_peer_credits(x, sum as u16);
-            table_endings::alter(t, s, y, Answer::Done)
+            let w = slot_credits::credit_at(room, t.d, t.m, s, x, ind.credits);
+            let a = w.answer;
+            let y = w.slot;
+            table::changed(t, s, y, a, w.octets)
         }
     }
 }

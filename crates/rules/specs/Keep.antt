@@ -29,7 +29,7 @@ use Rattle.rules.specs.Sound.{Holding, Sound, AllSound}
 -- ---- two laws of lists: one more element that passes; one fewer at the front
 
 module _ {A : Type 0} (p : A → Bool) where
-  every-set : (l : List A) (n : ℕ) (a : A) → every p (take n l) ≡ true → p a ≡ true → every p (take (suc n) (set l n a)) ≡ true
+  pub every-set : (l : List A) (n : ℕ) (a : A) → every p (take n l) ≡ true → p a ≡ true → every p (take (suc n) (set l n a)) ≡ true
   unfolding every
   every-set [] n a h e = refl
   every-set (x ∷ l) zero a h e = and-both (p a) true e refl

@@ -4,3 +4,5 @@ pub mod FrameIn
 pub mod Moved
 -- The same, put into the table, is what the definition has for a frame.
 pub mod Admitted
+-- A length put among four.
+pub mod Four

@@ -1,7 +1,9 @@
 // The payload of a frame joined in its slot's part of the room, and what the slot becomes by it.
 ghost use mathlib.Core.Path.{_≡_};
 ghost use Prim.Native.Nat.{_+_, _*_, _≤_, _<_};
+ghost use lib.Dec.{eqb};
 ghost use lib.ListN.{length};
+ghost use Rattle.lists.specs.Choose.{choose};
 ghost use Rattle.sar_join.specs.Joining.{jobOctets};
 ghost use Rattle.channel.specs.Limits.{depthMost};
 ghost use Rattle.definition.specs.Mem.{moves};
@@ -50,14 +52,28 @@ pub fn join(x: Slot, d: usize, place: usize, part: &mut [u8], payload: &[u8]) ->
     }
 }
 
-// One more job waits, of so many octets.
+// The length at place k of a queue, where `len` is put at place `at`.
+fn length_at(at: u8, k: u8, len: u16, old: u16) -> u16
+    ensures { λ r. ⌜ r ≡ choose (eqb at k) len old ⌝ }
+{
+    if at == k { len } else { old }
+}
+
+// One more job waits, of so many octets. Each length is chosen, and none is stored by an index: the four then stay where the machine computes, and are not read back from memory as they were put there.
 fn queued(q: Queue, len: u16) -> Queue
     requires { ⌜ q .count < depthMost ⌝ }
     ensures { λ r. ⌜ r ≡ queued len q ⌝ }
 {
-    let mut p = q;
-    let at = q.count as usize;
-    p.lens[at] = len;
-    p.count = q.count + 1;
-    p
+    let at = q.count;
+    let old = q.lens;
+    let lens = [
+        length_at(at, 0, len, old[0]),
+        length_at(at, 1, len, old[1]),
+        length_at(at, 2, len, old[2]),
+        length_at(at, 3, len, old[3]),
+    ];
+    Queue {
+        count: at + 1,
+        lens,
+    }
 }

@@ -2,7 +2,8 @@
 use mathlib.Core.Path.{_≡_, refl, sym, ap, _∙_}
 use mathlib.Core.Bool.{Bool, true, false, not}
 use mathlib.Core.List.{List, []}
-use Prim.Native.Nat.{ℕ}
+use Prim.Native.Nat.{ℕ, _≤_}
+use native.Mathlib.Omega.{arith}
 use lib.ListN.{length}
 use Rattle.lists.specs.Choose.{choose}
 use Rattle.sar_cut.specs.declared.Plan.{Plan}
@@ -59,3 +60,19 @@ credits-alone x sdu out = go (not (isConnected (x .state))) refl
     go : (b : Bool) → not (isConnected (x .state)) ≡ b → sentFrom x sdu out .gave .slot ≡ withPeerCredits (sentFrom x sdu out .gave .slot .peer .credits) x
     go true e = rw e
     go false e = rw e (planned-credits x sdu out (planSend (length sdu) (x .peer .mtu) (x .peer .mps) (x .peer .credits) (length out)))
+
+-- its frames are no more octets than the output has
+planned-within : (x : Slot) (sdu out : List ℕ) (p : Plan) → planSend (length sdu) (x .peer .mtu) (x .peer .mps) (x .peer .credits) (length out) ≡ p → plannedFrom x sdu out p .gave .octets ≤ length out
+unfolding plannedFrom
+planned-within x sdu out (Plan.Refused r) e = omega arith
+planned-within x sdu out (Plan.Frames n octets) e =
+    let a = plan-allowed (length sdu) (x .peer .mtu) (x .peer .mps) (x .peer .credits) (length out) n octets e in
+    rw (a .long) (a .holds)
+
+pub sent-within : (x : Slot) (sdu out : List ℕ) → sentFrom x sdu out .gave .octets ≤ length out
+unfolding sentFrom choose
+sent-within x sdu out = go (not (isConnected (x .state))) refl
+  where
+    go : (b : Bool) → not (isConnected (x .state)) ≡ b → sentFrom x sdu out .gave .octets ≤ length out
+    go true e = rw e (omega arith)
+    go false e = rw e (planned-within x sdu out _ refl)

@@ -1,4 +1,4 @@
-// A send's work on one slot by value: the job's frames cut into the output, and the peer's credits fall by their number. `call_send` does it on a table, `edge_frames` on a table's octets.
+// A send's work on one slot by value: the job's frames cut into the output, and the peer's credits fall by their number. `call_send` does it on a table, `edge_send` on a table's octets.
 // It is defined in specs/Sending.antt; that it is what the definition's call does to that slot stands in specs/Into.antt.
 use channel::Answer;
 use channel::Slot;

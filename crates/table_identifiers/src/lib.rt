@@ -1,6 +1,8 @@
 // The identifiers of signals and of channels. Each contract is the equation with the function of that name in the crate `definition`.
 ghost use mathlib.Core.Path.{_≡_};
 ghost use Prim.Native.Nat.{_<_};
+ghost use lib.Dec.{eqb};
+ghost use Rattle.lists.specs.Choose.{choose};
 ghost use Rattle.definition.specs.Table.{index, isCid, nextId, idAfter, spent, cidAt, indexAt};
 use channel::CID_BASE;
 use channel::ChannelIndex;
@@ -13,10 +15,17 @@ use channel::Table;
 pub fn next_id(t: Table) -> u8
     ensures { λ r. ⌜ r ≡ nextId t ⌝ }
 {
-    if t.identifier == 0 { 1 } else { t.identifier }
+    given_id(t.identifier)
 }
 
-fn id_after(id: u8) -> u8
+// What a table that says this identifier gives out next: a 0 never.
+pub fn given_id(identifier: u8) -> u8
+    ensures { λ r. ⌜ r ≡ choose (eqb identifier 0) 1 identifier ⌝ }
+{
+    if identifier == 0 { 1 } else { identifier }
+}
+
+pub fn id_after(id: u8) -> u8
     ensures { λ r. ⌜ r ≡ idAfter id ⌝ }
 {
     if id == IDENTIFIER_MOST { 1 } else { id + 1 }

@@ -5,11 +5,11 @@
 
 include!("../../../bindings/rust/src/rows.rs");
 
-/// Declares entries, each with its safe function. A call: behind table and answer the slices that it is lent; its numbers; the slices that it reads. A question is
+/// Declares entries, each with its safe function. A call: behind table and answer the slices that it is lent; its numbers; the slices that it reads; the answers of a run. A question is
 /// told that it may only read the table, but given memory that could be written, so that a write would show.
 macro_rules! entries {
     (
-        $(fn $call:ident = $entry:ident($($lent:ident),*; $($number:ident: $of:ty),*; $($read:ident),*);)*
+        $(fn $call:ident = $entry:ident($($lent:ident),*; $($number:ident: $of:ty),*; $($read:ident),* $(; $answers:ident)?);)*
         $(ask $question:ident = $asked:ident($($about:ident: $kind:ty),*);)*
     ) => {
         extern "C" {
@@ -21,6 +21,7 @@ macro_rules! entries {
                 $($lent: *mut u8, _: usize,)*
                 $($number: $of,)*
                 $($read: *const u8, _: usize,)*
+                $($answers: *mut u8, _: usize,)?
             ) -> u32;)*
             $(fn $asked(table: *const u8, _: usize, answer: *mut u8, _: usize, $($about: $kind,)*) -> u32;)*
         }
@@ -32,6 +33,7 @@ macro_rules! entries {
             $($lent: &mut [u8],)*
             $($number: $of,)*
             $($read: &[u8],)*
+            $($answers: &mut [u8],)?
         ) -> u32 {
             // SAFETY: valid slices with their own lengths, the lent ones borrowed for the call; the entry asks nothing more.
             unsafe {
@@ -43,6 +45,7 @@ macro_rules! entries {
                     $($lent.as_mut_ptr(), $lent.len(),)*
                     $($number,)*
                     $($read.as_ptr(), $read.len(),)*
+                    $($answers.as_mut_ptr(), $answers.len(),)?
                 )
             }
         })*

@@ -84,8 +84,19 @@ impl Memory {
             Call::DisconnectByCid { cid } => archive::disconnect_by_cid(table, answer, room, *cid),
             Call::LinkDown { link } => archive::disconnected(table, answer, room, *link),
             Call::NextDisconnect => archive::next_disconnect(table, answer, room, signal),
-            Call::Frame { link, cid, payload } => archive::dispatch(table, answer, room, *link, *cid, payload),
-            Call::Send { sdu, .. } => archive::send(table, answer, out.lend(), slot, sdu),
+            Call::Frame { link, cid, payload } => {
+                let head = [link.to_le_bytes(), cid.to_le_bytes()].concat();
+                match item(&head, payload).map(|frames| archive::dispatch_run(table, &mut [0; ANSWER_OCTETS], room, &frames, answer)) {
+                    Some(0) => answer[1].into(),
+                    _ => archive::dispatch(table, answer, room, *link, *cid, payload),
+                }
+            }
+            Call::Send { sdu, .. } => {
+                match item(&[slot], sdu).map(|jobs| archive::send_run(table, &mut [0; ANSWER_OCTETS], out.lend(), &jobs, answer)) {
+                    Some(0) => answer[1].into(),
+                    _ => archive::send(table, answer, out.lend(), slot, sdu),
+                }
+            }
             Call::Take { .. } => archive::receive(table, answer, room, signal, job.lend(), slot),
             Call::Attention => archive::attention(table, answer),
             Call::Queries { .. } => {
@@ -131,6 +142,12 @@ impl Memory {
         }
         octet("room", &sight.room, self.room.octets())
     }
+}
+
+/// A frame or a job as the one of a run, where its octets are odd in number: so both ways are gone. (What refuses a run of one is its table or its room: the single call says it then.)
+fn item(head: &[u8], body: &[u8]) -> Option<Vec<u8>> {
+    let length = u16::try_from(body.len()).ok().filter(|length| length % 2 == 1)?;
+    Some([head, &length.to_le_bytes(), body].concat())
 }
 
 /// A configuration as it crosses: MTU, MPS, the policy's kind and its number, credits.

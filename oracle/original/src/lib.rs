@@ -9,6 +9,7 @@ mod log;
 include!(concat!(env!("OUT_DIR"), "/original/root.rs"));
 
 mod driver;
+pub mod timed;
 
 pub(crate) use bt_hci::controller::Controller;
 pub(crate) use stand_ins::error::{BleHostError, Error};

@@ -10,7 +10,7 @@ fn wish() -> ConnParamUpdateReq {
 }
 
 /// The calls that read a table.
-pub const CALLS: [&str; 27] = [
+pub const CALLS: [&str; 29] = [
     "register_spsm",
     "signal",
     "send_conn_param_update_req",
@@ -32,6 +32,8 @@ pub const CALLS: [&str; 27] = [
     "dispatch",
     "send",
     "receive",
+    "dispatch_run",
+    "send_run",
     "attention",
     "spsm",
     "mtu",
@@ -39,6 +41,19 @@ pub const CALLS: [&str; 27] = [
     "peer_mtu",
     "peer_mps",
 ];
+
+/// A run of one frame, or of one job, in octets that have a place for it.
+pub fn one_frame(octets: &mut [u8], link: ConnHandle) -> FrameRun<'_> {
+    let mut run = FrameRun::new(octets);
+    run.push(link, Cid(0x40), &[0, 0]).expect("a place");
+    run
+}
+
+pub fn one_job(octets: &mut [u8], index: ChannelIndex) -> JobRun<'_> {
+    let mut run = JobRun::new(octets);
+    run.push(index, &[]).expect("a place");
+    run
+}
 
 /// One of them, with what it refuses by.
 pub fn call(name: &str, channels: &mut ChannelManager<'_>, link: ConnHandle, index: ChannelIndex, signal: &mut [u8]) -> Option<Refusal> {
@@ -66,6 +81,8 @@ pub fn call(name: &str, channels: &mut ChannelManager<'_>, link: ConnHandle, ind
         "dispatch" => channels.dispatch(link, Cid(0x40), &[0, 0]).err(),
         "send" => channels.send(index, &[], &mut out).err(),
         "receive" => channels.receive(index, &mut job, signal).err(),
+        "dispatch_run" => channels.dispatch_run(&mut one_frame(&mut [0; 8], link), &mut [[0; ANSWER_OCTETS]]).err(),
+        "send_run" => channels.send_run(&mut one_job(&mut [0; 3], index), &mut out, &mut [[0; ANSWER_OCTETS]]).err(),
         "attention" => channels.attention().err(),
         "spsm" => channels.spsm(index).err(),
         "mtu" => channels.mtu(index).err(),

@@ -1,16 +1,13 @@
--- `table_identifiers::next_id` meets its contract: code and definition make the same test.
-use Rattle.lists.specs.Choose.{choose}
-use Rattle.lists.proofs.Rules.{tests}
+-- `table_identifiers::next_id` meets its contract: what is given out for the identifier that the table says.
+use borrow.Author.Needs.{needs}
 use Rattle.table_identifiers.proofs.next_id.Statement.{statement}
 use Rattle.table_identifiers.proofs.next_id.Tie as tie
 
-returns : tie.Need-returns
-unfolding choose
-returns c = search tests
+given-id-requires : tie.Need-given-id-requires
+given-id-requires c κs = search needs
 
-returns-2 : tie.Need-returns-2
-unfolding choose
-returns-2 c = search tests
+returns : tie.Need-returns
+returns c = c .given-id .ensures
 
 pub next-id-spec : {M : Type 1} → statement M
-next-id-spec = tie.close (tie.spec returns returns-2)
+next-id-spec = tie.close (tie.spec given-id-requires returns)

@@ -8,11 +8,12 @@ use crate::cursor::WriteCursor;
 use crate::types::l2cap::{ConnParamUpdateReq, ConnParamUpdateRes, L2capHeader, L2capSignal, L2capSignalHeader};
 use crate::{BleHostError, Error, PacketPool};
 use bt_hci::cmd::Cmd;
-use bt_hci::controller::{blocking, Controller, ControllerCmdSync};
+use bt_hci::controller::{blocking, Controller, ControllerCmdSync, Takes};
 use bt_hci::param::ConnHandle;
 use bt_hci::WriteHci;
-use std::cell::RefCell;
+use std::cell::{RefCell, RefMut};
 use std::convert::Infallible;
+use std::hint::black_box;
 use std::marker::PhantomData;
 
 /// The controller that isn't there.
@@ -24,13 +25,29 @@ impl Controller for NoController {
 
 impl blocking::Controller for NoController {}
 
-/// The PDUs that the host was given to send, oldest first, with their links.
+/// What the host was given to send.
 #[derive(Default)]
-pub struct Air(RefCell<Vec<(ConnHandle, Vec<u8>)>>);
+pub struct Air {
+    /// The PDUs, oldest first, with their links.
+    each: RefCell<Vec<(ConnHandle, Vec<u8>)>>,
+    /// Where they are only timed: one behind the other.
+    line: RefCell<Line>,
+}
+
+/// Memory for PDUs one behind the other, and how much of it they have.
+#[derive(Default)]
+pub struct Line {
+    pub octets: Vec<u8>,
+    pub used: usize,
+}
 
 impl Air {
     pub fn take(&self) -> Vec<(ConnHandle, Vec<u8>)> {
-        self.0.take()
+        self.each.take()
+    }
+
+    pub fn line(&self) -> RefMut<'_, Line> {
+        self.line.borrow_mut()
     }
 }
 
@@ -127,7 +144,18 @@ impl<T: Controller> Sender<'_, T> {
     }
 
     pub(crate) fn try_send(&mut self, pdu: &[u8]) -> Result<(), BleHostError<T::Error>> {
-        self.air.0.borrow_mut().push((self.conn, pdu.to_vec()));
+        match T::TAKES {
+            Takes::Each => self.air.each.borrow_mut().push((self.conn, pdu.to_vec())),
+            Takes::InLine => {
+                let mut line = self.air.line();
+                let (from, to) = (line.used, line.used + pdu.len());
+                line.octets[from..to].copy_from_slice(pdu);
+                line.used = to;
+            }
+            Takes::Nothing => {
+                black_box(pdu);
+            }
+        }
         Ok(())
     }
 }

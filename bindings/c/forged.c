@@ -1,0 +1,249 @@
+/* Tables that no call wrote. Every octet of busy tables is changed, and each call that works on the table's octets where they stand is made on what comes of it, beside the same call made by value on the whole table, which the
+ * archive of the crate edge_whole has. Octets that a question refuses by 1 are refused by 1, and nothing changes; of all others number, answer, table, room and buffers are equal. Then faults are planted, and each is found.
+ * gcc -std=c99 -O1 -o forged bindings/c/forged.c target/unproved/libentries.a target/unproved/libedge_whole.a && ./forged */
+#include "l2cap_channels.h"
+#include <stdio.h>
+#include <string.h>
+
+enum { N = 16, D = 4, M = 300, PLACE = M - 6, ROOM = N * (D + 1) * PLACE, SPSM = 0x80, HEAD = 48, BEHIND = 16, PAINT = 0xa5, CALLS = 6, MANY = 8000 };
+
+/* The calls by value, of the same parameters. */
+uint32_t whole_dispatch(uint8_t *, size_t, uint8_t *, size_t, uint8_t *, size_t, uint16_t, uint16_t, const uint8_t *, size_t);
+uint32_t whole_send(uint8_t *, size_t, uint8_t *, size_t, uint8_t *, size_t, uint8_t, const uint8_t *, size_t);
+uint32_t whole_receive(uint8_t *, size_t, uint8_t *, size_t, uint8_t *, size_t, uint8_t *, size_t, uint8_t *, size_t, uint8_t);
+uint32_t whole_signal(uint8_t *, size_t, uint8_t *, size_t, uint8_t *, size_t, uint8_t *, size_t, uint16_t, uint8_t, uint8_t, const uint8_t *, size_t);
+
+/* What a call is lent, and octets behind each, in which a write would show. */
+typedef struct {
+    uint8_t table[L2CAP_TABLE_OCTETS], behind_table[BEHIND], answer[L2CAP_ANSWER_OCTETS], behind_answer[BEHIND], room[ROOM], behind_room[BEHIND], signal[L2CAP_SIGNAL_OCTETS], behind_signal[BEHIND];
+    uint8_t job[PLACE], behind_job[BEHIND], out[256], behind_out[BEHIND], answers[5 * L2CAP_ANSWER_OCTETS], behind_answers[BEHIND];
+    uint32_t number;
+} memory;
+
+#define LENT(m) (m)->table, table_len, (m)->answer, sizeof (m)->answer
+#define IN(octets) octets, sizeof octets
+
+static const char *const names[CALLS] = {"l2cap_dispatch", "l2cap_send", "l2cap_receive", "l2cap_signal", "l2cap_dispatch_run", "l2cap_send_run"};
+static memory bases[2], was, placed, whole;
+static size_t table_len = L2CAP_TABLE_OCTETS, room_len = ROOM;
+static unsigned passed, failed, compared, refused, differing, fault, fault_at, done[CALLS], turned_down[CALLS];
+
+/* ---- the tables */
+
+static size_t cell(unsigned slot, unsigned column) { return HEAD + 16 * column + slot; }
+static uint16_t number(const memory *m, unsigned slot, unsigned column) { return (uint16_t)(m->table[cell(slot, column)] | m->table[cell(slot, column + 1)] << 8); }
+
+/* A request of a peer, from link 1 + slot / 4 and for its CID 0x50 + slot. */
+static void connects(memory *m, uint8_t slot) {
+    uint8_t pdu[] = {0x14, 7, 10, 0, SPSM, 0, 0x50, 0, 100, 0, 23, 0, 3, 0};
+    pdu[6] = (uint8_t)(pdu[6] + slot), pdu[10] = (uint8_t)(pdu[10] + slot), pdu[12] = (uint8_t)(pdu[12] + slot);
+    l2cap_signal(LENT(m), IN(m->room), IN(m->signal), (uint16_t)(1 + slot / 4), 1, 0, IN(pdu));
+}
+
+/* An open channel with slot % 5 waiting jobs, and of odd slots half a job. */
+static void opens(memory *m, uint8_t slot) {
+    uint8_t k, job[] = {4, 0, 1, 2, 3, 4};
+    uint16_t link = (uint16_t)(1 + slot / 4), cid = (uint16_t)(L2CAP_CID_BASE + slot);
+    connects(m, slot);
+    l2cap_next_pending(LENT(m), link, 1);
+    l2cap_accept_pending(LENT(m), IN(m->signal), slot, L2CAP_DEFAULT, L2CAP_DEFAULT, slot % 2 ? L2CAP_MIN_THRESHOLD : L2CAP_EVERY, (uint16_t)(1 + slot % 3), 9);
+    for (k = 0; k < slot % 5; k++) job[2] = (uint8_t)(16 * slot + k), l2cap_dispatch(LENT(m), IN(m->room), link, cid, IN(job));
+    if (slot % 2) l2cap_dispatch(LENT(m), IN(m->room), link, cid, job, 4);
+}
+
+/* A slot in each state, the open ones most often. */
+static void busy(memory *m) {
+    static const uint8_t refuses[] = {0x15, 0, 10, 0, 0, 0, 0, 0, 0, 0, 0, 0, 4, 0};
+    uint8_t slot, pdu[14], closes[] = {0x06, 9, 4, 0, 0, 0, 0, 0};
+    memset(m, PAINT, sizeof *m);
+    l2cap_make(LENT(m), IN(m->room), N, D, M);
+    l2cap_register_spsm(LENT(m), SPSM);
+    for (slot = 0; slot < N; slot++) switch (slot) {
+            case 5: connects(m, slot); break;
+            case 8:
+            case 10:
+                l2cap_create(LENT(m), IN(m->signal), 3, SPSM, L2CAP_DEFAULT, L2CAP_DEFAULT, L2CAP_EVERY, 1, L2CAP_DEFAULT);
+                memcpy(pdu, refuses, sizeof pdu), pdu[1] = m->signal[5];
+                if (slot == 10) l2cap_signal(LENT(m), IN(m->room), IN(m->signal), 3, 0, 0, IN(pdu));
+                break;
+            case 12:
+                opens(m, slot);
+                closes[4] = (uint8_t)(L2CAP_CID_BASE + slot), closes[6] = (uint8_t)(0x50 + slot);
+                l2cap_signal(LENT(m), IN(m->room), IN(m->signal), 4, 0, 0, IN(closes));
+                break;
+            default: opens(m, slot);
+        }
+    l2cap_disconnect(LENT(m), IN(m->room), 14);
+    l2cap_next_disconnect(LENT(m), IN(m->room), IN(m->signal));
+    l2cap_disconnect(LENT(m), IN(m->room), 2);
+}
+
+/* The same with every number of an open channel at its edge: one more is refused. No octet of the room is zero. */
+static void full(memory *m) {
+    static const uint16_t edge[][2] = {{8, PLACE}, {13, 0xFEFF}, {15, 0x0100}, {26, PLACE - 1}, {28, PLACE}, {31, PLACE}, {33, PLACE}, {35, PLACE}};
+    unsigned slot, k;
+    for (slot = 0; slot < N; slot++)
+        if (m->table[cell(slot, 0)] == 3) {
+            m->table[cell(slot, 30)] = D - 1;
+            for (k = 0; k < sizeof edge / sizeof *edge; k++) m->table[cell(slot, edge[k][0])] = (uint8_t)edge[k][1], m->table[cell(slot, edge[k][0] + 1u)] = (uint8_t)(edge[k][1] >> 8);
+        }
+    for (k = 0; k < ROOM; k++) m->room[k] = (uint8_t)(1 + k % 251);
+}
+
+/* ---- one call, both ways */
+
+static const uint8_t rest[] = {5}, job[] = {3, 0, 1, 2, 3}, sdu[] = {1, 2, 3, 4, 5, 6, 7, 8, 9, 10, 11, 12, 13, 14, 15, 16, 17, 18, 19, 20, 21, 22, 23, 24, 25, 26, 27, 28, 29, 30, 31, 32, 33, 34, 35, 36, 37, 38, 39, 40, 41, 42, 43, 44, 45};
+
+/* The frames of a run, and the jobs: for a slot, for the next, for none, and for the slot again. */
+static const struct {
+    uint8_t slot, length;
+    const uint8_t *octets;
+} items[2][5] = {{{0, sizeof rest, rest}, {1, sizeof job, job}, {N, sizeof job, job}, {0, 0, job}, {0, sizeof job, job}}, {{0, 3, sdu}, {0, sizeof sdu, sdu}, {1, 20, sdu}, {N, 3, sdu}, {0, 0, sdu}}};
+
+/* A run's own answer. */
+static void told(memory *m, uint32_t refusal, size_t count, size_t used, size_t written) {
+    uint8_t octets[L2CAP_ANSWER_OCTETS] = {L2CAP_ANSWER_RUN, 0, 0, 0, 0, 0, 0, 0, 0, 0, 0, 0, 0, 0, 0, 0};
+    octets[1] = (uint8_t)refusal, octets[2] = (uint8_t)written, octets[3] = (uint8_t)(written >> 8), octets[6] = (uint8_t)count, octets[10] = (uint8_t)used;
+    memcpy(m->answer, octets, sizeof octets);
+    m->number = refusal;
+}
+
+/* A run of frames, or of jobs. By value it is its calls one after the other. */
+static void run_call(memory *m, int by_value, int of_jobs, uint8_t slot, uint16_t link) {
+    uint8_t run[256];
+    size_t i, used = 0, written = 0;
+    for (i = 0; i < 5; i++) {
+        const uint8_t *octets = items[of_jobs][i].octets;
+        uint8_t n = items[of_jobs][i].length, to = (uint8_t)(items[of_jobs][i].slot == N ? 200 : (slot + items[of_jobs][i].slot) % N), *answer = m->answers + L2CAP_ANSWER_OCTETS * i;
+        uint16_t cid = (uint16_t)(L2CAP_CID_BASE + to);
+        used += of_jobs ? l2cap_run_job(run + used, sizeof run - used, to, octets, n) : l2cap_run_frame(run + used, sizeof run - used, link, cid, octets, n);
+        if (!by_value) continue;
+        if (of_jobs) {
+            m->number = whole_send(m->table, table_len, answer, L2CAP_ANSWER_OCTETS, m->out + written, sizeof m->out - written, to, octets, n);
+            written += l2cap_answer_written(answer);
+        } else {
+            m->number = whole_dispatch(m->table, table_len, answer, L2CAP_ANSWER_OCTETS, m->room, room_len, link, cid, octets, n);
+        }
+        if (m->number == L2CAP_BAD_TABLE || m->number == L2CAP_BAD_ROOM) { /* so of every frame or job, and of the run */
+            memcpy(m->answers, was.answers, sizeof m->answers);
+            told(m, m->number, 0, 0, 0);
+            return;
+        }
+    }
+    if (by_value) told(m, 0, i, used, written);
+    else m->number = of_jobs ? l2cap_send_run(LENT(m), IN(m->out), run, used, IN(m->answers)) : l2cap_dispatch_run(LENT(m), m->room, room_len, run, used, IN(m->answers));
+}
+
+/* Call k for a slot, of this form: where it stands, or by value. */
+static void call(memory *m, int by_value, unsigned k, uint8_t slot, unsigned form) {
+    uint8_t credits[] = {0x16, 9, 4, 0, was.table[cell(slot, 18)], was.table[cell(slot, 19)], (uint8_t)(form ? 0xFF : 1), (uint8_t)(form ? 0xFF : 0)};
+    uint16_t link = slot < N ? number(&was, slot, 2) : 1, cid = (uint16_t)(L2CAP_CID_BASE + slot);
+    switch (k) {
+        case 0: m->number = (by_value ? whole_dispatch : l2cap_dispatch)(LENT(m), m->room, room_len, link, cid, form ? job : rest, form ? sizeof job : sizeof rest); break;
+        case 1: m->number = (by_value ? whole_send : l2cap_send)(LENT(m), IN(m->out), slot, sdu, form ? sizeof sdu : 3); break;
+        case 2: m->number = (by_value ? whole_receive : l2cap_receive)(LENT(m), m->room, room_len, IN(m->signal), m->job, form ? sizeof m->job : 2, slot); break;
+        case 3: m->number = (by_value ? whole_signal : l2cap_signal)(LENT(m), m->room, room_len, IN(m->signal), link, 1, 0, IN(credits)); break;
+        default: run_call(m, by_value, k == 5, slot, link);
+    }
+}
+
+/* A fault, planted behind one call of the archive: each is of another kind of memory. */
+static void plant(memory *m) {
+    uint8_t *const at[] = {m->table + 7, m->table + cell(15, 24), m->answer + 15, m->room + ROOM - 1, m->signal, m->job + PLACE - 1, m->out + 255, m->answers + 79, m->behind_table, m->behind_answer, m->behind_room, m->behind_signal, m->behind_job, m->behind_out, m->behind_answers, (uint8_t *)&m->number};
+    if (fault && fault <= sizeof at / sizeof *at && compared == fault_at) *at[fault - 1] ^= 1;
+}
+
+/* Every call on the octets as they are in `was`, for a slot. What a question says of them is who refuses them. */
+static void calls(uint8_t slot, const char *what, size_t place) {
+    uint8_t answer[L2CAP_ANSWER_OCTETS];
+    unsigned k, form, bad = l2cap_attention(was.table, table_len, IN(answer)) == L2CAP_BAD_TABLE;
+    refused += bad;
+    for (k = 0; k < CALLS; k++)
+        for (form = 0; form < (k < 4 ? 2u : 1u); form++) {
+            int same;
+            placed = whole = was;
+            call(&placed, 0, k, slot, form);
+            plant(&placed);
+            call(&whole, 1, k, slot, form);
+            same = !memcmp(&placed, &whole, sizeof placed) && (placed.number == L2CAP_BAD_TABLE) == bad;
+            if (bad) { /* nothing but the answer was written */
+                memcpy(placed.answer, was.answer, sizeof was.answer), placed.number = was.number;
+                same = same && !memcmp(&placed, &was, sizeof placed);
+            } else {
+                placed.number ? turned_down[k]++ : done[k]++;
+            }
+            compared++;
+            if (!same && differing++ < 3 && !fault) printf("%s of slot %u, form %u: %s %u\n", names[k], slot, form, what, (unsigned)place);
+        }
+}
+
+/* ---- the octets changed */
+
+static uint32_t drawn = 17;
+static uint32_t draw(uint32_t below) { return drawn = drawn * 1664525 + 1013904223, (drawn >> 8) % below; }
+
+/* Each bit of an octet, one more, one less, none and all, and others by chance. The calls are of the row's slot; of line 0 of every slot, and of the one past the last. */
+static void every_octet(const memory *base) {
+    size_t place;
+    unsigned c;
+    for (place = 0; place < L2CAP_TABLE_OCTETS; place++) {
+        int x = base->table[place], some = (int)draw(256), to[] = {x ^ 1, x ^ 2, x ^ 4, x ^ 8, x ^ 16, x ^ 32, x ^ 64, x ^ 128, x + 1, x - 1, 0, 255, some, x ^ some, x + some};
+        for (c = 0; c < sizeof to / sizeof *to; c++) {
+            uint8_t slot = (uint8_t)(place < HEAD ? 0 : place % 16), last = place < HEAD ? N : slot;
+            was = *base, was.table[place] = (uint8_t)to[c];
+            for (; slot <= last; slot++) calls(slot, "a changed octet", place);
+        }
+    }
+}
+
+/* Two to four octets of one row at once, of columns that lie side by side. */
+static void several_octets(const memory *base) {
+    unsigned turn, k, slot, column;
+    for (turn = 0; turn < MANY; turn++) {
+        was = *base, slot = draw(16), column = draw(39);
+        for (k = 0; k < 2 + turn % 3; k++) was.table[cell(slot, (column + k) % 39)] = (uint8_t)(draw(2) ? draw(8) : draw(256));
+        calls((uint8_t)slot, "several octets, turn", turn);
+    }
+}
+
+/* Tables and rooms of other lengths. */
+static void other_lengths(const memory *base) {
+    was = *base;
+    for (table_len = 0; table_len <= L2CAP_TABLE_OCTETS + BEHIND; table_len++) calls((uint8_t)(table_len % 16), "a table's length", table_len);
+    table_len = L2CAP_TABLE_OCTETS;
+    for (room_len = ROOM - PLACE; room_len <= ROOM + BEHIND; room_len++) calls((uint8_t)(room_len % 16), "a room's length", room_len);
+    room_len = ROOM;
+}
+
+static void check(int holds, const char *what) {
+    holds ? passed++ : failed++;
+    if (!holds) printf("failed: %s\n", what);
+}
+
+int main(void) {
+    unsigned k;
+    busy(&bases[0]);
+    bases[1] = bases[0];
+    full(&bases[1]);
+    for (k = 0; k < 2; k++) {
+        differing = refused = 0, was = bases[k];
+        calls(1, "no octet", 0);
+        check(!differing && !refused, k ? "a full table" : "a busy table");
+        every_octet(&bases[k]);
+        check(!differing && refused > 1000, k ? "every octet of a full table" : "every octet of a busy table");
+        differing = refused = 0;
+        several_octets(&bases[k]);
+        other_lengths(&bases[k]);
+        check(!differing && refused > 1000, k ? "several octets of a full table, and other lengths" : "several octets of a busy table, and other lengths");
+    }
+    for (k = 0; k < CALLS; k++) check(done[k] > 1000 && (k > 3 || turned_down[k] > 1000), names[k]);
+    printf("%u calls compared\n", compared);
+    for (fault = 1; fault <= 16; fault++) {
+        differing = compared = 0, fault_at = 40 + fault;
+        was = bases[0];
+        for (k = 0; k < 8; k++) calls((uint8_t)k, "a fault", fault);
+        check(differing == 1, "a planted fault is found");
+    }
+    printf("%u passed, %u failed\n", passed, failed);
+    return failed != 0;
+}

@@ -1,2 +1,0 @@
--- What a take behind the gate comes to.
-pub mod Taken

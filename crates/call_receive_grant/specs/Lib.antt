@@ -1,2 +1,0 @@
--- What a take that grants credits comes to.
-pub mod Granted

@@ -1,0 +1,2 @@
+-- Which PDUs begin with a good credit signal.
+pub mod CreditsIn

@@ -18,7 +18,7 @@
  *         Numbers have the lower octet first.
  * room    the memory in which jobs arrive and wait: L2CAP_ROOM_OCTETS(n, d, m) octets, zeroed by l2cap_make. Another length is refusal 2. Octets of no live job are zero.
  * signal  what goes out on the signalling channel is written here, with its L2CAP header: at least L2CAP_SIGNAL_OCTETS octets, else refusal 3.
- * answers of a run alone: L2CAP_ANSWER_OCTETS octets for each of its frames or jobs, whose answers are written one behind the other.
+ * answers  of runs: L2CAP_ANSWER_OCTETS octets for each frame or job, whose answers are written one behind the other.
  *
  * Overlap. No two memories of one call may overlap. That holds of those that are only read too (pdu, payload, sdu, frames, jobs, a const table): l2cap_send with sdu == out scrambles the job.
  * Null. A memory of length 0 may be a null pointer: it is not looked at. (A room or signal of length 0 is refused by its length, as above.)
@@ -175,14 +175,14 @@ static inline uint16_t l2cap_answer_interval_max(const uint8_t *answer) { return
 static inline uint16_t l2cap_answer_latency(const uint8_t *answer) { return l2cap_answer_number(answer, 2); }
 static inline uint16_t l2cap_answer_timeout(const uint8_t *answer) { return l2cap_answer_number(answer, 3); }
 
-/* How many calls of a run were made, and how many of its octets they took: the run goes on from there. Above 4,294,967,295 both are told as that. */
+/* How many calls of a run were made, and how many of its octets they took: the run goes on from there. A number above 4,294,967,295 is told as that. */
 static inline uint32_t l2cap_answer_run_count(const uint8_t *answer) { return l2cap_answer_number(answer, 0) | (uint32_t)l2cap_answer_number(answer, 1) << 16; }
 static inline uint32_t l2cap_answer_run_used(const uint8_t *answer) { return l2cap_answer_number(answer, 2) | (uint32_t)l2cap_answer_number(answer, 3) << 16; }
 
 /* The answer of call k of a run. */
 static inline const uint8_t *l2cap_run_answer(const uint8_t *answers, size_t k) { return answers + L2CAP_ANSWER_OCTETS * k; }
 
-/* ---- a run written: at += l2cap_run_frame(run + at, sizeof run - at, ...) */
+/* ---- a run written: took = l2cap_run_frame(run + at, sizeof run - at, ...), at += took. Where took is 0, hand the run over, and begin the next with that frame: one that is left out is lost. */
 
 /* A number of two octets, and the octets that it counts. */
 static inline void l2cap_run_part(uint8_t *run, const uint8_t *octets, uint16_t octets_len) {
@@ -394,11 +394,12 @@ uint32_t l2cap_send(uint8_t *table, size_t table_len, uint8_t *answer, size_t an
  * Answer: Job; Done where no job waits, and nothing is written. */
 uint32_t l2cap_receive(uint8_t *table, size_t table_len, uint8_t *answer, size_t answer_len, uint8_t *room, size_t room_len, uint8_t *signal, size_t signal_len, uint8_t *job, size_t job_len, uint8_t slot);
 
-/* ---- runs: many frames or jobs at once, each as if by a call of its own. Table and room are tested once for all of them. */
+/* ---- runs: many frames or jobs at once, each as if by a call of its own. The table is tested once for all of them. */
 
 /* Takes in frames that came, of any links, one behind the other in `frames`: link, CID and the payload's length, two octets each with the lower first, then the payload. Each is l2cap_dispatch, on what the ones before it left,
  * and its answer is written to the next L2CAP_ANSWER_OCTETS octets of `answers`. A frame that is refused doesn't end the run: the next is taken in. No job is taken between two frames of a run: let it bring each slot at
- * most as many jobs as can still wait there, or the rest is dropped (21).
+ * most as many jobs as can still wait there, or the rest is dropped (21). A run has the frames up to the next packet of signals (CID 5): what came behind that packet came behind what it says.
+ * To go on after 3: call again with frames + l2cap_answer_run_used(answer), as long as l2cap_answer_run_count(answer) isn't 0. After 15 add what is missing of the frame first. 1 and 2 don't go away by calling again.
  * Refusals: 1 2 15 3. 1 and 2: nothing was done. 15 where what is left is no whole frame, 3 where it is one and answers has fewer than L2CAP_ANSWER_OCTETS octets left: that frame and what follows it were not taken in, and what was
  * done before stands. The answer says how far the run came, so that the next goes on from there. What a frame was refused by stands in its own answer alone.
  * Writes: table; room; answers.
@@ -408,6 +409,7 @@ uint32_t l2cap_dispatch_run(uint8_t *table, size_t table_len, uint8_t *answer, s
 /* Cuts jobs into frames, one behind the other in `jobs`: slot, one octet; the job's length, two octets with the lower first; the job. Each is l2cap_send, on what the ones before it left: its frames stand in `out` behind those of
  * the jobs before it, l2cap_answer_written of its own answer is how many octets they have, and its link is there too. A job that is refused doesn't end the run, and writes nothing: the next is tried. So of two jobs for one slot the first
  * can be refused, by 14 or 3, and the second, which is shorter, goes out. Where the jobs of a slot must keep their order, a run has one of them.
+ * The run's octets are where a refused job still stands: keep them until each answer was looked at.
  * Refusals: 1 15 3. As l2cap_dispatch_run has them.
  * Writes: table; out; answers. l2cap_answer_written is how many octets of frames the whole run wrote.
  * Answer: Run, whatever is returned. An empty run is 0, with counts of 0. */

@@ -346,7 +346,7 @@ impl<'r> ChannelManager<'r> {
     }
 
     /// Takes in the frames of a run, one after the other, as so many calls of [`dispatch`](Self::dispatch) would: what each came to is given in their order. The
-    /// table and the room are tested once for all of them. A frame that is refused doesn't end the run: the next is taken in.
+    /// table is tested once for all of them. A frame that is refused doesn't end the run: the next is taken in.
     ///
     /// Frames that were taken in, refused or not, leave the run. Where `answers` has fewer places than the run has frames, the others stay in it: call again until
     /// the run is empty. Nothing is taken between two frames of a run, so that a slot has no more places for jobs than before it: a run brings at most as many jobs
@@ -394,7 +394,7 @@ impl<'r> ChannelManager<'r> {
     /// shorter, goes out. Where jobs of a channel must keep their order, a run has one of them.
     ///
     /// Jobs that were tried, sent or not, leave the run. Where `answers` has fewer places than the run has jobs, the others stay in it: call again until the run
-    /// is empty, once the frames are out of `out`.
+    /// is empty, once the frames are out of `out`; the next call's first is the first that stayed. A job that was refused can't be read from the run any more: keep it until it is sent.
     ///
     /// Refusals, with which no job was tried and all are still in the run: 1; 3 where `answers` has no place. Of each job those of [`send`](Self::send).
     ///

@@ -106,7 +106,8 @@ impl<'a> FrameRun<'a> {
     /// The octets of a frame beside its payload: link, CID and length.
     pub const HEAD: usize = 6;
 
-    /// A run of no frames, with a place for as many as these octets hold.
+    /// A run of no frames, with a place for as many as these octets hold. Where some of the frames were taken in and others not, the places of the first are
+    /// free again once the run is empty.
     pub fn new(octets: &'a mut [u8]) -> Self {
         Self(Run::new(octets))
     }
@@ -159,7 +160,8 @@ impl<'a> JobRun<'a> {
     /// The octets of a job beside its own: slot and length.
     pub const HEAD: usize = 3;
 
-    /// A run of no jobs, with a place for as many as these octets hold.
+    /// A run of no jobs, with a place for as many as these octets hold. Where some of the jobs were tried and others not, the places of the first are free
+    /// again once the run is empty.
     pub fn new(octets: &'a mut [u8]) -> Self {
         Self(Run::new(octets))
     }

@@ -1,104 +1,36 @@
--- A run of jobs that is handed over at once (l2cap_send_run) is a run of entries: it leaves what the sends leave that are made one by one, each lent what the ones before it left of the
--- output; they are named here. (Of a run of frames FrameRun.antt says it.) So what is promised of every run of entries is promised of one in which such runs stand.
+-- A run of jobs (l2cap_send_run) is the entries l2cap_send that its jobs are, one after the other, each lent what the ones before it left of the output: so it leaves table, room and memory, and its
+-- answers are the octets that these entries answer. What holds of every run of entries holds of one with runs of jobs in it.
 use mathlib.Core.Path.{_≡_, refl, sym, ap, _∙_}
-use mathlib.Core.Bool.{Bool, true, false}
-use mathlib.Core.List.{List, [], _∷_, _++_}
+use mathlib.Core.List.{List, [], _++_, map}
 use mathlib.Core.Logic.{inr}
-use Prim.Native.Nat.{ℕ, zero, suc, _+_, _-_, _*_, _≤_, _<_}
+use Prim.Native.Nat.{ℕ, _+_, _-_, _≤_, _<_}
 use native.Mathlib.Omega.{arith}
-use lib.Dec.{leb, ltb}
 use lib.ListN.{length, getD, take, drop, length-drop}
 use lib.Seq.{sets, length-sets, getD-drop, ext-getD}
-use Rattle.lists.specs.Choose.{choose, if-cases}
+use Rattle.lists.specs.Choose.{choose}
 use Rattle.octets.specs.Octets.{u16At, part}
-use Rattle.octets.specs.Sets.{sets-out, sets-inside, sets-over, sets-whole, cut-at, store, part-length, part-at, part-same}
+use Rattle.octets.specs.Sets.{sets-inside, sets-over, sets-whole, cut-at, store, part-length, part-at, part-same}
 use Rattle.channel.specs.declared.Given.the-variants.{Nothing}
 use Rattle.channel.specs.declared.Verdict.{Verdict}
-use Rattle.channel.specs.declared.Verdict.the-variants.{Pass, Stop}
-use Rattle.definition.specs.Table.{if_then_else_}
-use Rattle.definition.specs.Mem.{Fill, fills, written}
+use Rattle.definition.specs.Mem.{fills, written}
 use Rattle.definition.specs.Outcome.{verdict}
 use Rattle.definition.specs.Frames as Frames
 use Rattle.definition.specs.Calls.{Window}
 use Rattle.definition.specs.Ending.{itself, endOf}
-use Rattle.definition.specs.Run.{lent, outWindow, jobWindow}
-use Rattle.edge_layout.specs.Layout.{read}
+use Rattle.definition.specs.Run.{State, lent, run}
+use Rattle.edge_layout.specs.Layout.{spell, read}
+use Rattle.edge_layout.specs.Back.{Sized}
 use Rattle.edge.specs.Edge.{onTable, lifted}
 use Rattle.edge_placed.specs.Frames.{sendEdge}
 use Rattle.edge_placed.specs.Sent.{octets-within}
-use Rattle.edge_run.specs.Run.{Lent, answerSize, ran, begun}
-use Rattle.edge_send_run.specs.Jobs.{jobSize, jobCall, sendRunEdge}
+use Rattle.edge_run.specs.Run.{Lent, begun}
+use Rattle.edge_send_run.specs.Jobs.{jobSize, jobCall, lentBy, jobsRun, sendRunEdge}
 use Rattle.edge_runs.specs.Entries.{send, leaves}
-use Rattle.edge_runs.specs.Run.{EdgeState, Asked, callIn, entered, Apart, BuffersApart, entries}
+use Rattle.edge_runs.specs.Run.{EdgeState, Asked, callIn, edgeOf, BuffersApart, entered, entries, told}
+use Rattle.edge_runs.specs.Lift.{spelled, entries-spelled}
+use Rattle.edge_runs.specs.Made.{answersIn, madeBy, none-written, answer-long, made, made-apart, by-apart, Makes, run-makes}
 
--- ---- the entries that a run makes, for any kind of call
-
-module _ (items : List ℕ) (size : (from : ℕ) → ℕ) (call : (from at : ℕ) → (answer : List ℕ) → Lent → Lent) (asked : (from : ℕ) → (answer : List ℕ) → Lent → Asked) where
-  unfoldable pub made : (turns count used : ℕ) → Lent → List Asked
-  made zero count used l = []
-  made (suc turns) count used l =
-      if leb (length items) used then []
-      else if ltb (length items) (used + size used) then []
-      else if ltb (length (l .answers)) (answerSize * suc count) then []
-      else
-      let answer = part (l .answers) (answerSize * count) answerSize in
-      asked used answer l ∷ made turns (suc count) (used + size used) (call used (answerSize * count) answer l)
-
-  -- where every call of it is an entry, while something holds that every call keeps
-  module _ (stands : Lent → EdgeState) (Holds : Lent → Type 0) (keeps : (from at : ℕ) (answer : List ℕ) (l : Lent) → Holds l → Holds (call from at answer l))
-      (step : (from at : ℕ) (answer : List ℕ) (l : Lent) → Holds l → stands (call from at answer l) ≡ entered (stands l) (asked from answer l)) where
-    module _ (turns count used : ℕ) (l : Lent) (holds : Holds l) where
-      abbrev answer : List ℕ
-      answer = part (l .answers) (answerSize * count) answerSize
-
-      abbrev later : Lent
-      later = call used (answerSize * count) answer l
-
-      abbrev Same : Type 0
-      Same = stands (ran items size call (suc turns) count used l .lent) ≡ entries (stands l) (made (suc turns) count used l)
-
-      abbrev Rest : Type 0
-      Rest = stands (ran items size call turns (suc count) (used + size used) later .lent) ≡ entries (stands later) (made turns (suc count) (used + size used) later)
-
-      full : leb (length items) used ≡ false → ltb (length items) (used + size used) ≡ false → (b : Bool) → ltb (length (l .answers)) (answerSize * suc count) ≡ b → Rest → Same
-      unfolding ran made entries choose
-      full e f true g rest = rw (e, f, g)
-      full e f false g rest = rw (e, f, g) (rest ∙ ap (λ (s : EdgeState). entries s (made turns (suc count) (used + size used) later)) (step used (answerSize * count) answer l holds))
-
-      cut : leb (length items) used ≡ false → (b : Bool) → ltb (length items) (used + size used) ≡ b → Rest → Same
-      unfolding ran made entries choose
-      cut e true f rest = rw (e, f)
-      cut e false f rest = full e f (ltb (length (l .answers)) (answerSize * suc count)) refl rest
-
-      over : (b : Bool) → leb (length items) used ≡ b → Rest → Same
-      unfolding ran made entries choose
-      over true e rest = rw e
-      over false e rest = cut e (ltb (length items) (used + size used)) refl rest
-
-    pub ran-made : (turns count used : ℕ) (l : Lent) → Holds l → stands (ran items size call turns count used l .lent) ≡ entries (stands l) (made turns count used l)
-    unfolding ran made entries
-    ran-made zero count used l holds = refl
-    ran-made (suc turns) count used l holds =
-        let answer = part (l .answers) (answerSize * count) answerSize in
-        over turns count used l holds (leb (length items) used) refl
-        (ran-made turns (suc count) (used + size used) (call used (answerSize * count) answer l) (keeps used (answerSize * count) answer l holds))
-
-  module _ (apart : (from : ℕ) (answer : List ℕ) (l : Lent) → Apart (outWindow (callIn (asked from answer l))) (jobWindow (callIn (asked from answer l)))) where
-    pub made-apart : (turns count used : ℕ) (l : Lent) → BuffersApart (made turns count used l)
-    unfolding made
-    made-apart zero count used l = tt
-    made-apart (suc turns) count used l =
-        let answer = part (l .answers) (answerSize * count) answerSize in
-        if-cases BuffersApart (leb (length items) used) (λ _. tt)
-        (λ _. if-cases BuffersApart (ltb (length items) (used + size used)) (λ _. tt)
-        (λ _. if-cases BuffersApart (ltb (length (l .answers)) (answerSize * suc count)) (λ _. tt)
-        (λ _. (apart used answer l, made-apart turns (suc count) (used + size used) (call used (answerSize * count) answer l)))))
-
--- ---- a run of jobs
-
-none-written : (js room : List ℕ) (fs : List Fill) → written itself js room fs [] ≡ []
-unfolding written
-none-written js room fs = sets-out {A = ℕ} [] 0 (fills itself js room fs) (omega arith)
+-- ---- a part of a list, written and lent
 
 -- what is written into a part that was written
 nested : (m : List ℕ) (f : ℕ) (xs : List ℕ) (k : ℕ) (ys : List ℕ) → f + length xs ≤ length m → k + length ys ≤ length xs → sets (sets m f xs) (f + k) ys ≡ sets m f (sets xs k ys)
@@ -142,17 +74,26 @@ lent-left m f xs k h g =
     ∙ sets-inside 0 m f xs (k + i) h (omega arith)
     ∙ sym (getD-drop k xs i 0))
 
-module _ (jobs memory room : List ℕ) (w : Window) where
-  abbrev left : Lent → Window
-  left l = record { from = w .from + l .wrote; size = w .size - l .wrote }
+-- ---- a run of jobs
 
-  -- each send is lent what is left of the output
-  abbrev jobAsked : (from : ℕ) → (answer : List ℕ) → Lent → Asked
-  jobAsked from answer l = record { entry = send (left l) (getD jobs from 0) (part jobs (from + 3) (u16At jobs (from + 1))); answer = answer }
+-- what is left of the output, which stands in the part w of the memory
+abbrev left : Window → Lent → Window
+left w l = record { from = w .from + l .wrote; size = w .size - l .wrote }
 
-  -- the output stands in its part of the memory
-  abbrev outs : Lent → EdgeState
-  outs l = record { table = l .table; room = room; memory = sets memory (w .from) (l .out) }
+-- the job at a place of the run: its send is lent that
+abbrev pub jobAsked : (jobs : List ℕ) → Window → (from : ℕ) → (answer : List ℕ) → Lent → Asked
+jobAsked jobs w from answer l = record { entry = send (left w l) (getD jobs from 0) (part jobs (from + 3) (u16At jobs (from + 1))); answer = answer }
+
+abbrev verdictOf : (table : List ℕ) → Verdict
+verdictOf table = verdict (read table .table) Nothing Nothing Nothing Nothing
+
+-- the entries that the run is
+abbrev pub jobEntries : (table memory : List ℕ) → Window → (jobs answers : List ℕ) → List Asked
+jobEntries table memory w jobs answers = madeBy (verdictOf table) (made jobs (jobSize jobs) (jobCall jobs) (jobAsked jobs w) (length jobs) 0 0 (lentBy table (lent w memory) 0 answers))
+
+module _ (jobs memory room : List ℕ) (w : Window) (fits : w .from + w .size ≤ length memory) where
+  abbrev stands : Lent → EdgeState
+  stands l = record { table = l .table; room = room; memory = sets memory (w .from) (l .out) }
 
   abbrev Within : Lent → Type 0
   Within l = (length (l .out) ≡ w .size) × (l .wrote ≤ w .size)
@@ -165,53 +106,73 @@ module _ (jobs memory room : List ℕ) (w : Window) where
   unfolding onTable lifted endOf
   send-quiet table answer out slot sdu = none-written sdu [] (Frames.send (read table .table) slot (length sdu) (length out) .job)
 
-  job-keeps : (from at : ℕ) (answer : List ℕ) (l : Lent) → Within l → Within (jobCall jobs from at answer l)
-  job-keeps from at answer l h =
+  keeps : (from at : ℕ) (answer : List ℕ) (l : Lent) → Within l → Within (jobCall jobs from at answer l)
+  keeps from at answer l h =
       let slot = getD jobs from 0 in
       let sdu = part jobs (from + 3) (u16At jobs (from + 1)) in
       let out = drop (l .wrote) (l .out) in
       let e = h .0 in
       (length-sets (l .out) (l .wrote) (sendEdge (l .table) answer out slot sdu .out) ∙ e, omega (arith, octets-within (l .table) out sdu slot, length-drop (l .wrote) (l .out), h .1))
 
-  job-step : w .from + w .size ≤ length memory → (from at : ℕ) (answer : List ℕ) (l : Lent) → Within l → outs (jobCall jobs from at answer l) ≡ entered (outs l) (jobAsked from answer l)
+  lent-is : (l : Lent) → Within l → lent (left w l) (sets memory (w .from) (l .out)) ≡ drop (l .wrote) (l .out)
+  lent-is l h =
+      let e = h .0 in
+      let g = h .1 in
+      rw e at (lent-left memory (w .from) (l .out) (l .wrote) (omega arith) (omega arith))
+
+  step : (from at : ℕ) (answer : List ℕ) (l : Lent) → Within l → stands (jobCall jobs from at answer l) ≡ entered (stands l) (jobAsked jobs w from answer l)
   unfolding entered leaves choose
-  job-step fits from at answer l h =
+  step from at answer l h =
       let slot = getD jobs from 0 in
       let sdu = part jobs (from + 3) (u16At jobs (from + 1)) in
       let e = h .0 in
       let g = h .1 in
-      let lent-is : part (sets memory (w .from) (l .out)) (w .from + l .wrote) (w .size - l .wrote) ≡ drop (l .wrote) (l .out) = rw e at (lent-left memory (w .from) (l .out) (l .wrote) (omega arith) (omega arith)) in
       let out = drop (l .wrote) (l .out) in
       let long : length (sendEdge (l .table) answer out slot sdu .out) ≡ length (l .out) - l .wrote = send-long (l .table) answer out slot sdu ∙ length-drop (l .wrote) (l .out) in
-      rw (lent-is, send-quiet (l .table) answer out slot sdu, nested memory (w .from) (l .out) (l .wrote) (sendEdge (l .table) answer out slot sdu .out) (omega arith) (omega arith)) refl
+      rw (lent-is l h, send-quiet (l .table) answer out slot sdu, nested memory (w .from) (l .out) (l .wrote) (sendEdge (l .table) answer out slot sdu .out) (omega arith) (omega arith)) refl
 
-  -- the entries of the run: none, where the first refusal stops it
-  abbrev jobsLent : (table answers : List ℕ) → Lent
-  jobsLent table answers = record { table = table; room = []; out = lent w memory; wrote = 0; answers = answers }
+  told-so : (from at : ℕ) (answer : List ℕ) (l : Lent) → Within l → jobCall jobs from at answer l .answers ≡ sets (l .answers) at (edgeOf (stands l) (jobAsked jobs w from answer l) .answer)
+  unfolding leaves
+  told-so from at answer l h = rw (lent-is l h)
 
-  abbrev pub jobsHanded : (table answers : List ℕ) → Verdict → List Asked
-  jobsHanded table answers (Stop r) = []
-  jobsHanded table answers Pass = made jobs (jobSize jobs) (jobCall jobs) jobAsked (length jobs) 0 0 (jobsLent table answers)
+  long : (from : ℕ) (answer : List ℕ) (l : Lent) → length (edgeOf (stands l) (jobAsked jobs w from answer l) .answer) ≡ length answer
+  unfolding leaves
+  long from answer l =
+      let slot = getD jobs from 0 in
+      let sdu = part jobs (from + 3) (u16At jobs (from + 1)) in
+      let out = lent (left w l) (sets memory (w .from) (l .out)) in
+      answer-long (l .table) answer (λ t. endOf t sdu [] out [] (Frames.send t slot (length sdu) (length out)))
 
-  pub jobs-apart : (table answers : List ℕ) (v : Verdict) → BuffersApart (jobsHanded table answers v)
-  jobs-apart table answers (Stop r) = tt
-  jobs-apart table answers Pass = made-apart jobs (jobSize jobs) (jobCall jobs) jobAsked (λ from answer l. inr (omega arith)) (length jobs) 0 0 (jobsLent table answers)
+  module _ (table answers : List ℕ) where
+    abbrev l : Lent
+    l = lentBy table (lent w memory) 0 answers
 
-  module _ (fits : w .from + w .size ≤ length memory) where
-    stands-first : (table answers : List ℕ) → outs (jobsLent table answers) ≡ record { table = table; room = room; memory = memory }
-    stands-first table answers = ap (λ (m : List ℕ). record { table = table; room = room; memory = m }) (itself-put memory (w .from) (w .size) fits)
+    first : stands l ≡ record { table = table; room = room; memory = memory }
+    first = ap (λ (m : List ℕ). record { table = table; room = room; memory = m }) (itself-put memory (w .from) (w .size) fits)
 
-    jobs-by : (table answers : List ℕ) (v : Verdict)
-        → outs (begun v (jobsLent table answers) (ran jobs (jobSize jobs) (jobCall jobs) (length jobs) 0 0 (jobsLent table answers)) .lent)
-        ≡ entries (record { table = table; room = room; memory = memory }) (jobsHanded table answers v)
-    unfolding entries
-    jobs-by table answers (Stop r) = stands-first table answers
-    jobs-by table answers Pass =
-        ran-made jobs (jobSize jobs) (jobCall jobs) jobAsked outs Within job-keeps (job-step fits) (length jobs) 0 0 (jobsLent table answers) (part-length memory (w .from) (w .size) fits, omega arith)
-        ∙ ap (λ (s : EdgeState). entries s (jobsHanded table answers Pass)) (stands-first table answers)
+    makes : Makes jobs (jobSize jobs) (jobCall jobs) (jobAsked jobs w) stands Within keeps step told-so long 0 l (jobEntries table memory w jobs answers) (begun (verdictOf table) l (jobsRun table (lent w memory) jobs answers) .lent)
+    makes = run-makes jobs (jobSize jobs) (jobCall jobs) (jobAsked jobs w) stands Within keeps step told-so long (verdictOf table) l (part-length memory (w .from) (w .size) fits, omega arith)
 
-    -- WHAT l2cap_send_run LEAVES IS WHAT l2cap_send LEAVES, MADE FOR EACH JOB
-    pub jobs-made : (table answer answers : List ℕ)
+    -- it leaves what they leave
+    pub jobs-entered : (answer : List ℕ)
         → record { table = sendRunEdge table answer (lent w memory) jobs answers .table; room = room; memory = sets memory (w .from) (sendRunEdge table answer (lent w memory) jobs answers .out) }
-        ≡ entries (record { table = table; room = room; memory = memory }) (jobsHanded table answers (verdict (read table .table) Nothing Nothing Nothing Nothing))
-    jobs-made table answer answers = jobs-by table answers (verdict (read table .table) Nothing Nothing Nothing Nothing)
+        ≡ entries (record { table = table; room = room; memory = memory }) (jobEntries table memory w jobs answers)
+    jobs-entered answer = makes .0 ∙ ap (λ (s : EdgeState). entries s (jobEntries table memory w jobs answers)) first
+
+    -- and its answers are theirs
+    pub jobs-answered : (answer : List ℕ) → sendRunEdge table answer (lent w memory) jobs answers .answers ≡ sets answers 0 (answersIn (told (record { table = table; room = room; memory = memory }) (jobEntries table memory w jobs answers)))
+    jobs-answered answer = makes .1 ∙ ap (λ (s : EdgeState). sets answers 0 (answersIn (told s (jobEntries table memory w jobs answers)))) first
+
+    -- no two of their buffers overlap: a send is lent one
+    pub jobs-apart : BuffersApart (jobEntries table memory w jobs answers)
+    jobs-apart =
+        by-apart (verdictOf table) (made jobs (jobSize jobs) (jobCall jobs) (jobAsked jobs w) (length jobs) 0 0 l)
+        (made-apart jobs (jobSize jobs) (jobCall jobs) (jobAsked jobs w) (λ from answer l. inr (omega arith)) (length jobs) 0 0 l)
+
+-- So the octets that it leaves are those of the definition's run, a send a call.
+pub jobs-spelled : (s : State) → Sized (s .table) → (answer jobs answers : List ℕ) (w : Window) → w .from + w .size ≤ length (s .memory)
+    → record { table = sendRunEdge (spell (s .table)) answer (lent w (s .memory)) jobs answers .table; room = s .room; memory = sets (s .memory) (w .from) (sendRunEdge (spell (s .table)) answer (lent w (s .memory)) jobs answers .out) }
+    ≡ spelled (run s (map callIn (jobEntries (spell (s .table)) (s .memory) w jobs answers)))
+jobs-spelled s z answer jobs answers w fits =
+    jobs-entered jobs (s .memory) (s .room) w fits (spell (s .table)) answers answer
+    ∙ entries-spelled s z (jobEntries (spell (s .table)) (s .memory) w jobs answers) (jobs-apart jobs (s .memory) (s .room) w fits (spell (s .table)) answers)

@@ -8,5 +8,6 @@ pub mod Isolation
 pub mod Rules
 pub mod Example
 pub mod Reading
+pub mod Made
 pub mod FrameRun
 pub mod JobRun

@@ -70,6 +70,21 @@ static uint32_t packet(uint16_t link, const uint8_t *octets, size_t n) {
     return refusal;
 }
 
+/* Frames of any links that came together, as a run: handed over as far as the answers reach, and on from there. What a frame was refused by stands in its own answer; here they are counted. */
+static unsigned frames(const uint8_t *run, size_t n) {
+    static uint8_t answers[2 * L2CAP_ANSWER_OCTETS];
+    unsigned refused = 0;
+    uint32_t refusal, count, used, k;
+    do {
+        refusal = l2cap_dispatch_run(LENT, IN(room), run, n, IN(answers));
+        count = l2cap_answer_run_count(answer), used = l2cap_answer_run_used(answer);
+        for (k = 0; k < count; k++) refused += l2cap_answer_refusal(l2cap_run_answer(answers, k)) != 0;
+        run += used, n -= used;
+        settle();
+    } while (refusal == L2CAP_NO_ROOM && count);
+    return refused;
+}
+
 static void link_down(uint16_t link) {
     l2cap_disconnected(LENT, IN(room), link);
     settle();
@@ -114,6 +129,9 @@ int main(void) {
     static const uint8_t whole[] = {10, 0, 0x40, 0, 8, 0, 't', 'i', 'c', 'k', 'e', 't', ' ', '2'}, bad[] = {1, 0, 0x40, 0, 9};
     static const uint8_t ours[] = {8, 0, 5, 0, 0x06, 3, 4, 0, 0x50, 0, 0x40, 0}, response[] = {8, 0, 5, 0, 0x07, 3, 4, 0, 0x50, 0, 0x40, 0};
 
+    uint8_t run[PACKET];
+    size_t at = 0;
+
     check(start() == 0, "a printer");
 
     /* The phone on link 1 connects, and sends a job in two frames. */
@@ -137,11 +155,19 @@ int main(void) {
     packet(2, IN(response));
     check(packets == 0 && !held[0], "the phone's response: the hold is given back");
 
-    /* A link goes down. */
+    /* The first phone is back. Three of its frames came together: a job in two of them, and one in the third. */
     packet(1, IN(connect));
     check(went(1, 1, IN(accepted)) && held[0], "the first phone is back");
+    /* PACKET octets hold the three: each adds more than 0. */
+    at += l2cap_run_frame(run + at, sizeof run - at, 1, 0x40, first + 4, sizeof first - 4);
+    at += l2cap_run_frame(run + at, sizeof run - at, 1, 0x40, second + 4, sizeof second - 4);
+    at += l2cap_run_frame(run + at, sizeof run - at, 1, 0x40, whole + 4, sizeof whole - 4);
+    check(frames(run, at) == 0 && jobs == 4 && printed_link == 1 && printed_length == 8, "a run of three frames, with answers for two at a time");
+
+    /* A link goes down. */
+    packets = 0;
     link_down(1);
-    check(packets == 0 && !held[0] && jobs == 2, "nothing is left of it");
+    check(packets == 0 && !held[0] && jobs == 4, "nothing is left of it");
     printf("%u passed, %u failed\n", passed, failed);
     return failed != 0;
 }

@@ -97,6 +97,35 @@ fn fill<I: Iterator>(from: &mut Peekable<I>, mut push: impl FnMut(&I::Item) -> R
     Ok(added)
 }
 
+/// What both kinds of run say of the calls that are left in them.
+macro_rules! calls_left {
+    ($run:ident, $calls:literal, $made:literal) => {
+        impl $run<'_> {
+            #[doc = concat!("How many ", $calls, " are left to be ", $made, ".")]
+            pub fn len(&self) -> usize {
+                self.0.count
+            }
+
+            /// Whether none is left.
+            pub fn is_empty(&self) -> bool {
+                self.0.count == 0
+            }
+
+            #[doc = concat!("Drops the ", $calls, " that are left.")]
+            pub fn clear(&mut self) {
+                self.0.clear();
+            }
+
+            pub(crate) fn left(&self) -> &[u8] {
+                self.0.left()
+            }
+        }
+    };
+}
+
+calls_left!(FrameRun, "frames", "taken in");
+calls_left!(JobRun, "jobs", "sent");
+
 /// Frames that came in, of one link or of many, to be handed over together: [`ChannelManager::dispatch_run`](crate::ChannelManager::dispatch_run) takes them
 /// in. They stand in octets that the caller lends, [`HEAD`](Self::HEAD) and the payload's length for each.
 #[derive(Debug)]
@@ -125,25 +154,6 @@ impl<'a> FrameRun<'a> {
         I: Iterator<Item = (ConnHandle, Cid, &'p [u8])>,
     {
         fill(frames, |(handle, cid, payload)| self.push(*handle, *cid, payload))
-    }
-
-    /// How many frames are left to be taken in.
-    pub fn len(&self) -> usize {
-        self.0.count
-    }
-
-    /// Whether none is left.
-    pub fn is_empty(&self) -> bool {
-        self.0.count == 0
-    }
-
-    /// Drops the frames that are left.
-    pub fn clear(&mut self) {
-        self.0.clear();
-    }
-
-    pub(crate) fn left(&self) -> &[u8] {
-        self.0.left()
     }
 
     pub(crate) fn made<'b>(&mut self, returned: Returned, answers: &'b [[u8; ANSWER_OCTETS]]) -> Result<Dispatched<'b>, Refusal> {
@@ -178,25 +188,6 @@ impl<'a> JobRun<'a> {
         I: Iterator<Item = (ChannelIndex, &'p [u8])>,
     {
         fill(jobs, |(index, sdu)| self.push(*index, sdu))
-    }
-
-    /// How many jobs are left to be sent.
-    pub fn len(&self) -> usize {
-        self.0.count
-    }
-
-    /// Whether none is left.
-    pub fn is_empty(&self) -> bool {
-        self.0.count == 0
-    }
-
-    /// Drops the jobs that are left.
-    pub fn clear(&mut self) {
-        self.0.clear();
-    }
-
-    pub(crate) fn left(&self) -> &[u8] {
-        self.0.left()
     }
 
     pub(crate) fn made<'o, 'b>(

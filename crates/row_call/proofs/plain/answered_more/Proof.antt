@@ -1,11 +1,8 @@
--- `row_call::plain::told_more` meets its contract: its pieces follow one another (writes-append).
+-- `row_call::plain::answered_more` meets its contract: its pieces follow one another (writes-append).
 use Rattle.text_write.specs.Rows.{writes-append}
 use borrow.Author.Needs.{needs}
-use Rattle.row_call.proofs.plain.told_more.Statement.{statement}
-use Rattle.row_call.proofs.plain.told_more.Tie as tie
-
-slice-aggregate-write-answer : tie.Need-slice-aggregate-write-answer
-slice-aggregate-write-answer c = search needs
+use Rattle.row_call.proofs.plain.answered_more.Statement.{statement}
+use Rattle.row_call.proofs.plain.answered_more.Tie as tie
 
 write-answer-requires : tie.Need-write-answer-requires
 write-answer-requires c κs = search needs
@@ -22,11 +19,10 @@ same-length c = search needs
 returns : tie.Need-returns
 returns c = writes-append (writes-append (c .before .before .before .before .before .before .before .before .before .before .write-answer .ensures) (c .before .before .before .before .before .before .write-columns .ensures)) (c .before .before .write-character .ensures)
 
-pub told-more-spec : {M : Type 1} → statement M
-told-more-spec =
+pub answered-more-spec : {M : Type 1} → statement M
+answered-more-spec =
     tie.close
     (tie.spec
-    slice-aggregate-write-answer
     write-answer-requires
     write-columns-requires
     write-character-requires

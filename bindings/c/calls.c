@@ -1,11 +1,11 @@
-/* What a call costs through the archive: its time, and how often it copies a whole table; what a PDU of many signals costs, fed one by one; and a send and a frame in on the largest table. It is no test: nothing is asserted.
+/* What a call costs through the archive: its time, and how often it copies a whole table; what a PDU of many signals costs, fed one by one; and a send, a job in portions and a frame in on the largest table. It is no test: nothing is asserted.
  * gcc -O2 -Wl,--wrap=memcpy -o calls bindings/c/calls.c target/staticlib/libentries.a && ./calls */
 #include "l2cap_channels.h"
 #include <stdio.h>
 #include <string.h>
 #include <time.h>
 
-enum { N = 4, D = 1, M = 64, ROOM = N * (D + 1) * (M - 6), TABLE = 600, TURNS = 1000, SAMPLES = 101, SIGNALS = 16383 };
+enum { N = 4, D = 1, M = 64, ROOM = N * (D + 1) * (M - 6), TABLE = 700, TURNS = 1000, SAMPLES = 101, SIGNALS = 16383 };
 
 static uint8_t kept[L2CAP_TABLE_OCTETS], table[L2CAP_TABLE_OCTETS], answer[L2CAP_ANSWER_OCTETS], room[ROOM], signal[L2CAP_SIGNAL_OCTETS], out[64], job[64], pdu[4 * SIGNALS];
 static uint8_t large[L2CAP_ROOM_OCTETS(16, 4, 1024)], frames[2048], sdu[1020];
@@ -77,6 +77,23 @@ static void sends(size_t octets) {
     printf("| %zu | %u | %.0f |\n", octets, refusals, best);
 }
 
+/* The same job in one portion, on the same table: a start and the portion that gives out its one frame. */
+static void portions(size_t octets) {
+    double best = 1e18;
+    unsigned refusals = 0;
+    for (int s = 0; s < SAMPLES; s++) {
+        double from, took;
+        again(), from = now();
+        for (int k = 0; k < TURNS; k++) {
+            refusals += l2cap_start_job(LENT, IN(frames), k % 16, octets) != 0;
+            refusals += l2cap_give_portion(LENT, IN(frames), k % 16, sdu, octets) != 0;
+        }
+        took = (now() - from) / TURNS;
+        if (took < best) best = took;
+    }
+    printf("| %zu | %u | %.0f |\n", octets, refusals, best);
+}
+
 /* A payload of so many octets that brings a whole job, on that table, one slot after the other: where no place is free any more, the table as it was. */
 static void arrives(uint16_t octets) {
     double best = 1e18;
@@ -127,6 +144,12 @@ int main(void) {
     CALL("mtu", l2cap_mtu(LENT, 0));
     CALL("receive", l2cap_receive(LENT, IN(room), IN(signal), IN(job), 0));
     CALL("send", l2cap_send(LENT, IN(out), 0, IN(frame)));
+    CALL("start_job", l2cap_start_job(LENT, IN(out), 0, 40));
+    CALL("give_portion, a frame's start", l2cap_give_portion(LENT, IN(out), 0, frame, 1));
+    CALL("give_portion, a frame's end", l2cap_give_portion(LENT, IN(out), 0, sdu, 39));
+    CALL("give_portion, the last frame", l2cap_give_portion(LENT, IN(out), 0, sdu, 19));
+    CALL("start_job, another", l2cap_start_job(LENT, IN(out), 0, 21));
+    CALL("cancel_job", l2cap_cancel_job(LENT, IN(room), 0));
     CALL("inc_ref", l2cap_inc_ref(LENT, 0));
     CALL("dec_ref", l2cap_dec_ref(LENT, IN(room), 0));
     CALL("create", l2cap_create(LENT, IN(signal), 1, 0x80, L2CAP_DEFAULT, L2CAP_DEFAULT, L2CAP_EVERY, 1, L2CAP_DEFAULT));
@@ -145,6 +168,9 @@ int main(void) {
     puts("\n| octets of a job | refused | ns a send |\n|---|---|---|");
     open_all();
     sends(23), sends(247), sends(1020);
+
+    puts("\n| octets of a job | refused | ns a start and a portion |\n|---|---|---|");
+    portions(23), portions(247), portions(1020);
 
     puts("\n| octets of a payload | refused | ns a frame in |\n|---|---|---|");
     arrives(23), arrives(247), arrives(1020);

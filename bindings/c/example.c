@@ -1,13 +1,16 @@
-/* A small printer. `packet` takes a whole L2CAP packet that came on a link, and sends and prints all that it calls for: responses, credits, disconnects, jobs. It needs no heap and no C library, so that a firmware can take
+/* A small printer. `packet` takes a whole L2CAP packet that came on a link, and sends and prints all that it calls for: responses, credits, disconnects, jobs; `reply` sends a sheet of the printer's own, a line at a time. It needs no heap and no C library, so that a firmware can take
  * it over; `main` plays two phones with it, and looks at what comes out. */
 #include "l2cap_channels.h"
 #include <stdio.h>
 #include <string.h>
 
 /* Frames of 23 octets: the longest job, of PACKET - 6 octets, is three of them, and a phone gets credits for so many (the header, Credits). */
-enum { SLOTS = 4, WAITING = 1, PACKET = 64, MPS = 23, CREDITS = 3, SPSM = 0x80, SIGNALLING = 5 };
+enum { SLOTS = 4, WAITING = 1, PACKET = 64, MPS = 23, CREDITS = 3, SPSM = 0x80, SIGNALLING = 5, LINE = 16 };
 
 static uint8_t table[L2CAP_TABLE_OCTETS], answer[L2CAP_ANSWER_OCTETS], room[L2CAP_ROOM_OCTETS(SLOTS, WAITING, PACKET)], signal[L2CAP_SIGNAL_OCTETS], job[PACKET];
+
+/* The frame that is being filled in each slot: no two open jobs may share one. It holds the frames of a phone whose MPS is at most PACKET - 4; for a longer one a start is refused by 3. */
+static uint8_t filling[SLOTS][PACKET];
 
 /* The slots that we hold, each once: from a phone's request on until we give them back. */
 static uint8_t held[SLOTS];
@@ -18,6 +21,9 @@ static uint8_t held[SLOTS];
 /* What leaves the printer: a packet for the controller, with its L2CAP header, and a job that is whole. */
 static void send_packet(uint16_t link, const uint8_t *octets, size_t n);
 static void print_job(uint16_t link, const uint8_t *octets, size_t n);
+
+/* What the printer renders: line k of a reply sheet. */
+static void render(unsigned k, uint8_t line[LINE]);
 
 static uint32_t start(void) {
     uint32_t refusal = l2cap_make(LENT, IN(room), SLOTS, WAITING, PACKET);
@@ -85,6 +91,23 @@ static unsigned frames(const uint8_t *run, size_t n) {
     return refused;
 }
 
+/* A reply sheet of one line or more, rendered while it is sent: no more of it than a line and a frame is ever in memory. Returns what it was refused by, or 0. By the start: nothing was sent (14: try again after the phone's next
+ * credits). Later by 11 alone, as the slot is held: the channel has ended meanwhile, and the job with it. */
+static uint32_t reply(uint8_t slot, unsigned lines) {
+    uint8_t line[LINE];
+    unsigned k;
+    size_t at;
+    uint32_t refusal = l2cap_start_job(LENT, IN(filling[slot]), slot, (size_t)lines * LINE);
+    for (k = 0; k < lines && !refusal; k++) {
+        render(k, line);
+        for (at = 0; at < LINE && !refusal; at += l2cap_answer_portion_taken(answer)) {
+            refusal = l2cap_give_portion(LENT, IN(filling[slot]), slot, line + at, LINE - at);
+            if (l2cap_answer_written(answer)) send_packet(l2cap_answer_link(answer), filling[slot], l2cap_answer_written(answer));
+        }
+    }
+    return refusal;
+}
+
 static void link_down(uint16_t link) {
     l2cap_disconnected(LENT, IN(room), link);
     settle();
@@ -105,6 +128,11 @@ static void print_job(uint16_t link, const uint8_t *octets, size_t n) {
     memcpy(printed, octets, n);
     printed_length = n, printed_link = link, jobs++;
     printf("link %u: %.*s\n", (unsigned)link, (int)n, (const char *)octets);
+}
+
+static void render(unsigned k, uint8_t line[LINE]) {
+    static const char *const lines[] = {"2 tickets, row 1", "7, seats 4 and 5", ". Doors at 19:30"};
+    memcpy(line, lines[k], LINE);
 }
 
 static void check(int holds, const char *what) {
@@ -128,6 +156,7 @@ int main(void) {
     static const uint8_t closes[] = {8, 0, 5, 0, 0x06, 8, 4, 0, 0x40, 0, 0x50, 0}, closed[] = {8, 0, 5, 0, 0x07, 8, 4, 0, 0x40, 0, 0x50, 0};
     static const uint8_t whole[] = {10, 0, 0x40, 0, 8, 0, 't', 'i', 'c', 'k', 'e', 't', ' ', '2'}, bad[] = {1, 0, 0x40, 0, 9};
     static const uint8_t ours[] = {8, 0, 5, 0, 0x06, 3, 4, 0, 0x50, 0, 0x40, 0}, response[] = {8, 0, 5, 0, 0x07, 3, 4, 0, 0x50, 0, 0x40, 0};
+    static const uint8_t last[] = {4, 0, 0x50, 0, '9', ':', '3', '0'};
 
     uint8_t run[PACKET];
     size_t at = 0;
@@ -163,6 +192,11 @@ int main(void) {
     at += l2cap_run_frame(run + at, sizeof run - at, 1, 0x40, second + 4, sizeof second - 4);
     at += l2cap_run_frame(run + at, sizeof run - at, 1, 0x40, whole + 4, sizeof whole - 4);
     check(frames(run, at) == 0 && jobs == 4 && printed_link == 1 && printed_length == 8, "a run of three frames, with answers for two at a time");
+
+    /* The printer's own sheet, of three lines: two full frames, and the four octets that are left. */
+    packets = 0;
+    check(reply(0, 3) == 0 && went(3, 1, IN(last)), "a reply sheet, in three frames");
+    check(reply(0, 3) == L2CAP_BUSY && reply(0, 1) == 0 && packets == 1, "of five credits two are left: one line goes out");
 
     /* A link goes down. */
     packets = 0;

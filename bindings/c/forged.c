@@ -1,11 +1,11 @@
 /* Tables that no call wrote. Every octet of busy tables is changed, and each call that works on the table's octets where they stand is made on what comes of it, beside the same call made by value on the whole table, which the
- * archive of the crate edge_whole has. Octets that a question refuses by 1 are refused by 1, and nothing changes; of all others number, answer, table, room and buffers are equal. Then faults are planted, and each is found.
+ * archive of the crate edge_whole has; the calls of a job in portions, beside document 02's words on the same octets. Octets that a question refuses by 1 are refused by 1, and nothing changes; of all others number, answer, table, room and buffers are equal. Then faults are planted, and each is found.
  * gcc -std=c99 -O1 -o forged bindings/c/forged.c target/unproved/libentries.a target/unproved/libedge_whole.a && ./forged */
 #include "l2cap_channels.h"
 #include <stdio.h>
 #include <string.h>
 
-enum { N = 16, D = 4, M = 300, PLACE = M - 6, ROOM = N * (D + 1) * PLACE, SPSM = 0x80, HEAD = 48, BEHIND = 16, PAINT = 0xa5, CALLS = 6, MANY = 8000 };
+enum { N = 16, D = 4, M = 300, PLACE = M - 6, ROOM = N * (D + 1) * PLACE, SPSM = 0x80, HEAD = 48, COLUMNS = 47, BEHIND = 16, PAINT = 0xa5, CALLS = 9, MANY = 8000 };
 
 /* The calls by value, of the same parameters. */
 uint32_t whole_dispatch(uint8_t *, size_t, uint8_t *, size_t, uint8_t *, size_t, uint16_t, uint16_t, const uint8_t *, size_t);
@@ -16,14 +16,14 @@ uint32_t whole_signal(uint8_t *, size_t, uint8_t *, size_t, uint8_t *, size_t, u
 /* What a call is lent, and octets behind each, in which a write would show. */
 typedef struct {
     uint8_t table[L2CAP_TABLE_OCTETS], behind_table[BEHIND], answer[L2CAP_ANSWER_OCTETS], behind_answer[BEHIND], room[ROOM], behind_room[BEHIND], signal[L2CAP_SIGNAL_OCTETS], behind_signal[BEHIND];
-    uint8_t job[PLACE], behind_job[BEHIND], out[256], behind_out[BEHIND], answers[5 * L2CAP_ANSWER_OCTETS], behind_answers[BEHIND];
+    uint8_t job[PLACE], behind_job[BEHIND], out[256], behind_out[BEHIND], buffer[40], behind_buffer[BEHIND], answers[5 * L2CAP_ANSWER_OCTETS], behind_answers[BEHIND];
     uint32_t number;
 } memory;
 
 #define LENT(m) (m)->table, table_len, (m)->answer, sizeof (m)->answer
 #define IN(octets) octets, sizeof octets
 
-static const char *const names[CALLS] = {"l2cap_dispatch", "l2cap_send", "l2cap_receive", "l2cap_signal", "l2cap_dispatch_run", "l2cap_send_run"};
+static const char *const names[CALLS] = {"l2cap_dispatch", "l2cap_send", "l2cap_receive", "l2cap_signal", "l2cap_dispatch_run", "l2cap_send_run", "l2cap_start_job", "l2cap_give_portion", "l2cap_cancel_job"};
 static memory bases[2], was, placed, whole;
 static size_t table_len = L2CAP_TABLE_OCTETS, room_len = ROOM;
 static unsigned passed, failed, compared, refused, differing, fault, fault_at, done[CALLS], turned_down[CALLS];
@@ -32,6 +32,7 @@ static unsigned passed, failed, compared, refused, differing, fault, fault_at, d
 
 static size_t cell(unsigned slot, unsigned column) { return HEAD + 16 * column + slot; }
 static uint16_t number(const memory *m, unsigned slot, unsigned column) { return (uint16_t)(m->table[cell(slot, column)] | m->table[cell(slot, column + 1)] << 8); }
+static void put(memory *m, unsigned slot, unsigned column, size_t n) { m->table[cell(slot, column)] = (uint8_t)n, m->table[cell(slot, column + 1)] = (uint8_t)(n >> 8); }
 
 /* A request of a peer, from link 1 + slot / 4 and for its CID 0x50 + slot. */
 static void connects(memory *m, uint8_t slot) {
@@ -76,16 +77,23 @@ static void busy(memory *m) {
     l2cap_disconnect(LENT(m), IN(m->room), 14);
     l2cap_next_disconnect(LENT(m), IN(m->room), IN(m->signal));
     l2cap_disconnect(LENT(m), IN(m->room), 2);
+    for (slot = 1; slot < N; slot += 2) { /* jobs in portions: begun, with some octets, with a frame given out */
+        l2cap_start_job(LENT(m), IN(m->buffer), slot, 30);
+        if (slot % 3) l2cap_give_portion(LENT(m), IN(m->buffer), slot, pdu, 10);
+        if (slot % 3 == 2) l2cap_give_portion(LENT(m), IN(m->buffer), slot, pdu, 14);
+    }
 }
 
-/* The same with every number of an open channel at its edge: one more is refused. No octet of the room is zero. */
+/* The same with every number of an open channel and of an open job at its edge: one more is refused. No octet of the room is zero. */
 static void full(memory *m) {
+    static const uint16_t jobs[2][5][2] = {{{24, 0xFFFD}, {39, 45}, {41, 20}, {43, 22}, {45, 2}}, {{24, 0xFFFE}, {39, 40}, {41, 40}, {43, 19}, {45, 1}}};
     static const uint16_t edge[][2] = {{8, PLACE}, {13, 0xFEFF}, {15, 0x0100}, {26, PLACE - 1}, {28, PLACE}, {31, PLACE}, {33, PLACE}, {35, PLACE}};
     unsigned slot, k;
     for (slot = 0; slot < N; slot++)
         if (m->table[cell(slot, 0)] == 3) {
             m->table[cell(slot, 30)] = D - 1;
-            for (k = 0; k < sizeof edge / sizeof *edge; k++) m->table[cell(slot, edge[k][0])] = (uint8_t)edge[k][1], m->table[cell(slot, edge[k][0] + 1u)] = (uint8_t)(edge[k][1] >> 8);
+            for (k = 0; k < sizeof edge / sizeof *edge; k++) put(m, slot, edge[k][0], edge[k][1]);
+            for (k = 0; k < 5 && number(m, slot, 45); k++) put(m, slot, jobs[slot / 4 % 2][k][0], jobs[slot / 4 % 2][k][1]);
         }
     for (k = 0; k < ROOM; k++) m->room[k] = (uint8_t)(1 + k % 251);
 }
@@ -134,6 +142,47 @@ static void run_call(memory *m, int by_value, int of_jobs, uint8_t slot, uint16_
     else m->number = of_jobs ? l2cap_send_run(LENT(m), IN(m->out), run, used, IN(m->answers)) : l2cap_dispatch_run(LENT(m), m->room, room_len, run, used, IN(m->answers));
 }
 
+/* A start (k 6), a portion (7) or a cancel (8) as document 02 has them, on the octets where they stand: n is the octets that are stated or given. */
+static void by_its_words(memory *m, unsigned k, uint8_t slot, size_t n) {
+    size_t count = m->table[1], mps = number(m, slot, 20), credits = number(m, slot, 24), length = k == 6 ? n : number(m, slot, 39), taken = number(m, slot, 41), filled = number(m, slot, 43), aside = number(m, slot, 45);
+    size_t places = (m->table[2] + 1u) * (m->table[3] + 256u * m->table[4] - 6), frames = mps ? (n + 2 + mps - 1) / mps : 0, out = taken + 2 - filled, size, takes, i;
+    int full;
+    m->number = l2cap_attention(LENT(m));
+    for (i = 0; i < count && i < N && !m->number; i++) {
+        size_t open = number(m, i, 45);
+        if (number(m, i, 24) + open > 65535 || (open && (number(m, i, 41) > number(m, i, 39) || number(m, i, 43) > number(m, i, 20) || number(m, i, 43) > number(m, i, 41) + 2u))) m->number = L2CAP_BAD_TABLE;
+    }
+    if (m->number) m->number = L2CAP_BAD_TABLE;
+    else if (k == 8 && room_len != count * places) m->number = L2CAP_BAD_ROOM;
+    else if (slot >= count) m->number = L2CAP_BAD_SLOT;
+    else if (m->table[cell(slot, 0)] != 3) m->number = L2CAP_CHANNEL_CLOSED;
+    else if (k == 6 && aside) m->number = L2CAP_JOB_OPEN;
+    else if (k != 6 && !aside) m->number = L2CAP_NOT_FOUND;
+    else if (k == 6 && n > number(m, slot, 22)) m->number = L2CAP_INSUFFICIENT_SPACE;
+    else if (k == 6 && mps < 23) m->number = L2CAP_BAD_MPS;
+    else if (k == 6 && frames > credits) m->number = L2CAP_BUSY;
+    else if (k != 8 && sizeof m->buffer < L2CAP_JOB_BUFFER_OCTETS(mps, length)) m->number = L2CAP_NO_ROOM;
+    else if (k == 7 && n > length - taken) m->number = L2CAP_WRONG_LENGTH;
+    memset(m->answer, 0, sizeof m->answer);
+    m->answer[0] = m->number ? L2CAP_ANSWER_REFUSED : 0, m->answer[1] = (uint8_t)m->number;
+    if (m->number) return;
+    if (k == 6) out = 0, filled = 0;
+    size = mps < length + 2 - out ? mps : length + 2 - out;
+    takes = k == 7 ? (n < size - filled ? n : size - filled) : 0, full = k == 7 && filled + takes == size;
+    if (k == 6 || (k == 7 && !filled && (takes || full))) m->buffer[0] = (uint8_t)size, m->buffer[1] = (uint8_t)(size >> 8), m->buffer[2] = m->table[cell(slot, 18)], m->buffer[3] = m->table[cell(slot, 19)];
+    if (k == 6) m->buffer[4] = (uint8_t)n, m->buffer[5] = (uint8_t)(n >> 8);
+    memcpy(m->buffer + 4 + filled, sdu, takes);
+    if (k == 6) put(m, slot, 24, credits - frames), put(m, slot, 39, n), put(m, slot, 41, 0), put(m, slot, 43, 2), put(m, slot, 45, frames);
+    if (k == 7) put(m, slot, 41, taken + takes), put(m, slot, 43, full ? 0 : filled + takes), put(m, slot, 45, aside - (full ? 1 : 0));
+    if (k == 8 && !out) put(m, slot, 24, credits + aside);
+    if (k == 8 && out) m->table[cell(slot, 0)] = 6, m->table[cell(slot, 1)] = 0, put(m, slot, 26, 0), put(m, slot, 28, 0), memset(m->room + slot * places, 0, places / (m->table[2] + 1u));
+    if (k == 8 || (full && (out + size == length + 2 || aside == 1)))
+        for (i = 39; i < COLUMNS; i += 2) put(m, slot, (unsigned)i, 0);
+    if (k < 8) m->answer[0] = k == 6 ? L2CAP_ANSWER_FRAMES : L2CAP_ANSWER_PORTION, m->answer[6] = m->table[cell(slot, 2)], m->answer[7] = m->table[cell(slot, 3)];
+    if (k == 6) m->answer[8] = (uint8_t)frames, m->answer[9] = (uint8_t)(frames >> 8);
+    if (k == 7) m->answer[8] = (uint8_t)takes, m->answer[10] = (uint8_t)full, m->answer[2] = (uint8_t)(full ? 4 + size : 0);
+}
+
 /* Call k for a slot, of this form: where it stands, or by value. */
 static void call(memory *m, int by_value, unsigned k, uint8_t slot, unsigned form) {
     uint8_t credits[] = {0x16, 9, 4, 0, was.table[cell(slot, 18)], was.table[cell(slot, 19)], (uint8_t)(form ? 0xFF : 1), (uint8_t)(form ? 0xFF : 0)};
@@ -143,13 +192,19 @@ static void call(memory *m, int by_value, unsigned k, uint8_t slot, unsigned for
         case 1: m->number = (by_value ? whole_send : l2cap_send)(LENT(m), IN(m->out), slot, sdu, form ? sizeof sdu : 3); break;
         case 2: m->number = (by_value ? whole_receive : l2cap_receive)(LENT(m), m->room, room_len, IN(m->signal), m->job, form ? sizeof m->job : 2, slot); break;
         case 3: m->number = (by_value ? whole_signal : l2cap_signal)(LENT(m), m->room, room_len, IN(m->signal), link, 1, 0, IN(credits)); break;
-        default: run_call(m, by_value, k == 5, slot, link);
+        case 4:
+        case 5: run_call(m, by_value, k == 5, slot, link); break;
+        default:
+            if (by_value) by_its_words(m, k, slot, form ? sizeof sdu : 3);
+            else if (k == 6) m->number = l2cap_start_job(LENT(m), IN(m->buffer), slot, form ? sizeof sdu : 3);
+            else if (k == 7) m->number = l2cap_give_portion(LENT(m), IN(m->buffer), slot, sdu, form ? sizeof sdu : 3);
+            else m->number = l2cap_cancel_job(LENT(m), m->room, room_len, slot);
     }
 }
 
 /* A fault, planted behind one call of the archive: each is of another kind of memory. */
 static void plant(memory *m) {
-    uint8_t *const at[] = {m->table + 7, m->table + cell(15, 24), m->answer + 15, m->room + ROOM - 1, m->signal, m->job + PLACE - 1, m->out + 255, m->answers + 79, m->behind_table, m->behind_answer, m->behind_room, m->behind_signal, m->behind_job, m->behind_out, m->behind_answers, (uint8_t *)&m->number};
+    uint8_t *const at[] = {m->table + 7, m->table + cell(15, 24), m->answer + 15, m->room + ROOM - 1, m->signal, m->job + PLACE - 1, m->out + 255, m->answers + 79, m->buffer + 39, m->behind_table, m->behind_answer, m->behind_room, m->behind_signal, m->behind_job, m->behind_out, m->behind_buffer, m->behind_answers, (uint8_t *)&m->number};
     if (fault && fault <= sizeof at / sizeof *at && compared == fault_at) *at[fault - 1] ^= 1;
 }
 
@@ -159,7 +214,7 @@ static void calls(uint8_t slot, const char *what, size_t place) {
     unsigned k, form, bad = l2cap_attention(was.table, table_len, IN(answer)) == L2CAP_BAD_TABLE;
     refused += bad;
     for (k = 0; k < CALLS; k++)
-        for (form = 0; form < (k < 4 ? 2u : 1u); form++) {
+        for (form = 0; form < (k < 4 || k == 6 || k == 7 ? 2u : 1u); form++) {
             int same;
             placed = whole = was;
             call(&placed, 0, k, slot, form);
@@ -200,8 +255,8 @@ static void every_octet(const memory *base) {
 static void several_octets(const memory *base) {
     unsigned turn, k, slot, column;
     for (turn = 0; turn < MANY; turn++) {
-        was = *base, slot = draw(16), column = draw(39);
-        for (k = 0; k < 2 + turn % 3; k++) was.table[cell(slot, (column + k) % 39)] = (uint8_t)(draw(2) ? draw(8) : draw(256));
+        was = *base, slot = draw(16), column = draw(COLUMNS);
+        for (k = 0; k < 2 + turn % 3; k++) was.table[cell(slot, (column + k) % COLUMNS)] = (uint8_t)(draw(2) ? draw(8) : draw(256));
         calls((uint8_t)slot, "several octets, turn", turn);
     }
 }
@@ -236,9 +291,9 @@ int main(void) {
         other_lengths(&bases[k]);
         check(!differing && refused > 1000, k ? "several octets of a full table, and other lengths" : "several octets of a busy table, and other lengths");
     }
-    for (k = 0; k < CALLS; k++) check(done[k] > 1000 && (k > 3 || turned_down[k] > 1000), names[k]);
+    for (k = 0; k < CALLS; k++) check(done[k] > 1000 && (k == 4 || k == 5 || turned_down[k] > 1000), names[k]);
     printf("%u calls compared\n", compared);
-    for (fault = 1; fault <= 16; fault++) {
+    for (fault = 1; fault <= 18; fault++) {
         differing = compared = 0, fault_at = 40 + fault;
         was = bases[0];
         for (k = 0; k < 8; k++) calls((uint8_t)k, "a fault", fault);

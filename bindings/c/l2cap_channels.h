@@ -5,22 +5,23 @@
  * table must not run at the same time, unless all of them are questions.
  *
  * The machine. x86-64, the System V ABI, C99 or C++11 at least. The archive needs memcpy and memset, a C library's or yours, and nothing else; SSE2 and its registers xmm0 to xmm15, for no floating-point number, so that a
- * kernel or an interrupt handler that calls it saves them; a stack aligned to 16 octets, as the ABI has it, of some 7 KiB; and the 128 octets below the stack pointer (the red zone): what interrupts a call on its own stack leaves them alone.
+ * kernel or an interrupt handler that calls it saves them; a stack aligned to 16 octets, as the ABI has it, of some 9 KiB; and the 128 octets below the stack pointer (the red zone): what interrupts a call on its own stack leaves them alone.
  * docs/PERFORMANCE.md has the figures, and a command for a firmware without a C library.
  *
  * table   L2CAP_TABLE_OCTETS octets, written by l2cap_make. Octets that spell no table, and another length, are refusal 1 in every call, and stay as they are.
  * answer  L2CAP_ANSWER_OCTETS octets, written by every call, refused or not; a shorter buffer gets as many as it has. The l2cap_answer_ functions below read it.
  *           0       its kind (enum l2cap_answer)
  *           1       the refusal's number, or 0
- *           2..6    how many octets were written at the start of `signal` or `out`
+ *           2..6    how many octets go out: they stand at the start of `signal`, `out` or an open job's `buffer`
  *           6..14   four numbers, by the kind (of a run two, of four octets each)
  *           14..16  zeros
  *         Numbers have the lower octet first.
  * room    the memory in which jobs arrive and wait: L2CAP_ROOM_OCTETS(n, d, m) octets, zeroed by l2cap_make. Another length is refusal 2. Octets of no live job are zero.
  * signal  what goes out on the signalling channel is written here, with its L2CAP header: at least L2CAP_SIGNAL_OCTETS octets, else refusal 3.
+ * buffer  of a job that is handed over in portions: its frame is filled here, L2CAP_JOB_BUFFER_OCTETS(mps, length) octets or more. See Portions.
  * answers  of runs: L2CAP_ANSWER_OCTETS octets for each frame or job, whose answers are written one behind the other.
  *
- * Overlap. No two memories of one call may overlap. That holds of those that are only read too (pdu, payload, sdu, frames, jobs, a const table): l2cap_send with sdu == out scrambles the job.
+ * Overlap. No two memories of one call may overlap. That holds of those that are only read too (pdu, payload, sdu, octets, frames, jobs, a const table): l2cap_send with sdu == out scrambles the job.
  * Null. A memory of length 0 may be a null pointer: it is not looked at. (A room or signal of length 0 is refused by its length, as above.)
  * Limits. n 1 to 16 slots, d 1 to 4 waiting jobs a slot, packets of m 29 to 1,024 octets; links 0 to 0x0EFF, a higher one is refusal 4; slots 0 to n - 1, a higher one is refusal 6;
  * a slot's CID is L2CAP_CID_BASE + slot. A flag is 0 for no; every other number is yes.
@@ -35,7 +36,14 @@
  *
  * Credits. The peer gets new credits when a job of its is taken (l2cap_receive), and at no other time. So a job that needs more frames than the peer has credits is never finished, and its channel
  * stands still. A job of mtu octets needs n = (mtu + 2 + mps - 1) / mps frames, if the peer fills them. With L2CAP_EVERY k give at least n + k - 1 credits, with L2CAP_MIN_THRESHOLD t at least n, and a t of at least n. The defaults do:
- * there n is 1. With more credits than d the peer can finish more jobs than can wait, and the next is dropped (21): take after every frame, or give d. */
+ * there n is 1. With more credits than d the peer can finish more jobs than can wait, and the next is dropped (21): take after every frame, or give d.
+ *
+ * Portions. A job of ours needn't stand in memory whole. l2cap_start_job states its length and sets the credits of its frames aside; l2cap_give_portion takes octets in portions of any lengths, and gives out each frame as it fills;
+ * the last frame closes the job. The frames are those of one l2cap_send, wherever the portions are cut. The table has the job's numbers alone: its octets stand in `buffer`. The caller keeps one buffer for each open job, from its
+ * start to its end, and lends every portion of it the buffer as this job's last call left it; a frame that is given out stands at its start, until the job's next portion writes over it: send it, or copy it, before that. A buffer
+ * that two jobs share, or that somebody wrote to, is not found out: its frames carry what stands there. A slot has one job open at a time; while it is, a second start and l2cap_send are refused by 24. Whatever ends the channel
+ * closes the job too, and the next portion is refused by 11: the phone has half a job then, and the credits are gone with the channel. Keep your hold on the slot until the job's end or that 11: a slot that was given back can be another
+ * phone's, and a portion would go into that phone's job. All other calls are free between two portions. */
 #ifndef L2CAP_CHANNELS_H
 #define L2CAP_CHANNELS_H
 
@@ -46,10 +54,10 @@
 extern "C" {
 #endif
 
-/* It goes up when an entry's parameters, the table's layout or the answer's change. The archive has it in the name of an entry, l2cap_version_1. */
-#define L2CAP_CHANNELS_VERSION 1
+/* It goes up when an entry's parameters, the table's layout or the answer's change. The archive has it in the name of an entry, l2cap_version_2. */
+#define L2CAP_CHANNELS_VERSION 2
 
-#define L2CAP_TABLE_OCTETS 672
+#define L2CAP_TABLE_OCTETS 800
 #define L2CAP_ANSWER_OCTETS 16
 #define L2CAP_SIGNAL_OCTETS 18
 #define L2CAP_CID_BASE 0x40
@@ -61,6 +69,9 @@ extern "C" {
 /* The room of n slots, d waiting jobs a slot and packets of m octets: in each slot a place for the job that arrives, and one for each that waits. */
 #define L2CAP_ROOM_OCTETS(n, d, m) ((size_t)(n) * ((size_t)(d) + 1) * ((size_t)(m) - 6))
 
+/* The least buffer of a job of so many octets that is handed over in portions, for a peer of this MPS (l2cap_peer_mps): its longest frame. */
+#define L2CAP_JOB_BUFFER_OCTETS(mps, length) ((size_t)(mps) < 2 || (size_t)(mps) - 2 < (size_t)(length) ? (size_t)(mps) + 4 : (size_t)(length) + 6)
+
 /* For mtu, mps and credits of l2cap_accept_pending and l2cap_create: the default, m - 6, m - 4 and d. Every number above 65,535 is. */
 #define L2CAP_DEFAULT 0x10000u
 
@@ -68,12 +79,12 @@ extern "C" {
 enum l2cap_refusal {
     L2CAP_BAD_TABLE = 1,             /* sizes outside the limits, or octets that spell no well-formed table */
     L2CAP_BAD_ROOM = 2,              /* the room's length isn't the table's */
-    L2CAP_NO_ROOM = 3,               /* a signal buffer under 18 octets, or an output too short for the frames; a run whose answers are full: what was done before stands */
+    L2CAP_NO_ROOM = 3,               /* a signal buffer under 18 octets, an output too short for the frames, or a buffer too short for an open job's; a run whose answers are full: what was done before stands */
     L2CAP_BAD_HANDLE = 4,            /* a link above 0x0EFF */
     L2CAP_BAD_SPSM = 5,              /* an SPSM outside 1 to 255 */
     L2CAP_BAD_SLOT = 6,              /* the table has no such slot */
     L2CAP_INVALID_CHANNEL_ID = 7,    /* a frame's CID is no slot's */
-    L2CAP_NOT_FOUND = 8,             /* no slot fits; an unmatched connect response has freed every attempt of its link */
+    L2CAP_NOT_FOUND = 8,             /* no slot fits, or no job is open in it; an unmatched connect response has freed every attempt of its link */
     L2CAP_INVALID_VALUE = 9,         /* a signal longer than its PDU: a reject is written; credits above 65,535, a job above our MTU or a frame past its job's end: the channel is disconnecting */
     L2CAP_OUT_OF_MEMORY = 10,        /* a frame for which the peer had no credit */
     L2CAP_CHANNEL_CLOSED = 11,       /* the channel isn't open */
@@ -88,7 +99,9 @@ enum l2cap_refusal {
     L2CAP_BAD_MPS = 20,              /* the peer's MPS is under 23 */
     L2CAP_QUEUE_FULL = 21,           /* a job is complete, but d wait already: it is dropped, and its credit used */
     L2CAP_HELD = 22,                 /* the hold count isn't what the step needs, or would pass 0 or 255 */
-    L2CAP_TOO_LONG = 23              /* a job of 65,534 or 65,535 octets */
+    L2CAP_TOO_LONG = 23,             /* a job of 65,534 or 65,535 octets */
+    L2CAP_JOB_OPEN = 24,             /* a job is open in this slot: it goes first */
+    L2CAP_WRONG_LENGTH = 25          /* a portion has more octets than the job still lacks */
 };
 
 /* An answer's kind, and its numbers. */
@@ -99,12 +112,13 @@ enum l2cap_answer {
     L2CAP_ANSWER_LINK = 3,      /* link */
     L2CAP_ANSWER_OPENED = 4,
     L2CAP_ANSWER_DUE = 5,       /* link, slot */
-    L2CAP_ANSWER_FRAMES = 6,    /* link, count */
+    L2CAP_ANSWER_FRAMES = 6,    /* link, count: of a start, the frames to come */
     L2CAP_ANSWER_JOB = 7,       /* link, octets copied, octets in all */
     L2CAP_ANSWER_ATTENTION = 8, /* set, count, lowest */
     L2CAP_ANSWER_NUMBER = 9,    /* the number asked for */
     L2CAP_ANSWER_EVENT = 10,    /* min, max, latency, timeout */
-    L2CAP_ANSWER_RUN = 11       /* calls made, octets that they took: two numbers of four octets each */
+    L2CAP_ANSWER_RUN = 11,      /* calls made, octets that they took: two numbers of four octets each */
+    L2CAP_ANSWER_PORTION = 12   /* link, octets taken, 1 where a frame is full and given out */
 };
 
 /* The result of a connect response (Core, Vol 3 Part A, 4.23). */
@@ -133,7 +147,7 @@ static inline unsigned l2cap_answer_kind(const uint8_t *answer) { return answer[
 
 static inline unsigned l2cap_answer_refusal(const uint8_t *answer) { return answer[1]; }
 
-/* How many octets go out: those at the start of `signal` or `out`. A refused signal can have a reply too. */
+/* How many octets go out: those at the start of `signal`, `out` or `buffer`. A refused signal can have a reply too. */
 static inline uint32_t l2cap_answer_written(const uint8_t *answer) {
     return answer[2] | (uint32_t)answer[3] << 8 | (uint32_t)answer[4] << 16 | (uint32_t)answer[5] << 24;
 }
@@ -148,7 +162,7 @@ static inline uint8_t l2cap_answer_slot(const uint8_t *answer) {
     return (uint8_t)l2cap_answer_number(answer, l2cap_answer_kind(answer) == L2CAP_ANSWER_DUE ? 1 : 0);
 }
 
-/* The link of Link, Due, Frames and Job: what was written goes out on it. */
+/* The link of Link, Due, Frames, Job and Portion: what was written goes out on it. */
 static inline uint16_t l2cap_answer_link(const uint8_t *answer) { return l2cap_answer_number(answer, 0); }
 
 /* The result code of refusal 17 (enum l2cap_result). */
@@ -157,12 +171,16 @@ static inline uint16_t l2cap_answer_result(const uint8_t *answer) { return l2cap
 /* What a question asked for: an MTU, an MPS, an SPSM. */
 static inline uint16_t l2cap_answer_value(const uint8_t *answer) { return l2cap_answer_number(answer, 0); }
 
-/* How many frames a job was cut into. */
+/* How many frames a job was cut into, or will be: the credits that it took or set aside. */
 static inline uint16_t l2cap_answer_frame_count(const uint8_t *answer) { return l2cap_answer_number(answer, 1); }
 
 /* How many of a job's octets were copied, and how many it had. */
 static inline uint16_t l2cap_answer_job_copied(const uint8_t *answer) { return l2cap_answer_number(answer, 1); }
 static inline uint16_t l2cap_answer_job_length(const uint8_t *answer) { return l2cap_answer_number(answer, 2); }
+
+/* How many octets of a portion were taken; the caller gives the others again. And whether a frame is full: l2cap_answer_written octets at the buffer's start go out. */
+static inline uint16_t l2cap_answer_portion_taken(const uint8_t *answer) { return l2cap_answer_number(answer, 1); }
+static inline int l2cap_answer_portion_full(const uint8_t *answer) { return l2cap_answer_number(answer, 2) != 0; }
 
 /* The slots that call: a bit for each, slot 0's the lowest; how many they are; the lowest, n where none calls. */
 static inline uint16_t l2cap_answer_attention_set(const uint8_t *answer) { return l2cap_answer_number(answer, 0); }
@@ -209,8 +227,8 @@ static inline size_t l2cap_run_job(uint8_t *run, size_t run_len, uint8_t slot, c
 
 /* ---- making a table */
 
-/* The archive's version: 1. An archive of another version has another name for it. */
-uint32_t l2cap_version_1(void);
+/* The archive's version: 2. An archive of another version has another name for it. */
+uint32_t l2cap_version_2(void);
 
 /* Makes a table of n slots, d waiting jobs a slot and packets of m octets.
  * Refusals: 1 2. They leave a table of no slots, which every call refuses by 1; the room, and a table of another length than L2CAP_TABLE_OCTETS, stay as they are.
@@ -218,12 +236,12 @@ uint32_t l2cap_version_1(void);
  * Answer: Done. */
 uint32_t l2cap_make(uint8_t *table, size_t table_len, uint8_t *answer, size_t answer_len, uint8_t *room, size_t room_len, uint16_t n, uint16_t d, uint16_t m);
 
-/* Whoever makes a table calls l2cap_version_1 before it: so no program that makes one links with an archive of another version, and the linker's message names the entry. One that only takes up a table which another program
+/* Whoever makes a table calls l2cap_version_2 before it: so no program that makes one links with an archive of another version, and the linker's message names the entry. One that only takes up a table which another program
  * made isn't held to it. It is a function behind the entry's name, and not a pointer that each file would hold, because linkers for firmware drop data that nobody reads. It takes one empty call.
  * It is a macro, and so asks two things: a struct with a member of that name is declared behind this include, and not before it; and a stand-in for the entry, in tests, is defined before the include or behind an #undef, with an
- * l2cap_version_1 beside it. */
+ * l2cap_version_2 beside it. */
 static inline uint32_t l2cap_make_of_this_version(uint8_t *table, size_t table_len, uint8_t *answer, size_t answer_len, uint8_t *room, size_t room_len, uint16_t n, uint16_t d, uint16_t m) {
-    (void)l2cap_version_1();
+    (void)l2cap_version_2();
     return l2cap_make(table, table_len, answer, answer_len, room, room_len, n, d, m);
 }
 #define l2cap_make l2cap_make_of_this_version
@@ -244,7 +262,7 @@ uint32_t l2cap_register_spsm(uint8_t *table, size_t table_len, uint8_t *answer, 
  *         10 where the peer's CID is in use on this link, 4 where no slot is free
  *   0x15  connect response: Done, the attempt with this identifier is open; 8 where there is none: every attempt of this link is freed; 17: the attempt has failed (l2cap_opened tells it, and frees the slot). A result that is no
  *         result code is 15 with a reject
- *   0x16  credits: Done, we have more; 8 where no open channel has this peer CID; 9 where they pass 65,535: the channel is disconnecting, and the job that arrives is wiped
+ *   0x16  credits: Done, we have more; 8 where no open channel has this peer CID; 9 where they pass 65,535, with those set aside for an open job: the channel is disconnecting, and the job that arrives is wiped
  *   0x06  disconnect request: Done. A disconnect is due (l2cap_next_disconnect), the job that arrives is wiped, and waiting jobs can be taken until then; or a reject as reply where the CID is no slot's of this link
  *   0x07  disconnect response: Done. The slot that was disconnecting is freed; nothing for a CID of no such slot
  *   0x12  parameter request: Event where we are central and they are valid (answer by l2cap_send_conn_param_update_res); Done with a reject where we are not, before the body is read, and with response 1 where they are not valid
@@ -381,11 +399,31 @@ uint32_t l2cap_next_disconnect(uint8_t *table, size_t table_len, uint8_t *answer
 uint32_t l2cap_dispatch(uint8_t *table, size_t table_len, uint8_t *answer, size_t answer_len, uint8_t *room, size_t room_len, uint16_t link, uint16_t cid, const uint8_t *payload, size_t payload_len);
 
 /* Cuts a job into frames, each with its L2CAP header, one behind the other, and uses a credit for each.
- * Refusals: 1 6 11 12 23 20 14 3. 11 where the channel isn't open, 12 where the job is above the peer's MTU, 23 for 65,534 and 65,535 octets, 20 where the peer's MPS is under 23, 14 where the frames are more than our credits,
+ * Refusals: 1 6 11 24 12 23 20 14 3. 11 where the channel isn't open, 24 where a job is open in this slot (l2cap_start_job), 12 where the job is above the peer's MTU, 23 for 65,534 and 65,535 octets, 20 where the peer's MPS is under 23, 14 where the frames are more than our credits,
  * 3 where out has fewer octets than the job, its 2 length octets and 4 a frame. Nothing is sent by halves.
  * Writes: table; out.
  * Answer: Frames. */
 uint32_t l2cap_send(uint8_t *table, size_t table_len, uint8_t *answer, size_t answer_len, uint8_t *out, size_t out_len, uint8_t slot, const uint8_t *sdu, size_t sdu_len);
+
+/* Opens a job of so many octets, to be handed over in portions, and sets a credit aside for each of its frames: see Portions above.
+ * Refusals: 1 6 11 24 12 23 20 14 3. As l2cap_send's, for a job of this length; 24 where one is open already, 3 where buffer has fewer than L2CAP_JOB_BUFFER_OCTETS octets for the peer's MPS and this length.
+ * Writes: table; buffer, the first six octets of the first frame: its header and the job's length. Nothing goes out yet.
+ * Answer: Frames, those to come. */
+uint32_t l2cap_start_job(uint8_t *table, size_t table_len, uint8_t *answer, size_t answer_len, uint8_t *buffer, size_t buffer_len, uint8_t slot, size_t length);
+
+/* Gives an open job its next octets. It takes them up to where a frame is full, and gives that frame out: l2cap_answer_written octets at the buffer's start, to be sent before this job's next portion. The octets behind are not
+ * kept: give them again. The portion with the job's last octet gives out its last frame, and closes it. An empty portion takes nothing and changes nothing; but of a job of 0 octets it gives out the one frame.
+ * Refusals: 1 6 11 8 3 25. 11 where the channel isn't open any more, 8 where no job is open, 3 where buffer has fewer octets than the start asked for, 25 where octets are more than the job still lacks: none of them is taken.
+ * Writes: table, where octets were taken or a frame is given out; buffer, the octets taken behind those that stand there, and with a frame's first octet its header. What stands behind them stays.
+ * Answer: Portion. */
+uint32_t l2cap_give_portion(uint8_t *table, size_t table_len, uint8_t *answer, size_t answer_len, uint8_t *buffer, size_t buffer_len, uint8_t slot, const uint8_t *octets, size_t octets_len);
+
+/* Closes an open job before its last frame. Where no frame was given out yet all its credits come back, and the channel stays open. Later the peer holds half a job: the channel disconnects, as by l2cap_disconnect, and no credit comes
+ * back. Its buffer is not written: what it held stands there.
+ * Refusals: 1 2 6 11 8. 11 where the channel isn't open any more, 8 where no job is open.
+ * Writes: table; room, the job that arrives zeroed where the channel disconnects.
+ * Answer: Done. */
+uint32_t l2cap_cancel_job(uint8_t *table, size_t table_len, uint8_t *answer, size_t answer_len, uint8_t *room, size_t room_len, uint8_t slot);
 
 /* Takes the oldest job that waits in a slot: copies as much of it as the buffer holds (the rest is gone), moves later jobs up, and grants the peer new credits where they are due. A job finished before can be taken while the channel
  * disconnects; it grants nothing then.

@@ -82,6 +82,12 @@ static void calls(void) {
     CALL("send, 44 frames", l2cap_send(LENT, IN(out), 0, whole, 1000));
     n = l2cap_run_job(run, sizeof run, 0, whole, 1000);
     CALL("send_run, a job of 44 frames", l2cap_send_run(LENT, IN(out), run, n, IN(answers)));
+    CALL("start_job", l2cap_start_job(LENT, IN(out), 0, 1000));
+    CALL("cancel_job, before a frame", l2cap_cancel_job(LENT, IN(room), 0));
+    l2cap_start_job(LENT, IN(out), 0, 1000);
+    CALL("give_portion, a frame's start", l2cap_give_portion(LENT, IN(out), 0, whole, 10));
+    CALL("give_portion, a frame's end", l2cap_give_portion(LENT, IN(out), 0, whole, 990));
+    CALL("give_portion, more than stated", l2cap_give_portion(LENT, IN(out), 0, whole, 1000));
     CALL("dispatch, a bad frame", l2cap_dispatch(LENT, IN(room), 1, 0x40, IN(whole)));
     CALL("next_disconnect, ours", l2cap_next_disconnect(LENT, IN(room), IN(signal)));
     CALL("signal, a disconnect response", SIGNAL(ended));
@@ -97,13 +103,16 @@ static void calls(void) {
     CALL("signal, a disconnect request", SIGNAL(ends));
     CALL("next_disconnect, the peer's", l2cap_next_disconnect(LENT, IN(room), IN(signal)));
     l2cap_create(LENT, IN(signal), 1, 0x80, DEFAULTS), answered(), SIGNAL(opens);
-    CALL("disconnect_by_cid", l2cap_disconnect_by_cid(LENT, IN(room), 0x42));
+    l2cap_start_job(LENT, IN(out), 2, 30), l2cap_give_portion(LENT, IN(out), 2, whole, 30);
+    CALL("cancel_job, behind a frame", l2cap_cancel_job(LENT, IN(room), 2));
+    l2cap_create(LENT, IN(signal), 1, 0x80, DEFAULTS), answered(), SIGNAL(opens);
+    CALL("disconnect_by_cid", l2cap_disconnect_by_cid(LENT, IN(room), 0x43));
     l2cap_create(LENT, IN(signal), 1, 0x80, DEFAULTS);
-    CALL("give_up", l2cap_give_up(LENT, IN(room), 3));
+    CALL("give_up", l2cap_give_up(LENT, IN(room), 4));
     l2cap_create(LENT, IN(signal), 1, 0x80, DEFAULTS);
     CALL("signal, an unmatched response", SIGNAL(stranger));
     CALL("disconnected", l2cap_disconnected(LENT, IN(room), 1));
-    CALL("version_1", (void)l2cap_version_1());
+    CALL("version_2", (void)l2cap_version_2());
 }
 
 int main(void) {

@@ -1,4 +1,4 @@
-/* The archive from C and from C++: a phone connects, a job comes in and is taken, the link goes down; a channel of our own; runs of frames and jobs; then the refusals that no script reaches. Every reader of an answer is used. */
+/* The archive from C and from C++: a phone connects, a job comes in and is taken, the link goes down; a channel of our own; runs of frames and jobs; jobs in portions; then the refusals that no script reaches. Every reader of an answer is used. */
 #include "l2cap_channels.h"
 #include <stdio.h>
 #include <string.h>
@@ -49,7 +49,7 @@ static void a_phone(void) {
     static const uint8_t grant[] = {8, 0, 5, 0, 0x16, 1, 4, 0, 0x40, 0, 1, 0};
     static const uint8_t sent[] = {5, 0, 0x50, 0, 3, 0, 1, 2, 3};
 
-    check(l2cap_version_1() == L2CAP_CHANNELS_VERSION, "the version is the header's");
+    check(l2cap_version_2() == L2CAP_CHANNELS_VERSION, "the version is the header's");
     memset(room, 7, sizeof room);
     check(ROOM == L2CAP_ROOM_OCTETS(N, D, M) && l2cap_make(LENT, IN(room), N, D, M) == 0 && is(L2CAP_ANSWER_DONE), "make");
     check(zeros(IN(room)), "making zeroes the room");
@@ -192,6 +192,84 @@ static void runs(void) {
     check(l2cap_dispatch_run(LENT, room, 1, NONE, NONE) == L2CAP_BAD_ROOM && l2cap_dispatch_run(NONE, answer, sizeof answer, NONE, NONE, NONE) == L2CAP_BAD_TABLE, "a bad room, and no table");
 }
 
+/* Hands over a job in portions of at most so many octets. Gives how many octets of frames came out, one behind the other in `frames`, or 0 where a call was refused. */
+static size_t in_portions(uint8_t slot, uint8_t *buffer, size_t buffer_len, const uint8_t *sdu, size_t n, size_t most, uint8_t *frames) {
+    size_t at = 0, wrote = 0;
+    unsigned k, count;
+    if (l2cap_start_job(LENT, buffer, buffer_len, slot, n) || !is(L2CAP_ANSWER_FRAMES) || l2cap_answer_written(answer)) return 0;
+    for (k = 0, count = l2cap_answer_frame_count(answer); k < count;) {
+        if (l2cap_give_portion(LENT, buffer, buffer_len, slot, sdu + at, n - at < most ? n - at : most) || !is(L2CAP_ANSWER_PORTION) || l2cap_answer_link(answer) != 1) return 0;
+        if (!l2cap_answer_portion_full(answer) != !l2cap_answer_written(answer)) return 0;
+        at += l2cap_answer_portion_taken(answer), k += l2cap_answer_portion_full(answer) ? 1u : 0u;
+        memcpy(frames + wrote, buffer, l2cap_answer_written(answer));
+        wrote += l2cap_answer_written(answer);
+    }
+    return at == n ? wrote : 0;
+}
+
+/* Two slots of one phone, and jobs in portions for them. */
+static void portions(void) {
+    static const uint8_t first[] = {0x14, 7, 10, 0, 0x80, 0, 0x50, 0, 100, 0, 23, 0, 5, 0}, second[] = {0x14, 8, 10, 0, 0x80, 0, 0x51, 0, 100, 0, 23, 0, 0xFD, 0xFF};
+    static const uint8_t credits[] = {0x16, 9, 4, 0, 0x51, 0, 3, 0}, begun[] = {7, 0, 0x50, 0, 5, 0, 9, 9, 9, 9, 9, 9}, empty[] = {2, 0, 0x50, 0, 0, 0}, shared[] = {7, 0, 0x51, 0, 5, 0, 1, 2, 3, 4, 5};
+    uint8_t sdu[60], before[L2CAP_TABLE_OCTETS], after[L2CAP_TABLE_OCTETS], buffer[40], other[27], was[27], frames[256];
+    size_t n, most, whole;
+    uint8_t slot;
+
+    for (n = 0; n < sizeof sdu; n++) sdu[n] = (uint8_t)(n + 1);
+    check(l2cap_make(LENT, IN(room), N, D, M) == 0 && l2cap_register_spsm(LENT, 128) == 0, "a new table");
+    check(l2cap_signal(LENT, IN(room), IN(signal), 1, 1, 0, IN(first)) == 0 && l2cap_signal(LENT, IN(room), IN(signal), 1, 1, 0, IN(second)) == 0, "two requests");
+    for (slot = 0; slot < N; slot++)
+        check(l2cap_next_pending(LENT, 1, 1) == 0 && l2cap_accept_pending(LENT, IN(signal), slot, L2CAP_DEFAULT, L2CAP_DEFAULT, L2CAP_EVERY, 1, L2CAP_DEFAULT) == 0, "accepted");
+    memcpy(before, table, sizeof table);
+
+    for (n = 0; n <= sizeof sdu; n++) { /* of every length, in portions of every length: the frames and the table of one send */
+        int same = L2CAP_JOB_BUFFER_OCTETS(23, n) == 4 + (n < 21 ? n + 2 : 23);
+        memcpy(table, before, sizeof table);
+        same = same && l2cap_send(LENT, IN(out), 0, sdu, n) == 0;
+        whole = l2cap_answer_written(answer);
+        memcpy(after, table, sizeof table);
+        for (most = 1; most <= n + 1; most++) {
+            memcpy(table, before, sizeof table);
+            memset(buffer, 9, sizeof buffer);
+            same = same && in_portions(0, buffer, L2CAP_JOB_BUFFER_OCTETS(23, n), sdu, n, most, frames) == whole && !memcmp(frames, out, whole) && !memcmp(table, after, sizeof table);
+            same = same && buffer[L2CAP_JOB_BUFFER_OCTETS(23, n)] == 9;
+        }
+        check(same, "portions give the frames of one send");
+    }
+
+    memcpy(table, before, sizeof table);
+    memset(buffer, 9, sizeof buffer);
+    check(refused(l2cap_start_job(LENT, buffer, 10, 0, 5), L2CAP_NO_ROOM) && refused(l2cap_start_job(LENT, IN(buffer), 0, 101), L2CAP_INSUFFICIENT_SPACE) && refused(l2cap_start_job(LENT, IN(buffer), 0, (size_t)1 << 40), L2CAP_INSUFFICIENT_SPACE), "a short buffer, and jobs above the peer's MTU");
+    check(refused(l2cap_give_portion(LENT, IN(buffer), 0, IN(sdu)), L2CAP_NOT_FOUND) && refused(l2cap_cancel_job(LENT, IN(room), 0), L2CAP_NOT_FOUND), "no job is open: refusal 8");
+    check(!memcmp(table, before, sizeof table) && buffer[0] == 9, "and nothing has changed");
+    check(l2cap_start_job(LENT, buffer, 12, 0, 5) == 0 && l2cap_answer_link(answer) == 1 && l2cap_answer_frame_count(answer) == 1 && l2cap_answer_written(answer) == 0, "a start, of one frame");
+    check(!memcmp(buffer, begun, sizeof begun), "its header and length stand in the buffer");
+    check(refused(l2cap_send(LENT, IN(out), 0, sdu, 1), L2CAP_JOB_OPEN) && refused(l2cap_start_job(LENT, IN(other), 0, 1), L2CAP_JOB_OPEN), "a second job is refusal 24");
+    check(l2cap_send(LENT, IN(out), 1, sdu, 1) == 0, "but in another slot it goes out");
+    memcpy(after, table, sizeof table);
+    check(refused(l2cap_give_portion(LENT, IN(buffer), 0, sdu, 6), L2CAP_WRONG_LENGTH) && refused(l2cap_give_portion(LENT, buffer, 10, 0, sdu, 6), L2CAP_NO_ROOM), "more octets than stated is refusal 25, behind 3");
+    check(l2cap_give_portion(LENT, IN(buffer), 0, NONE) == 0 && is(L2CAP_ANSWER_PORTION) && l2cap_answer_portion_taken(answer) == 0 && !l2cap_answer_portion_full(answer), "an empty portion");
+    check(!memcmp(table, after, sizeof table) && !memcmp(buffer, begun, sizeof begun), "and nothing has changed");
+    check(refused(l2cap_cancel_job(LENT, room, sizeof room - 1, 0), L2CAP_BAD_ROOM) && refused(l2cap_cancel_job(LENT, IN(room), N), L2CAP_BAD_SLOT), "a cancel's room and slot");
+    check(l2cap_give_portion(LENT, IN(buffer), 0, sdu, 2) == 0 && l2cap_answer_portion_taken(answer) == 2 && l2cap_cancel_job(LENT, IN(room), 0) == 0 && is(L2CAP_ANSWER_DONE), "cancelled before its frame");
+    check(l2cap_start_job(LENT, buffer, 6, 0, 0) == 0 && l2cap_give_portion(LENT, IN(buffer), 0, NONE) == 0 && l2cap_answer_portion_full(answer) && wrote(buffer, IN(empty)), "a job of no octets is one empty portion");
+    /* Two open jobs share a buffer: nobody finds it out, and the first one's frame has what the second's start wrote. */
+    check(l2cap_start_job(LENT, IN(other), 0, 5) == 0 && l2cap_start_job(LENT, IN(other), 1, 5) == 0, "two starts in one buffer");
+    check(l2cap_give_portion(LENT, IN(other), 0, sdu, 5) == 0 && wrote(other, IN(shared)) && l2cap_give_portion(LENT, IN(other), 1, sdu, 5) == 0 && wrote(other, IN(shared)), "and both frames name the second's CID");
+    check(l2cap_send(LENT, IN(out), 0, sdu, 60) == 0 && l2cap_answer_frame_count(answer) == 3 && refused(l2cap_send(LENT, IN(out), 0, sdu, 0), L2CAP_BUSY), "of five credits the cancelled job's came back");
+
+    check(l2cap_start_job(LENT, IN(other), 1, 30) == 0 && l2cap_give_portion(LENT, IN(other), 1, sdu, 30) == 0 && l2cap_answer_portion_taken(answer) == 21, "a frame of the second slot's job");
+    memcpy(was, other, sizeof other);
+    check(l2cap_give_portion(LENT, IN(other), 1, sdu + 21, 4) == 0 && other[0] == 9 && !memcmp(other + 4, sdu + 21, 4), "the next frame's octets stand behind its header");
+    check(!memcmp(other + 8, was + 8, sizeof other - 8), "and what stood behind them stays");
+    /* It had 65,533 credits: 65,529 are left of them, and 1 is set aside. */
+    memcpy(after, table, sizeof table);
+    check(l2cap_cancel_job(LENT, IN(room), 1) == 0 && refused(l2cap_give_portion(LENT, IN(other), 1, sdu, 1), L2CAP_CHANNEL_CLOSED) && refused(l2cap_cancel_job(LENT, IN(room), 1), L2CAP_CHANNEL_CLOSED), "a later cancel ends the channel");
+    memcpy(table, after, sizeof table);
+    check(l2cap_signal(LENT, IN(room), IN(signal), 1, 1, 0, IN(credits)) == 0 && refused(l2cap_signal(LENT, IN(room), IN(signal), 1, 1, 0, IN(credits)), L2CAP_INVALID_VALUE), "credits set aside count");
+    check(refused(l2cap_give_portion(LENT, IN(other), 1, sdu, 1), L2CAP_CHANNEL_CLOSED), "and the job went with the channel");
+}
+
 /* The octets of an answer, each number above what one octet holds. */
 static void readers(void) {
     static const uint8_t octets[L2CAP_ANSWER_OCTETS] = {L2CAP_ANSWER_DUE, 2, 0x01, 0x02, 0x03, 0x84, 0x11, 0x12, 0x13, 0x14, 0x15, 0x16, 0x17, 0x98, 0, 0};
@@ -199,6 +277,7 @@ static void readers(void) {
     check(l2cap_answer_number(octets, 0) == 0x1211 && l2cap_answer_number(octets, 3) == 0x9817, "numbers of two octets");
     check(l2cap_answer_attention_set(octets) == 0x1211, "a set of sixteen slots");
     check(l2cap_answer_slot(octets) == 0x13, "a slot behind its link");
+    check(l2cap_answer_portion_taken(octets) == 0x1413 && l2cap_answer_portion_full(octets) == 1, "a portion's numbers");
     check(l2cap_answer_run_count(octets) == 0x14131211 && l2cap_answer_run_used(octets) == 0x98171615, "a run's numbers, of four octets");
     check(l2cap_run_answer(octets, 1) == octets + 16, "the next answer of a run");
 }
@@ -210,6 +289,7 @@ int main(void) {
     an_end();
     our_own();
     runs();
+    portions();
     readers();
     printf("%d passed, %d failed\n", passed, failed);
     return failed != 0;

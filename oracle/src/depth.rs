@@ -41,6 +41,29 @@ pub fn marks(view: &View, call: &Call, reply: &Reply) -> Vec<&'static str> {
                 marks.push("the last peer credit used");
             }
         }
+        Call::Start { length, .. } if ok && !columns.is_empty() => {
+            marks.push(if *length == 0 { "a job of 0 octets begun" } else { "a job in portions begun" });
+            if view.slots.iter().filter(|slot| slot.job.is_some()).count() > 0 {
+                marks.push("two jobs open at once");
+            }
+        }
+        Call::Portion { octets, .. } if ok => {
+            let job = named.and_then(|slot| slot.job);
+            if columns[1] == "1" {
+                marks.push(if job.is_some_and(|job| job.aside == 1) {
+                    "the last frame of a job in portions"
+                } else {
+                    "a frame of a job in portions"
+                });
+                if columns[0] != octets.len().to_string() {
+                    marks.push("a portion that goes past its frame's end");
+                }
+            } else if octets.is_empty() {
+                marks.push("an empty portion");
+            }
+        }
+        Call::Portion { .. } if answered == Some(Answer::Number(25)) => marks.push("more octets than stated"),
+        Call::Cancel { .. } if ok => marks.push("a job cancelled before its first frame"),
         Call::LinkDown { link } if view.slots.iter().any(|slot| slot.is_of(*link) && slot.state == State::Connected && slot.want > 0) => {
             marks.push("a link down in the middle of a job");
         }

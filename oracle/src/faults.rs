@@ -24,10 +24,14 @@ pub enum Fault {
     EventTurned,
     WrongLink,
     CreditsShort,
+    FrameOctet,
+    TakenAll,
+    AsideKept,
+    LastFrameOpen,
 }
 
 impl Fault {
-    pub const ALL: [Fault; 16] = [
+    pub const ALL: [Fault; 20] = [
         Fault::LostLine,
         Fault::TakenOctet,
         Fault::CidsTurned,
@@ -44,6 +48,10 @@ impl Fault {
         Fault::EventTurned,
         Fault::WrongLink,
         Fault::CreditsShort,
+        Fault::FrameOctet,
+        Fault::TakenAll,
+        Fault::AsideKept,
+        Fault::LastFrameOpen,
     ];
 
     pub fn title(self) -> &'static str {
@@ -65,6 +73,10 @@ impl Fault {
             Fault::EventTurned => "a parameter event has max before min",
             Fault::WrongLink => "a disconnect on link 3839 is given with link 3838",
             Fault::CreditsShort => "65,535 peer credits show as 65,534",
+            Fault::FrameOctet => "the last octet of a frame that a portion gives out is another",
+            Fault::TakenAll => "a portion says that it took all, though a frame was full before",
+            Fault::AsideKept => "an open job's credits set aside show one too many behind a frame",
+            Fault::LastFrameOpen => "a job's last octet gives out no frame",
         }
     }
 
@@ -117,6 +129,28 @@ impl Fault {
             (Fault::WrongLink, Call::NextDisconnect) => change_words(&mut lines[0], |words| {
                 if let Some(link) = words.get_mut(2).filter(|link| *link == "3839") {
                     *link = "3838".to_string();
+                }
+            }),
+            (Fault::FrameOctet, Call::Portion { .. }) => change_words(&mut lines[0], |words| {
+                if words[1].len() > 2 {
+                    let last = if words[1].ends_with('0') { "1" } else { "0" };
+                    let end = words[1].len();
+                    words[1].replace_range(end - 1.., last);
+                }
+            }),
+            (Fault::TakenAll, Call::Portion { octets, .. }) => change_words(&mut lines[0], |words| {
+                if words.len() == 4 && words[3] == "1" {
+                    words[2] = octets.len().to_string();
+                }
+            }),
+            (Fault::AsideKept, Call::OpenJob { .. }) => change_words(&mut lines[0], |words| {
+                if words.len() == 6 && words[4] == "0" && words[5] != "0" {
+                    words[5] = (words[5].parse::<usize>().unwrap_or(0) + 1).to_string();
+                }
+            }),
+            (Fault::LastFrameOpen, Call::Portion { .. }) => change_words(&mut lines[0], |words| {
+                if words.len() == 4 && words[3] == "1" && words[2] == "1" {
+                    (words[1], words[3]) = ("-".to_string(), "0".to_string());
                 }
             }),
             (_, Call::View) => lines.iter_mut().skip(1).for_each(|line| change_words(line, |words| self.slip_in_view(words))),

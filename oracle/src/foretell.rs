@@ -1,10 +1,10 @@
 //! What stands after a call at which the tables part: document 01's rule alone, as the original went another way. Such a call ends its script.
 
 use crate::kinds::Kind;
-use language::{Call, Sight, SlotView, State};
+use language::{signals, Call, JobView, Sight, SlotView, State};
 
-/// Table and room after a call, from those before it. A refusal leaves both as they were, unless a line below says more.
-pub fn foretold(before: Sight, call: &Call, kind: Kind) -> Sight {
+/// Table and room after a call, or after signal `at` of an `S` line, from those before it. A refusal leaves both as they were, unless a line below says more.
+pub fn foretold(before: Sight, call: &Call, at: usize, kind: Kind) -> Sight {
     let mut after = before;
     let cid = match call {
         Call::Frame { cid, .. } => after.view.slot_of(*cid),
@@ -20,6 +20,15 @@ pub fn foretold(before: Sight, call: &Call, kind: Kind) -> Sight {
             let record = &mut after.view.slots[slot];
             record.peer_credits -= (sdu.len() + 2).div_ceil(usize::from(record.peer_mps)) as u16;
         }
+        (Kind::LongFrame, Call::Start { length, .. }) => begun(&mut after, slot, *length),
+        (Kind::SetAside, Call::Signal { link, pdu, .. }) => {
+            let cid = signals(pdu).unwrap_or_default()[at][4..6].to_vec();
+            let named =
+                |record: &SlotView| record.state == State::Connected && record.link == *link && record.peer_cid.to_le_bytes()[..] == cid;
+            let slot = after.view.slots.iter().position(named).expect("the open channel that it names");
+            left(&mut after, slot);
+        }
+        (Kind::LateCancel, _) => left(&mut after, slot),
         (Kind::TakeWhileClosing | Kind::ZeroGrant, _) => taken(&mut after, slot),
         _ => {}
     }
@@ -28,12 +37,31 @@ pub fn foretold(before: Sight, call: &Call, kind: Kind) -> Sight {
 
 /// A frame that a channel can't take has used a credit, and its slot leaves Connected.
 fn disconnected(sight: &mut Sight, slot: usize) {
-    let record = &sight.view.slots[slot];
+    let record = &mut sight.view.slots[slot];
+    (record.credits, record.received) = (record.credits - 1, record.received + 1);
+    left(sight, slot);
+}
+
+/// A slot leaves Connected: its assembly's place is zeroed, and its open job closed, of whose credits none come back.
+fn left(sight: &mut Sight, slot: usize) {
     let state = State::Disconnecting { announced: false };
-    let record = SlotView { state, credits: record.credits - 1, received: record.received + 1, have: 0, want: 0, ..record.clone() };
+    let record = SlotView { state, have: 0, want: 0, job: None, ..sight.view.slots[slot].clone() };
     let d = sight.view.d;
     record.settle_places(sight.places_mut(slot), d);
     sight.view.slots[slot] = record;
+}
+
+/// A job in portions is begun: its credits are set aside, and the first six octets of its first frame stand in the buffer.
+fn begun(sight: &mut Sight, slot: usize, length: u16) {
+    let record = &mut sight.view.slots[slot];
+    let payload = (usize::from(length) + 2).min(record.peer_mps.into()) as u16;
+    let frames = (usize::from(length) + 2).div_ceil(record.peer_mps.into()) as u16;
+    record.peer_credits -= frames;
+    record.job = Some(JobView { length, taken: 0, filled: 2, aside: frames });
+    let octets = [payload, record.peer_cid, length].map(u16::to_le_bytes).concat();
+    let buffer = &mut sight.buffers[slot];
+    buffer.resize(buffer.len().max(octets.len()), 0);
+    buffer[..octets.len()].copy_from_slice(&octets);
 }
 
 /// The oldest job is gone, and the later ones moved up one place.

@@ -30,10 +30,13 @@ pub enum Kind {
     JobsLeft = 22,
     AssemblyLeft = 23,
     NoPacket = 24,
+    JobOpen = 46,
+    SetAside = 47,
+    LateCancel = 48,
 }
 
 impl Kind {
-    pub const ALL: [Kind; 24] = [
+    pub const ALL: [Kind; 27] = [
         Kind::SpsmIgnored,
         Kind::SlotPanic,
         Kind::HeldPanic,
@@ -58,6 +61,9 @@ impl Kind {
         Kind::JobsLeft,
         Kind::AssemblyLeft,
         Kind::NoPacket,
+        Kind::JobOpen,
+        Kind::SetAside,
+        Kind::LateCancel,
     ];
 
     pub fn number(self) -> usize {
@@ -90,6 +96,9 @@ impl Kind {
             Kind::JobsLeft => "jobs of the last owner stand in a freed slot",
             Kind::AssemblyLeft => "an assembly stays open after Connected is left",
             Kind::NoPacket => "a payload longer than M has no packet in the original",
+            Kind::JobOpen => "a job is sent while another one is open",
+            Kind::SetAside => "credits set aside don't count in the sum of a credit signal",
+            Kind::LateCancel => "a job that is let go of behind its first frame gives credits back, and the channel stays",
         }
     }
 }
@@ -112,7 +121,9 @@ fn refusal(kind: Kind, number: u16, parts: bool) -> Option<Verdict> {
 pub fn verdict(view: &View, oldest_job: Option<&[u8]>, call: &Call) -> Option<Verdict> {
     let slot = match call.slot() {
         Some(slot) if slot >= view.n() => {
-            let run = slot <= 255 && !matches!(call, Call::Room { .. });
+            // The driver answers those that the original has no call for.
+            let own = matches!(call, Call::Room { .. } | Call::OpenJob { .. } | Call::Portion { .. } | Call::Cancel { .. });
+            let run = slot <= 255 && !own;
             return if run { refusal(Kind::SlotPanic, 6, false) } else { None };
         }
         Some(slot) => Some(&view.slots[usize::from(slot)]),
@@ -145,7 +156,17 @@ pub fn verdict(view: &View, oldest_job: Option<&[u8]>, call: &Call) -> Option<Ve
         (Call::AddHold { .. }, Some(slot)) if slot.hold == 255 => refusal(Kind::HeldPanic, 22, false),
         (Call::Release { .. }, Some(slot)) if slot.hold == 0 => refusal(Kind::HeldPanic, 22, false),
         (Call::Frame { link, cid, payload }, _) => frame(view, *link, *cid, payload),
-        (Call::Send { sdu, .. }, Some(slot)) => send(view, slot, sdu),
+        (Call::Send { sdu, .. }, Some(slot)) => match sending(view, slot, sdu.len())? {
+            (Kind::LongFrame, ..) => {
+                Some(Verdict { kind: Kind::LongFrame, row: cut(sdu, slot.peer_mps, slot.peer_cid).to_string(), parts: true })
+            }
+            (kind, number, sent) => refusal(kind, number, sent),
+        },
+        (Call::Start { length, size, .. }, Some(slot)) => start(view, slot, usize::from(*length), usize::from(*size)),
+        // Gone behind the first frame: the length octets and those taken aren't all in the frame that is being filled.
+        (Call::Cancel { .. }, Some(SlotView { state: State::Connected, job: Some(job), .. })) if job.taken + 2 != job.filled => {
+            refusal(Kind::LateCancel, 0, true)
+        }
         (Call::Take { size, .. }, Some(slot)) => take(slot, oldest_job, usize::from(*size)),
         _ => None,
     }
@@ -262,23 +283,46 @@ fn cut(sdu: &[u8], mps: u16, peer_cid: u16) -> Row {
     Row::number(0).octets(octets.collect()).column(n)
 }
 
-fn send(view: &View, slot: &SlotView, sdu: &[u8]) -> Option<Verdict> {
-    if slot.state != State::Connected || sdu.len() > usize::from(slot.peer_mtu) {
+/// A job of so many octets that is sent or begun: the kind, what document 01 or 02 answers, and whether the original sends it.
+fn sending(view: &View, slot: &SlotView, length: usize) -> Option<(Kind, u16, bool)> {
+    let passes = length <= usize::from(slot.peer_mtu);
+    if slot.state != State::Connected || !(passes || slot.job.is_some()) {
         return None;
     }
     let mps = usize::from(slot.peer_mps);
     // The original's own count: its length sum stops at 65,535.
-    let paid = mps > 0 && (sdu.len() + 2).min(65_535).div_ceil(mps) <= usize::from(slot.peer_credits);
-    let fits = (sdu.len() + 2).min(mps) + 4 <= usize::from(view.m);
-    let sent = mps >= 2 && paid && fits;
-    if sdu.len() >= 65_534 {
-        refusal(Kind::TooLong, 23, sent)
+    let paid = mps > 0 && (length + 2).min(65_535).div_ceil(mps) <= usize::from(slot.peer_credits);
+    let fits = (length + 2).min(mps) + 4 <= usize::from(view.m);
+    let sent = passes && mps >= 2 && paid && fits;
+    if slot.job.is_some() {
+        Some((Kind::JobOpen, 24, sent))
+    } else if length >= 65_534 {
+        Some((Kind::TooLong, 23, sent))
     } else if mps < 23 {
-        refusal(Kind::SmallMps, 20, sent)
+        Some((Kind::SmallMps, 20, sent))
     } else if paid && !fits {
-        Some(Verdict { kind: Kind::LongFrame, row: cut(sdu, slot.peer_mps, slot.peer_cid).to_string(), parts: true })
+        Some((Kind::LongFrame, 0, false))
     } else {
         None
+    }
+}
+
+/// The least buffer of a job in portions.
+pub fn buffer(slot: &SlotView, length: usize) -> usize {
+    4 + (length + 2).min(slot.peer_mps.into())
+}
+
+fn start(view: &View, slot: &SlotView, length: usize, size: usize) -> Option<Verdict> {
+    let (kind, number, sent) = sending(view, slot, length)?;
+    let short = size < buffer(slot, length);
+    match kind {
+        Kind::LongFrame if short => refusal(kind, 3, false),
+        Kind::LongFrame => {
+            let frames = (length + 2).div_ceil(slot.peer_mps.into());
+            Some(Verdict { kind, row: Row::number(0).column(frames).to_string(), parts: true })
+        }
+        // The driver takes back what was sent with too short a buffer, but not beside an open job.
+        _ => refusal(kind, number, sent && (!short || kind == Kind::JobOpen)),
     }
 }
 
@@ -336,6 +380,17 @@ pub fn signal_verdict(view: &View, link: u16, signal: &[u8]) -> Option<Verdict> 
             let kind = if record.free() { Kind::ClosedHit } else { Kind::DisconnectAnyLink };
             let reject = Row::number(0).octets(vec![0x06, 0x00, 0x05, 0x00, 0x01, identifier, 0x02, 0x00, 0x02, 0x00]);
             Some(Verdict { kind, row: reject.to_string(), parts: true })
+        }
+        0x16 => {
+            let (cid, given) = (u16::from_le_bytes([dcid_low, dcid_high]), u16::from_le_bytes([scid_low, scid_high]));
+            let open = |record: &&SlotView| record.state == State::Connected && record.link == link && record.peer_cid == cid;
+            let record = view.slots.iter().find(open)?;
+            let (sum, aside) = (u32::from(record.peer_credits) + u32::from(given), u32::from(record.job?.aside));
+            if sum <= 65_535 && sum + aside > 65_535 {
+                refusal(Kind::SetAside, 9, true)
+            } else {
+                None
+            }
         }
         0x07 => {
             let record = &view.slots[view.slot_of(u16::from_le_bytes([scid_low, scid_high]))?];

@@ -169,7 +169,7 @@ impl Before {
                 if parted {
                     let before = at.checked_sub(1).map_or(&self.sight, |last| &reply.between[last]);
                     step.after.truncate(at);
-                    step.after.push(foretold(before.clone().settled(), &self.call, verdict.kind));
+                    step.after.push(foretold(before.clone().settled(), &self.call, at, verdict.kind));
                 }
             }
         }

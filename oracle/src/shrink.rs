@@ -168,7 +168,8 @@ fn slot_mut(call: &mut Call) -> Option<&mut u16> {
     match call {
         Accept { slot, .. } | Reject { slot, .. } | DropPending { slot } | Opened { slot, .. } | GiveUp { slot } => Some(slot),
         AddHold { slot } | Release { slot } | Disconnect { slot } | Send { slot, .. } | Take { slot, .. } => Some(slot),
-        Queries { slot } | Room { slot } => Some(slot),
+        Start { slot, .. } | Portion { slot, .. } | Cancel { slot } => Some(slot),
+        Queries { slot } | Room { slot } | OpenJob { slot } => Some(slot),
         _ => None,
     }
 }
@@ -210,6 +211,11 @@ fn simpler(call: &Call) -> Vec<Call> {
         }
         Call::Frame { link, cid, payload } => shorter(&payload).into_iter().map(|payload| Call::Frame { link, cid, payload }).collect(),
         Call::Send { slot, sdu } => shorter(&sdu).into_iter().map(|sdu| Call::Send { slot, sdu }).collect(),
+        Call::Start { slot, length, size } => {
+            let lengths = [0, 1, length / 2, length.saturating_sub(1)].into_iter().filter(|less| *less < length);
+            lengths.map(|length| Call::Start { slot, length, size }).collect()
+        }
+        Call::Portion { slot, size, octets } => shorter(&octets).into_iter().map(|octets| Call::Portion { slot, size, octets }).collect(),
         Call::Accept { slot, config } => plainer(&config).into_iter().map(|config| Call::Accept { slot, config }).collect(),
         Call::Create { link, spsm, config } => plainer(&config).into_iter().map(|config| Call::Create { link, spsm, config }).collect(),
         Call::Take { slot, size } if size > 8 => vec![Call::Take { slot, size: 8 }],

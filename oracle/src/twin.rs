@@ -28,6 +28,7 @@ fn life(script: &Script, rng: &mut Rng) -> Option<Life> {
     let carries = |step: &Step| match &step.call {
         Call::Frame { link, payload, .. } if !payload.is_empty() && *link <= HIGHEST_LINK => Some(*link),
         Call::Send { sdu, .. } if !sdu.is_empty() => step.owner,
+        Call::Portion { octets, .. } if !octets.is_empty() => step.owner,
         _ => None,
     };
     let carrying: Vec<(usize, u16)> =
@@ -50,6 +51,9 @@ fn changed(step: &Step, life: &Life, rng: &mut Rng) -> Call {
             Call::Frame { link: *link, cid: *cid, payload: [&payload[..public], &octets].concat() }
         }
         Call::Send { slot, sdu } if step.owner == Some(life.link) => Call::Send { slot: *slot, sdu: rng.octets(sdu.len()) },
+        Call::Portion { slot, size, octets } if step.owner == Some(life.link) => {
+            Call::Portion { slot: *slot, size: *size, octets: rng.octets(octets.len()) }
+        }
         call => call.clone(),
     }
 }
@@ -66,7 +70,11 @@ impl Twin {
             let lasts = (life.first..life.last).contains(&at);
             let own = lasts && step.owner == Some(life.link);
             let other = if lasts { changed(step, &life, rng) } else { step.call.clone() };
-            let octets_differ = own && matches!(step.call, Call::Send { .. } | Call::Take { .. } | Call::Room { .. });
+            let octets_differ = own
+                && matches!(
+                    step.call,
+                    Call::Send { .. } | Call::Portion { .. } | Call::OpenJob { .. } | Call::Take { .. } | Call::Room { .. }
+                );
             twin.line(&step.call, &other, step.port.len(), octets_differ);
             if at == life.last {
                 (0..n).for_each(|slot| twin.line(&Call::Room { slot }, &Call::Room { slot }, 1, false));

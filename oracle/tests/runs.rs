@@ -46,6 +46,37 @@ fn the_bench_frame_counts() {
     }
 }
 
+/// A job in portions, cut in every way of two: the frames of one send, and its record.
+#[test]
+fn portions_are_one_send() {
+    let open = "T 2 2 64\nR 128\nS 1 1 c 14070a0080005000640017000500\nP 1 1\nA 0 - - - -";
+    for length in [0, 1, 20, 21, 22, 44, 45, 60] {
+        let octets: String = (0..length).map(|octet| format!("{octet:02x}")).collect();
+        let whole = if length == 0 { "-" } else { &octets };
+        let sent = rows(&format!("{open}\nK 0 {whole}\nV"));
+        for cut in 0..=length {
+            // What a call doesn't take is given again.
+            let (mut script, mut given, mut end) = (format!("{open}\nN 0 {length} 27"), 0, cut);
+            let mut frames = String::new();
+            let job = loop {
+                let portion = if given == end { "-" } else { &octets[2 * given..2 * end] };
+                script += &format!("\np 0 27 {portion}");
+                let row = rows(&script).pop().unwrap();
+                let words: Vec<&str> = row.split(' ').collect();
+                frames += words[1].trim_matches('-');
+                given += words[2].parse::<usize>().unwrap();
+                if given == end && end < length {
+                    end = length;
+                } else if given == length {
+                    break rows(&format!("{script}\nV"));
+                }
+            };
+            assert_eq!(format!("0 {frames} {}", job[5].split(' ').nth(2).unwrap()), sent[5], "{length} octets cut at {cut}");
+            assert_eq!(job[job.len() - 3..], sent[sent.len() - 3..]);
+        }
+    }
+}
+
 #[test]
 fn the_bench_credits() {
     for (more, row) in [("0500", "0 -"), ("0600", "9 -")] {
@@ -103,7 +134,7 @@ fn an_undefined_result_code_never_reaches_the_original() {
 #[test]
 fn the_list_is_numbered_in_order() {
     let numbers: Vec<usize> = Kind::ALL.iter().map(|kind| kind.number()).collect();
-    assert_eq!(numbers, (1..=Kind::ALL.len()).collect::<Vec<_>>());
+    assert!(numbers[..24].iter().copied().eq(1..=24) && numbers.windows(2).all(|two| two[0] < two[1]));
 }
 
 #[test]

@@ -1,10 +1,10 @@
 //! The answer of a row, by name and in words.
 
-use crate::look::{room, table};
+use crate::look::{open_job, room, table};
 use crate::refusals::{refused, result};
 use crate::seen::Seen;
 use crate::words::{count, list, parameters, short_hex, sizes};
-use language::{Answer, Call, Row, State, View};
+use language::{Answer, Call, JobView, Row, State, View};
 
 /// The lines of an answer. `view` is what a `V` shows.
 pub fn answer(call: &Call, row: &Row, view: Option<&View>, before: &Seen) -> Vec<String> {
@@ -46,6 +46,17 @@ fn said(call: &Call, row: &Row, columns: &[u64], before: &Seen) -> Option<String
         (Call::NextDisconnect, []) => "no".to_string(),
         (Call::NextDisconnect, [link, slot]) => format!("yes, of slot {slot}, for link {link}"),
         (Call::Send { .. }, [frames]) => format!("sent in {}", count(usize::try_from(*frames).ok()?, "frame")),
+        (Call::Start { .. }, [frames]) => format!("begun, with {} to come", count(usize::try_from(*frames).ok()?, "frame")),
+        (Call::Portion { octets, .. }, [taken, full]) => {
+            let all = usize::try_from(*taken).ok()? == octets.len();
+            let taken = if all { count(octets.len(), "octet") } else { format!("the first {taken} of {}", count(octets.len(), "octet")) };
+            format!("{taken} taken, {}", if *full == 1 { "and a frame is full" } else { "no frame is full" })
+        }
+        (Call::OpenJob { .. }, [length, taken, filled, aside]) => {
+            let narrow = |number: &u64| u16::try_from(*number).ok();
+            let job = JobView { length: narrow(length)?, taken: narrow(taken)?, filled: narrow(filled)?, aside: narrow(aside)? };
+            open_job(job, &row.octets)
+        }
         (Call::Take { .. }, []) => "no job waits".to_string(),
         (Call::Take { .. }, [copied, length, ..]) => {
             let length = count(usize::try_from(*length).ok()?, "octet");

@@ -39,6 +39,11 @@ pub fn asked(call: &Call, before: &Seen) -> String {
             format!("{} sends a frame to {}: {}", phone(*link), before.cid(*cid), brought(*link, *cid, payload, before))
         }
         Call::Send { slot, sdu } => format!("send a job of {} {}", count(sdu.len(), "octet"), to(slot)),
+        Call::Start { slot, length, size } => {
+            format!("begin a job of {} {}, in portions, in a buffer of {}", count(*length, "octet"), to(slot), count(*size, "octet"))
+        }
+        Call::Portion { slot, octets, .. } => format!("give {} of the open job {}", count(octets.len(), "octet"), to(slot)),
+        Call::Cancel { slot } => format!("cancel the open job {}", to(slot)),
         Call::Take { slot, size } => format!("take the oldest job of {} into a buffer of {}", at(slot), count(*size, "octet")),
         Call::Attention => "which slots call for attention?".to_string(),
         Call::Queries { slot } => format!("the numbers of slot {slot}"),
@@ -50,6 +55,7 @@ pub fn asked(call: &Call, before: &Seen) -> String {
         }
         Call::View => "show the table".to_string(),
         Call::Room { slot } => format!("show the room of slot {slot}"),
+        Call::OpenJob { slot } => format!("show the open job of slot {slot}"),
         Call::Unread(_) => "nothing that can be read".to_string(),
     }
 }

@@ -1,6 +1,6 @@
 //! What a call changed in table and room.
 
-use crate::look::waiting;
+use crate::look::{progress, waiting};
 use crate::seen::{held, Held, Seen};
 use crate::words::{count, holds, phone, state};
 use language::{Answer, Call, Row, SlotView, State};
@@ -59,9 +59,10 @@ struct Step<'a> {
 impl Step<'_> {
     /// What was lost stands first, in a line of its own.
     fn lines(&self) -> Vec<String> {
-        let facts = [self.state(), self.arrival(), self.taken(), self.credits(), self.peer_credits(), self.holds()];
+        let facts = [self.state(), self.arrival(), self.taken(), self.job(), self.credits(), self.peer_credits(), self.holds()];
         let facts = facts.into_iter().flatten().collect::<Vec<_>>().join("; ");
-        let told = [self.lost_arrival(), self.lost_jobs(), Some(facts).filter(|facts| !facts.is_empty()), self.left_behind()];
+        let facts = Some(facts).filter(|facts| !facts.is_empty());
+        let told = [self.lost_arrival(), self.lost_jobs(), self.lost_open_job(), facts, self.left_behind()];
         let mut lines: Vec<String> = told.into_iter().flatten().collect();
         let room = |seen: &Seen| seen.rooms.get(self.slot).cloned();
         if lines.is_empty() && (self.old != self.new || room(self.before) != room(self.after)) {
@@ -113,6 +114,30 @@ impl Step<'_> {
         let lost: Vec<Held> = held(self.old).into_iter().skip(1).collect();
         let jobs = if lost.len() == 1 { "1 job that waited is".to_string() } else { format!("{} jobs that waited are", lost.len()) };
         Some(format!("{jobs} lost: {}", self.wiped(&lost)))
+    }
+
+    /// A job in portions that went with its channel.
+    fn lost_open_job(&self) -> Option<String> {
+        let job = self.old.job.filter(|_| self.new.job.is_none() && self.new.state != State::Connected)?;
+        let gone = if job.aside == 1 { "is gone" } else { "are gone" };
+        Some(format!(
+            "our job goes with the channel: {} of {} were taken, {} {gone}",
+            job.taken,
+            count(job.length, "octet"),
+            count(job.aside, "credit")
+        ))
+    }
+
+    /// A job in portions that was begun, came on, or is closed.
+    fn job(&self) -> Option<String> {
+        match (self.old.job, self.new.job) {
+            (old, Some(job)) if old != Some(job) => Some(progress(&job)),
+            (Some(_), None) if self.new.state == State::Connected => Some(match self.call {
+                Call::Cancel { .. } => "the job is cancelled".to_string(),
+                _ => "the job is closed, its last frame is out".to_string(),
+            }),
+            _ => None,
+        }
     }
 
     fn state(&self) -> Option<String> {

@@ -2,7 +2,7 @@
 
 use crate::seen::{held, Held, Seen};
 use crate::words::{count, holds, phone, policy, short_hex, sizes, state};
-use language::{Policy, SlotView, State, View};
+use language::{JobView, Policy, SlotView, State, View};
 
 /// A line for each slot; free slots beside one another have one line.
 pub fn table(view: &View) -> Vec<String> {
@@ -59,6 +59,24 @@ pub fn waiting(jobs: &[u16]) -> String {
             format!("{} jobs wait, of {} octets", jobs.len(), crate::words::list(&lengths))
         }
     }
+}
+
+/// How far a job in portions has come, and the frame that is being filled.
+pub fn open_job(job: JobView, frame: &[u8]) -> String {
+    if job.aside == 0 {
+        return "no job is open".to_string();
+    }
+    let filling = match job.filled {
+        0 => "no frame is begun".to_string(),
+        filled => format!("{} stand in the frame: {}", count(filled, "octet"), short_hex(frame)),
+    };
+    format!("{}; {filling}", progress(&job))
+}
+
+/// `10 of 22 octets of a job are taken, 2 credits are set aside`.
+pub fn progress(job: &JobView) -> String {
+    let are = if job.aside == 1 { "is" } else { "are" };
+    format!("{} of {} of a job are taken, {} {are} set aside", job.taken, count(job.length, "octet"), count(job.aside, "credit"))
 }
 
 /// What stands in a slot's part of the room.

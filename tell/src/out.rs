@@ -10,9 +10,10 @@ pub fn out(call: &Call, row: &Row, before: &Seen) -> Option<String> {
     let to = receiver(call, row, before).map_or("to no phone".to_string(), |link| format!("to {}", phone(link)));
     let octets = match call {
         Call::Send { .. } => return (!row.octets.is_empty()).then(|| format!("{to}: {}", frames(&row.octets))),
+        Call::Portion { .. } => return (!row.octets.is_empty()).then(|| format!("{to}: {}", frame(&row.octets))),
         // The octets of a take are the job; its signal stands in a column. Those of a look go nowhere.
         Call::Take { .. } => row.columns.get(2).and_then(|column| unhex(column)).unwrap_or_default(),
-        Call::Room { .. } => return None,
+        Call::Room { .. } | Call::OpenJob { .. } => return None,
         _ => row.octets.clone(),
     };
     if octets.is_empty() {
@@ -27,6 +28,16 @@ fn receiver(call: &Call, row: &Row, before: &Seen) -> Option<u16> {
     match call {
         Call::NextDisconnect => row.columns.first().and_then(|link| link.parse().ok()),
         _ => call.link().or_else(|| call.slot().and_then(|slot| before.link_at(slot))),
+    }
+}
+
+/// One frame of a job in portions.
+fn frame(octets: &[u8]) -> String {
+    match octets {
+        [low, high, cid_low, cid_high, payload @ ..] if payload.len() == usize::from(u16::from_le_bytes([*low, *high])) => {
+            format!("a frame to its CID {}, of {}", u16::from_le_bytes([*cid_low, *cid_high]), count(payload.len(), "octet"))
+        }
+        _ => format!("{} that are no frame: {}", count(octets.len(), "octet"), short_hex(octets)),
     }
 }
 
@@ -57,6 +68,14 @@ fn frames(octets: &[u8]) -> String {
 #[cfg(test)]
 mod tests {
     use super::*;
+
+    #[test]
+    fn a_frame_of_a_portion() {
+        let told = |word: &str| frame(&unhex(word).unwrap());
+        assert_eq!(told("0100500016"), "a frame to its CID 80, of 1 octet");
+        assert_eq!(told("0200500016"), "5 octets that are no frame: 0200500016");
+        assert_eq!(told("0200"), "2 octets that are no frame: 0200");
+    }
 
     #[test]
     fn frames_are_counted() {

@@ -1,6 +1,7 @@
 //! What the program is given: the script with looking lines put in, so that its rows show what each call left.
 
 use language::{can_be_made, is_played, lines, signals, Call, Wrong};
+use std::collections::BTreeSet;
 
 /// A line of a script.
 pub enum Line<'a> {
@@ -13,24 +14,41 @@ pub enum Line<'a> {
     },
 }
 
-/// A call, and how many slots are looked at after it; none where the call itself only looks.
+/// A call, and what is looked at after it; nothing where the call itself only looks.
 pub struct Part {
     pub call: Call,
-    pub looked_at: Option<u16>,
+    pub looked_at: Option<Looks>,
+}
+
+/// How many slots are looked at; and those in which a job in portions was begun since the table was made, whose open job is looked at too: no view shows it.
+#[derive(Clone, Debug, Default)]
+pub struct Looks {
+    pub slots: u16,
+    pub jobs: BTreeSet<u16>,
+}
+
+impl Looks {
+    fn note(&mut self, call: &Call) {
+        match *call {
+            Call::Make { n, d, m } => *self = Self { slots: if can_be_made(n, d, m) { n } else { 0 }, jobs: BTreeSet::new() },
+            Call::Start { slot, .. } if slot < self.slots => {
+                self.jobs.insert(slot);
+            }
+            _ => {}
+        }
+    }
 }
 
 /// The lines of a script. Where the number of slots is not what is foretold here, the rows say so.
 pub fn plan(script: &str) -> impl Iterator<Item = Line<'_>> {
-    let mut slots = 0;
+    let mut looks = Looks::default();
     lines(script).map(move |(number, line)| {
         if !is_played(line) {
             return Line::Passed(line);
         }
         let asked = Call::read(line).map(|call| {
-            if let Call::Make { n, d, m } = call {
-                slots = if can_be_made(n, d, m) { n } else { 0 };
-            }
-            cut(call).into_iter().map(|call| Part { looked_at: (!call.only_looks()).then_some(slots), call }).collect()
+            looks.note(&call);
+            cut(call).into_iter().map(|call| Part { looked_at: (!call.only_looks()).then(|| looks.clone()), call }).collect()
         });
         Line::Played { number, line, asked }
     })
@@ -68,9 +86,10 @@ pub fn sent(script: &str) -> String {
             Ok(parts) => {
                 for Part { call, looked_at } in parts {
                     send(&call.to_string());
-                    if let Some(slots) = looked_at {
+                    if let Some(Looks { slots, jobs }) = looked_at {
                         send(&Call::View.to_string());
                         (0..slots).for_each(|slot| send(&Call::Room { slot }.to_string()));
+                        jobs.into_iter().for_each(|slot| send(&Call::OpenJob { slot }.to_string()));
                     }
                 }
             }
@@ -85,8 +104,13 @@ mod tests {
 
     #[test]
     fn looking_lines_follow_every_call_that_can_change_something() {
-        let script = "# a scene\n\nQ\r\nT 2 1 64\nI\nx\r\r\nW 1\nT 0 1 64\nL 0";
-        assert_eq!(sent(script), "Q\nV\nT 2 1 64\nV\nM 0\nM 1\nI\nx\r\r\nW 1\nV\nM 0\nM 1\nT 0 1 64\nV\nL 0\nV\n");
+        let script = "# a scene\n\nQ\r\nT 2 1 64\nI\nz\r\r\nW 1\nT 0 1 64\nL 0";
+        assert_eq!(sent(script), "Q\nV\nT 2 1 64\nV\nM 0\nM 1\nI\nz\r\r\nW 1\nV\nM 0\nM 1\nT 0 1 64\nV\nL 0\nV\n");
+        // From a start on its slot's open job is looked at too, until the next table.
+        assert_eq!(
+            sent("T 2 1 64\nN 1 5 11\nN 2 5 11\nn 1\nT 1 1 64"),
+            "T 2 1 64\nV\nM 0\nM 1\nN 1 5 11\nV\nM 0\nM 1\nn 1\nN 2 5 11\nV\nM 0\nM 1\nn 1\nn 1\nT 1 1 64\nV\nM 0\n"
+        );
     }
 
     #[test]

@@ -11,7 +11,7 @@ const fn refusal(number: u16, name: &'static str, says: &'static str) -> Refusal
     Refusal { number, name, says }
 }
 
-pub const REFUSALS: [Refusal; 23] = [
+pub const REFUSALS: [Refusal; 25] = [
     refusal(1, "BadTable", "there is no table, or none can have these sizes"),
     refusal(2, "BadRoom", "the room has not the length that the table's sizes ask for"),
     refusal(3, "NoRoom", "the buffer lent is too short"),
@@ -19,7 +19,7 @@ pub const REFUSALS: [Refusal; 23] = [
     refusal(5, "BadSpsm", "only SPSMs 1 to 255 can be registered"),
     refusal(6, "BadSlot", "the table has no such slot"),
     refusal(7, "InvalidChannelId", "no slot has this CID"),
-    refusal(8, "NotFound", "no slot fits"),
+    refusal(8, "NotFound", "no slot fits, or no job is open in it"),
     refusal(9, "InvalidValue", "a length or a sum of credits goes past what can be"),
     refusal(10, "OutOfMemory", "the phone had no credit left for this frame"),
     refusal(11, "ChannelClosed", "the channel isn't open"),
@@ -35,6 +35,8 @@ pub const REFUSALS: [Refusal; 23] = [
     refusal(21, "QueueFull", "as many jobs wait as can: this one is dropped"),
     refusal(22, "Held", "the slot's holds are not what this step needs"),
     refusal(23, "TooLong", "no job of 65534 octets or more can be sent"),
+    refusal(24, "JobOpen", "a job is open at this slot, and goes first"),
+    refusal(25, "WrongLength", "more octets than the job still lacks: none is taken"),
 ];
 
 /// The result of a connect response, by number and name.
@@ -71,7 +73,7 @@ mod tests {
     fn refusals_stand_by_their_numbers() {
         assert!(REFUSALS.iter().zip(1..).all(|(refusal, number)| refusal.number == number));
         assert_eq!(refused(22), "22 Held: the slot's holds are not what this step needs");
-        assert_eq!(refused(24), "24, a refusal that has no name here");
+        assert_eq!(refused(26), "26, a refusal that has no name here");
         assert_eq!(result(4), "result 4 NoResources");
         assert_eq!(result(3), "result 3, which has no name");
     }

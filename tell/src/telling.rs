@@ -5,10 +5,10 @@ use crate::asked::asked;
 use crate::changed::changed;
 use crate::out::out;
 use crate::page::Page;
-use crate::plan::{plan, Line, Part};
+use crate::plan::{plan, Line, Looks, Part};
 use crate::seen::Seen;
 use crate::words::count;
-use language::{Answer, Call, Row, SlotView, View};
+use language::{Answer, Call, JobView, Row, SlotView, View};
 use std::fmt;
 use std::io::{self, Write};
 
@@ -86,14 +86,23 @@ fn played<W: Write>(part: &Part, place: &str, before: Seen, rows: &mut Rows<'_>,
     if let Some(out) = out(call, &row, &before) {
         page.told("out", &out)?;
     }
-    let Some(slots) = *looked_at else { return Ok(before) };
-    let after = rows.seen(slots)?;
+    let Some(looks) = looked_at else { return Ok(before) };
+    let after = rows.seen(looks)?;
     let mut name = "changed";
     for line in changed(call, &row, &before, &after) {
         page.told(name, &line)?;
         name = "";
     }
     Ok(after)
+}
+
+/// The numbers of a row that shows an open job.
+fn job(row: &Row) -> Option<JobView> {
+    let numbers: Vec<u16> = row.columns.iter().map(|column| column.parse().ok()).collect::<Option<_>>()?;
+    match (row.answer, &numbers[..]) {
+        (Answer::Number(0), &[length, taken, filled, aside]) => Some(JobView { length, taken, filled, aside }),
+        _ => None,
+    }
 }
 
 /// A line of the program as a message shows it: its start, and nothing that a terminal takes for a command.
@@ -155,19 +164,23 @@ impl Rows<'_> {
         Ok(view)
     }
 
-    /// What stands after a call: the view, and the room of each slot.
-    fn seen(&mut self, slots: u16) -> Result<Seen, Trouble> {
+    /// What stands after a call: the view, the room of each slot, and the open jobs.
+    fn seen(&mut self, Looks { slots, jobs }: &Looks) -> Result<Seen, Trouble> {
         let row = self.row()?;
         let mut seen = Seen { view: self.view(&row)?, rooms: Vec::new() };
-        if seen.view.n() != slots {
+        if seen.view.n() != *slots {
             return Err(self.trouble(format!("the program shows {}, where {slots} must be", count(seen.view.n(), "slot"))));
         }
         let octets = (usize::from(seen.view.d) + 1).saturating_mul(seen.place());
-        for slot in 0..slots {
+        for slot in 0..*slots {
             let row = self.read(&format!("the room of slot {slot}"), |line| {
                 Row::parse(line).filter(|row| row.answer == Answer::Number(0) && row.octets.len() == octets)
             })?;
             seen.rooms.push(row.octets);
+        }
+        for slot in jobs {
+            let job = self.read(&format!("the open job of slot {slot}"), |line| Row::parse(line).and_then(|row| job(&row)))?;
+            seen.view.slots[usize::from(*slot)].job = Some(job).filter(|job| job.aside != 0);
         }
         Ok(seen)
     }

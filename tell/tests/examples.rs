@@ -72,10 +72,10 @@ fn own(script: &str, printed: Vec<String>) -> Vec<String> {
     };
     for line in plan(script) {
         let Line::Played { asked, .. } = line else { continue };
-        for looked_at in asked.map_or(vec![None], |parts| parts.iter().map(|part| part.looked_at).collect()) {
+        for looked_at in asked.map_or(vec![None], |parts| parts.into_iter().map(|part| part.looked_at).collect()) {
             own.extend(row());
-            // The view and each slot's room, where they were looked at.
-            (0..looked_at.map_or(0, |slots| 1 + slots)).for_each(|_| drop(row()));
+            // The view, each slot's room and open jobs, where they were looked at.
+            (0..looked_at.map_or(0, |looks| 1 + usize::from(looks.slots) + looks.jobs.len())).for_each(|_| drop(row()));
         }
     }
     own.extend(printed);

@@ -72,6 +72,11 @@ impl Random {
             "F n n h",
             "F n n h",
             "K n h",
+            "N n n s",
+            "N n n s",
+            "p n s h",
+            "x n",
+            "n n",
             "B n n",
             "I",
             "U n",
@@ -81,13 +86,14 @@ impl Random {
             "M n",
             "# x",
             "",
-            "x",
+            "z",
             "n",
             "T n n",
             "Q n",
             "\u{1b}\u{fffd}\r",
         ]);
-        let words = form.split(' ').map(|word| match word {
+        let words = form.split(' ').enumerate().map(|(at, word)| match word {
+            word if at == 0 => word.to_string(),
             "n" => self.number().to_string(),
             "m" => (29 + self.below(60)).to_string(),
             "c" => [self.number().to_string(), "-".to_string()][self.below(2)].clone(),
@@ -95,6 +101,7 @@ impl Random {
             "r" => self.pick(&["c", "p"]).to_string(),
             "e" => format!("{}{}", self.pick(&["e", "m"]), self.number()),
             "h" => hex(&self.octets()),
+            "s" => self.below(4_098).to_string(),
             "p" => hex(&self.pdu()),
             word => word.to_string(),
         });
@@ -162,6 +169,10 @@ impl Random {
                     let octets = (usize::from(d) + 1) * (usize::from(m) - 6);
                     let room: Vec<u8> = (0..octets).map(|_| self.below(2) as u8).collect();
                     rows += &format!("0 {}\n", hex(&room));
+                }
+                Call::OpenJob { slot } if slot < n => {
+                    let numbers: Vec<String> = (0..4).map(|_| self.number().to_string()).collect();
+                    rows += &format!("0 {} {}\n", hex(&self.octets()), numbers.join(" "));
                 }
                 call => {
                     if let Call::Make { n: slots, d: jobs, m: packet } = call {

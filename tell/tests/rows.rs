@@ -315,7 +315,7 @@ fn signals_of_one_pdu_are_told_one_by_one() {
       changed  slot 0: our credits 5 → 15
       asked    signal 2 of 2: the phone on link 1 sends credit signal 17: 5 credits for us, its CID
                81
-      answer   8 NotFound: no slot fits
+      answer   8 NotFound: no slot fits, or no job is open in it
       changed  nothing
 "
         ),
@@ -343,4 +343,80 @@ fn rows_that_are_not_the_scripts_are_refused() {
     assert_eq!(trouble("T 1 1 29", &format!("{made}0 -\n")), "the program printed more rows than the script asks for");
     assert_eq!(trouble("V", "answer octets\n0 - 1 1 29 1\n"), "line 1: the program's rows end where slot 0 of a view must stand");
     assert_eq!(trouble("Q", "answer octets\n\u{1b}[2J\n"), "line 1: the program printed `\\u{1b}[2J` where the row of its call must stand");
+}
+
+/// A table of one open slot, and on it a job in portions: what is told of each line from its row, the slot and the open job behind it.
+fn portions(steps: &[(&str, &str, &str, &str)]) -> String {
+    let mut script = "T 1 1 29\nH 0\n".to_string();
+    let free = |slot: &str| format!("0 - 1 1 29 1\n= 0 {slot}\n{}\n", room([NONE; 2]));
+    let mut rows = format!("answer octets\n0 -\n{}0 -\n{}", free(FREE), free(OPEN));
+    for (line, row, slot, job) in steps {
+        script += &format!("{line}\n");
+        rows += &format!("{row}\n{}{job}\n", free(slot));
+    }
+    let (text, all_read) = told(&script, &rows).expect("rows that fit");
+    assert!(all_read);
+    text[text.find("   3  ").expect("a third line")..].to_string()
+}
+
+#[test]
+fn a_job_in_portions() {
+    let begun = OPEN.replace("23 100 5", "23 100 3");
+    assert_eq!(
+        portions(&[
+            ("N 0 22 27", "0 - 2", &begun, "0 170050001600 22 0 2 2"),
+            ("p 0 27 aabb", "0 - 2 0", &begun, "0 170050001600aabb 22 2 4 2"),
+            ("p 0 27 cc", "0 1700500016 0 1", &begun, "0 - 22 21 0 1"),
+            ("p 0 27 dd", "0 01005000dd 1 1", &begun, "0 - 0 0 0 0"),
+        ]),
+        "   3  N 0 22 27
+      asked    begin a job of 22 octets to the phone on link 1 (slot 0), in portions, in a buffer of
+               27 octets
+      answer   0 done: begun, with 2 frames to come
+      changed  slot 0: 0 of 22 octets of a job are taken, 2 credits are set aside; our credits 5 → 3
+   4  p 0 27 aabb
+      asked    give 2 octets of the open job to the phone on link 1 (slot 0)
+      answer   0 done: 2 octets taken, no frame is full
+      changed  slot 0: 2 of 22 octets of a job are taken, 2 credits are set aside
+   5  p 0 27 cc
+      asked    give 1 octet of the open job to the phone on link 1 (slot 0)
+      answer   0 done: the first 0 of 1 octet taken, and a frame is full
+      out      to the phone on link 1: 5 octets that are no frame: 1700500016
+      changed  slot 0: 21 of 22 octets of a job are taken, 1 credit is set aside
+   6  p 0 27 dd
+      asked    give 1 octet of the open job to the phone on link 1 (slot 0)
+      answer   0 done: 1 octet taken, and a frame is full
+      out      to the phone on link 1: a frame to its CID 80, of 1 octet
+      changed  slot 0: the job is closed, its last frame is out
+"
+    );
+}
+
+#[test]
+fn a_job_in_portions_that_ends_early() {
+    let begun = OPEN.replace("23 100 5", "23 100 3");
+    let closing = begun.replace("connected", "disconnecting");
+    let told = portions(&[
+        ("N 0 22 27", "0 - 2", &begun, "0 170050001600 22 0 2 2"),
+        ("x 0", "0 -", OPEN, "0 - 0 0 0 0"),
+        ("x 0", "8 -", OPEN, "0 - 0 0 0 0"),
+        ("N 0 22 27", "0 - 2", &begun, "0 170050001600 22 0 2 2"),
+        ("K 0 aa", "24 -", &begun, "0 170050001600 22 0 2 2"),
+        ("p 0 27 aa", "25 -", &begun, "0 170050001600 22 0 2 2"),
+        ("D 0", "0 -", &closing, "0 - 0 0 0 0"),
+    ]);
+    for line in [
+        "slot 0: the job is cancelled; our credits 3 → 5",
+        "8 NotFound: no slot fits, or no job is open in it",
+        "24 JobOpen: a job is open at this slot, and goes first",
+        "25 WrongLength: more octets than the job still lacks: none is taken",
+        "slot 0: our job goes with the channel: 0 of 22 octets were taken, 2 credits are gone",
+    ] {
+        assert!(told.contains(line), "{line}\n{told}");
+    }
+    // A program that shows no open job where one must be shown is told.
+    let (script, rows) = ("T 1 1 29\nN 0 1 7", "answer octets\n0 -\n0 - 1 1 29 1\n= 0 ");
+    let rows = format!("{rows}{FREE}\n{0}\n11 -\n0 - 1 1 29 1\n= 0 {FREE}\n{0}\n0 - 1 2\n", room([NONE; 2]));
+    let trouble = crate::told(script, &rows).expect_err("a row of another form").to_string();
+    assert_eq!(trouble, "line 2: the program printed `0 - 1 2` where the open job of slot 0 must stand");
 }

@@ -1,5 +1,5 @@
 //! A printer's loop. `Printer::packet` takes one whole L2CAP packet that came on a link, and sends and prints all that it calls for: replies, credits,
-//! disconnects, jobs. It needs no heap and no `std`, so that a firmware can take it over as it stands; `main` plays a scene with it.
+//! disconnects, jobs; `Printer::reply` sends a sheet of the printer's own, a line at a time. It needs no heap and no `std`, so that a firmware can take it over as it stands; `main` plays a scene with it.
 //!
 //!     cargo run --example printer
 
@@ -30,6 +30,11 @@ const LINK_CHANNELS: usize = 2;
 const SIGNALLING: Cid = Cid(5);
 /// The longest PDU of signals that is looked at. Feeding one costs time by the square of its signals, so that a phone mustn't choose its length.
 const SIGNALS: usize = PACKET as usize - 4;
+
+/// The octets of a line of a reply sheet.
+pub const LINE: usize = 16;
+/// The longest frame of a reply sheet, with its header. A phone of a larger MPS gets none (refusal 3).
+const FRAME: usize = 4 + 251;
 
 /// Where things go that leave the printer's loop.
 pub trait Out {
@@ -89,6 +94,27 @@ impl<'r> Printer<'r> {
     pub fn link_down(&mut self, link: ConnHandle, out: &mut impl Out) -> Result<(), Fault> {
         self.channels.disconnected(link)?;
         self.settle(out)
+    }
+
+    /// A reply sheet for a phone, rendered while it is sent: no more of it than a line and a frame is ever in memory. What refuses it before its first frame has
+    /// sent nothing (14: again after the phone's next credits).
+    pub fn reply(
+        &mut self,
+        index: ChannelIndex,
+        lines: usize,
+        mut render: impl FnMut(usize) -> [u8; LINE],
+        out: &mut impl Out,
+    ) -> Result<(), Fault> {
+        let mut buffer = [0; FRAME];
+        let mut job = self.channels.start_job(index, lines.saturating_mul(LINE), &mut buffer)?;
+        for line in 0..lines {
+            job.give_all(&mut self.channels, &render(line), |link, frame| out.send(link, frame))?;
+        }
+        // A sheet of no line is a job too: one empty portion sends it.
+        if !job.is_done() {
+            job.give_all(&mut self.channels, &[], |link, frame| out.send(link, frame))?;
+        }
+        Ok(())
     }
 
     /// The phone of a link hasn't answered our disconnect requests in a time that the firmware sets: their slots are closed without an answer.
@@ -260,6 +286,16 @@ pub fn main() {
     assert_eq!(desk.printed.pop(), Some((anna, b"ticket 1, row 4, seat 17 A".to_vec())));
     assert_eq!(desk.codes(anna), [CREDITS]);
 
+    // The printer answers with a sheet of three lines: two frames that are full, and the four octets that are left. Five credits are enough for one.
+    let sheet = |line: usize| [*b"2 tickets, row 4", *b", seats 17 A and", *b" B. Doors: 19:30"][line];
+    assert_eq!(printer.reply(ChannelIndex(0), 3, sheet, &mut desk), Ok(()));
+    let frames: Vec<Vec<u8>> = std::mem::take(&mut desk.sent).into_iter().map(|(_, frame)| frame).collect();
+    assert_eq!(frames[0], packet(0x50, b"\x30\x002 tickets, row 4, sea"));
+    assert_eq!(frames[1..], [packet(0x50, b"ts 17 A and B. Doors: 1"), packet(0x50, b"9:30")]);
+    assert_eq!(printer.reply(ChannelIndex(0), 3, sheet, &mut desk), Err(Fault::Refused(Refusal::Busy)));
+    assert_eq!(printer.reply(ChannelIndex(0), 0, sheet, &mut desk), Ok(()));
+    assert_eq!(desk.sent.pop(), Some((anna, packet(0x50, &[0, 0]))));
+
     // Ben's phone closes its channel in the middle of a job. Cleo's gets the slot, and her job comes out clean.
     assert_eq!(printer.packet(ben, &connect(), &mut desk), Ok(()));
     assert_eq!(printer.packet(ben, &packet(0x41, b"\x20\0half of a tick"), &mut desk), Ok(()));
@@ -313,5 +349,5 @@ pub fn main() {
     assert!(desk.printed.is_empty() && desk.sent.is_empty());
     assert!(printer.holds.iter().all(Option::is_none));
     assert!(printer.channels.table().slot(ChannelIndex(0)) == printer.channels.table().slot(ChannelIndex(15)));
-    println!("printed: ticket 1 and ticket 3, each whole and once; Ben's half job is gone; no slot is held");
+    println!("printed: ticket 1 and ticket 3, each whole and once; Anna has her sheet; Ben's half job is gone; no slot is held");
 }

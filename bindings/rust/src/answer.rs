@@ -84,6 +84,12 @@ impl Answer {
         Frames { handle: self.handle(), count: self.number(1), octets: self.written(out) }
     }
 
+    /// What a portion came to; `done` where no job is open in its slot any more.
+    pub(crate) fn given<'b>(&self, buffer: &'b [u8], done: bool) -> Given<'b> {
+        let frame = (self.number(2) != 0).then(|| self.written(buffer));
+        Given { handle: self.handle(), taken: self.number(1).into(), frame, done }
+    }
+
     pub(crate) fn job<'j, 'b>(&self, job: &'j [u8], signal: &'b [u8]) -> Option<Received<'j, 'b>> {
         match self.0[0] {
             JOB => Some(Received {
@@ -203,6 +209,20 @@ impl<'b> Iterator for FrameIter<'b> {
         self.octets = self.octets.get(end..)?;
         Some(frame)
     }
+}
+
+/// What a portion of a job came to.
+#[derive(Clone, Copy, Debug, PartialEq, Eq)]
+#[must_use = "a frame that isn't sent is lost, and octets that weren't taken have to be given again"]
+pub struct Given<'b> {
+    /// The link on which the frame goes out.
+    pub handle: ConnHandle,
+    /// How many of the octets were taken, from the first on: up to where the frame was full.
+    pub taken: usize,
+    /// The frame that is full, with its L2CAP header; none where it still lacks octets.
+    pub frame: Option<&'b [u8]>,
+    /// Whether that was the job's last frame: the job is closed.
+    pub done: bool,
 }
 
 /// A job that was taken.

@@ -158,7 +158,8 @@ pub enum Refusal {
     BadTable,
     /// 2: the room's length isn't the one that the sizes ask for ([`room_octets`](crate::room_octets)).
     BadRoom,
-    /// 3: a signal buffer under 18 octets, or an output too short for the frames.
+    /// 3: a signal buffer under 18 octets, an output too short for the frames, or a buffer too short for an open job's
+    /// ([`job_buffer_octets`](crate::job_buffer_octets)).
     NoRoom,
     /// 4: a handle above 0x0EFF.
     BadHandle,
@@ -168,7 +169,7 @@ pub enum Refusal {
     BadSlot,
     /// 7: a frame's CID is no slot's.
     InvalidChannelId,
-    /// 8: no slot fits. An unmatched connect response has closed the slot of every attempt of that link.
+    /// 8: no slot fits, or no job is open in it. An unmatched connect response has closed the slot of every attempt of that link.
     NotFound,
     /// 9: a signal longer than its PDU (a reject is written); credits above 65,535 (they are kept), or a frame that its job has no place for (its
     /// credit is used): the channel is disconnecting.
@@ -203,6 +204,10 @@ pub enum Refusal {
     Held,
     /// 23: a job of 65,534 or 65,535 octets.
     TooLong,
+    /// 24: a job is open in this slot, and goes first.
+    JobOpen,
+    /// 25: a portion has more octets than its job still lacks. None of them is taken.
+    WrongLength,
 }
 
 impl Refusal {
@@ -232,10 +237,12 @@ impl Refusal {
             Self::QueueFull => 21,
             Self::Held => 22,
             Self::TooLong => 23,
+            Self::JobOpen => 24,
+            Self::WrongLength => 25,
         }
     }
 
-    /// The refusal of a number that isn't 0; `code` is the result code of 17. The entries give 1 to 23 alone; another number reads as 1.
+    /// The refusal of a number that isn't 0; `code` is the result code of 17. The entries give 1 to 25 alone; another number reads as 1.
     pub(crate) const fn told(number: u32, code: u16) -> Self {
         match number {
             2 => Self::BadRoom,
@@ -263,6 +270,8 @@ impl Refusal {
             21 => Self::QueueFull,
             22 => Self::Held,
             23 => Self::TooLong,
+            24 => Self::JobOpen,
+            25 => Self::WrongLength,
             _ => Self::BadTable,
         }
     }

@@ -58,6 +58,18 @@
 //! A phone that closes before it was accepted leaves `PeerDisconnecting` too. [`accept_pending`] and [`reject_pending`] refuse by 8, and the hold of
 //! [`next_pending`] ends by [`dec_ref`] or [`drop_pending`].
 //!
+//! # A sheet of ours, in portions
+//!
+//! | what happens | call | slot | holds |
+//! |---|---|---|---|
+//! | its length is stated, its credits are set aside | [`start_job`] gives an [`OpenJob`] | `Connected`, with a job | 1 |
+//! | octets come to be, frames fill and go out | [`OpenJob::give`] | the same | 1 |
+//! | the last octet is given | the same | `Connected`, without one | 1 |
+//! | or it is cancelled before a frame went out | [`OpenJob::cancel`]; its credits come back | `Connected`, without one | 1 |
+//! | or later | [`OpenJob::cancel`] | `Disconnecting(false)`: a disconnect is due | 1 |
+//!
+//! Everything that ends a channel closes its job. No credit comes back then, and the value that is left is refused by 11.
+//!
 //! # An attempt of our own
 //!
 //! | what happens | call | slot | holds |
@@ -108,6 +120,10 @@
 //! [`Hold::of`]: crate::Hold::of
 //! [`into_index`]: crate::Hold::into_index
 //! [`make`]: crate::ChannelManager::make
+//! [`OpenJob`]: crate::OpenJob
+//! [`OpenJob::cancel`]: crate::OpenJob::cancel
+//! [`OpenJob::give`]: crate::OpenJob::give
+//! [`start_job`]: crate::ChannelManager::start_job
 //! [`next_disconnect`]: crate::ChannelManager::next_disconnect
 //! [`next_pending`]: crate::ChannelManager::next_pending
 //! [`opened`]: crate::ChannelManager::opened

@@ -1,11 +1,12 @@
 //! The calls.
 
 use crate::answer::{
-    Attention, ChannelSignal, ConnParamUpdateReq, Frames, L2capChannelConfig, Outgoing, Received, Signalled, ANSWER_OCTETS,
+    Attention, ChannelSignal, ConnParamUpdateReq, Frames, Given, L2capChannelConfig, Outgoing, Received, Signalled, ANSWER_OCTETS,
 };
 use crate::codes::{ChannelIndex, Cid, ConnHandle, LeConnRole, LeCreditConnResultCode, Refusal};
 use crate::entries::{self, Returned};
 use crate::hold::{Hold, StillHeld};
+use crate::portions::OpenJob;
 use crate::run::{Dispatched, FrameRun, JobRun, Sent};
 use crate::table::{Table, TABLE_OCTETS};
 
@@ -83,7 +84,7 @@ impl<'r> ChannelManager<'r> {
     ///
     /// Refusals: 1, 2, 3, 4; 15 and 9 by the header check, which leave no rest; then by the signal 15 for a bad body and 16 for an unknown code; 8
     /// for credits that fit no channel, and for a connect response that fits no attempt, which has closed the slot of every attempt of this link; 9 for
-    /// credits above 65,535, which leave the channel disconnecting; 17 for a connect response that refuses, which leaves the slot
+    /// credits above 65,535, with those set aside for an open job, which leave the channel disconnecting; 17 for a connect response that refuses, which leaves the slot
     /// [`ConnectFailed`](crate::ChannelState::ConnectFailed) until [`opened`](Self::opened) or [`give_up`](Self::give_up) closes it.
     pub fn signal<'p, 'b>(
         &mut self,
@@ -338,11 +339,41 @@ impl<'r> ChannelManager<'r> {
 
     /// Cuts a job into frames, and uses a credit for each.
     ///
-    /// Refusals: 1, 6; 11 where the channel isn't open; 12 above the peer's MTU; 23 above 65,533 octets; 20 where the peer's MPS is under 23; 14 where
-    /// the credits don't suffice; 3 where `out` is too short.
+    /// Refusals: 1, 6; 11 where the channel isn't open; 24 where a job is open in this slot; 12 above the peer's MTU; 23 above 65,533 octets; 20 where the
+    /// peer's MPS is under 23; 14 where the credits don't suffice; 3 where `out` is too short.
     pub fn send<'b>(&mut self, index: ChannelIndex, sdu: &[u8], out: &'b mut [u8]) -> Result<Frames<'b>, Refusal> {
         let answer = entries::send(&mut self.table.0, out, index.0, sdu).told()?;
         Ok(answer.frames(out))
+    }
+
+    /// Opens a job of `len` octets that is handed over in portions, as they come to be, and sets a credit aside for each of its frames. Its frames are filled in
+    /// `buffer`, of [`job_buffer_octets`](crate::job_buffer_octets) octets or more, which the [`OpenJob`] borrows until its end. Nothing goes out yet.
+    ///
+    /// Refusals: 1, 6; 11 where the channel isn't open; 24 where a job is open in this slot; 12 above the peer's MTU; 23 above 65,533 octets; 20 where the
+    /// peer's MPS is under 23; 14 where the credits don't suffice; 3 where `buffer` is too short.
+    pub fn start_job<'b>(&mut self, index: ChannelIndex, len: usize, buffer: &'b mut [u8]) -> Result<OpenJob<'b>, Refusal> {
+        entries::start_job(&mut self.table.0, buffer, index.0, len).told()?;
+        Ok(OpenJob::of(index, self.table.standing(index), buffer))
+    }
+
+    /// Gives the open job of a slot its next octets. [`OpenJob::give`] does so with the buffer that the job borrows; this is for who can't borrow it for so long,
+    /// and keeps buffers in a place of their own: one for each open job, lent to every portion of that job as its last call left it, from
+    /// [`start_job`](Self::start_job) on. That isn't tested: with another buffer the frames carry what stands there. Nor is whose job it is: keep the hold on the slot until the job's end, or until 11
+    /// says that the channel has ended.
+    ///
+    /// Refusals: 1, 6; 11 where the channel isn't open; 8 where no job is open; 3 where `buffer` is too short for that job; 25 for more octets than the job still
+    /// lacks, of which none is taken.
+    pub fn give_portion<'b>(&mut self, index: ChannelIndex, octets: &[u8], buffer: &'b mut [u8]) -> Result<Given<'b>, Refusal> {
+        let answer = entries::give_portion(&mut self.table.0, buffer, index.0, octets).told()?;
+        Ok(answer.given(buffer, self.table.standing(index).is_none()))
+    }
+
+    /// Closes the open job of a slot before its last frame, as [`OpenJob::cancel`] does: for a job whose value was dropped. Where no frame was given out yet its
+    /// credits come back and the channel stays open; later the peer has half a job, and the channel disconnects.
+    ///
+    /// Refusals: 1, 2, 6; 11 where the channel isn't open; 8 where no job is open.
+    pub fn cancel_job(&mut self, index: ChannelIndex) -> Result<(), Refusal> {
+        entries::cancel_job(&mut self.table.0, self.room, index.0).told().map(|_| ())
     }
 
     /// Takes in the frames of a run, one after the other, as so many calls of [`dispatch`](Self::dispatch) would: what each came to is given in their order. The

@@ -23,6 +23,9 @@ macro_rules! rows {
             fn next_disconnect = l2cap_next_disconnect(room, signal;;);
             fn dispatch = l2cap_dispatch(room; link: u16, cid: u16; payload);
             fn send = l2cap_send(out; slot: u8; sdu);
+            fn start_job = l2cap_start_job(buffer; slot: u8, length: usize;);
+            fn give_portion = l2cap_give_portion(buffer; slot: u8; octets);
+            fn cancel_job = l2cap_cancel_job(room; slot: u8;);
             fn receive = l2cap_receive(room, signal, job; slot: u8;);
             fn dispatch_run = l2cap_dispatch_run(room;; frames; answers);
             fn send_run = l2cap_send_run(out;; jobs; answers);

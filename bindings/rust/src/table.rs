@@ -5,11 +5,14 @@ use crate::codes::{ChannelIndex, ConnHandle, LeCreditConnResultCode, SLOTS};
 use crate::slots::Slots;
 
 /// The octets of a table, for every number of slots.
-pub const TABLE_OCTETS: usize = 672;
+pub const TABLE_OCTETS: usize = 800;
 
 const HEAD: usize = 48;
 const STATE: usize = 0;
 const HOLD: usize = 17;
+const LINK: usize = 2;
+const PEER_CID: usize = 18;
+const JOB: usize = 39;
 
 /// The octets of room that a table needs: a place for the job that arrives and one for each that waits, in every slot. `channels` is 1 to 16,
 /// `queue` 1 to 4 and `packet` 29 to 1,024; other sizes are refused by [`ChannelManager::new`](crate::ChannelManager::new).
@@ -80,6 +83,25 @@ impl Table {
         self.octet(HEAD + usize::from(SLOTS) * column + usize::from(index))
     }
 
+    /// A number of a slot's row.
+    fn number(&self, index: u8, column: usize) -> u16 {
+        u16::from_le_bytes([self.cell(index, column), self.cell(index, column + 1)])
+    }
+
+    /// The job that is open in a slot: one is while credits are set aside for it.
+    fn job(&self, index: u8) -> Option<JobNumbers> {
+        let number = |place: usize| self.number(index, JOB + 2 * place);
+        let job = JobNumbers { length: number(0), taken: number(1), filled: number(2), aside: number(3) };
+        Some(job).filter(|job| job.aside != 0)
+    }
+
+    /// Where a slot's open job stands.
+    pub(crate) fn standing(&self, index: ChannelIndex) -> Option<Standing> {
+        let (handle, peer_cid) = (self.number(index.0, LINK), self.number(index.0, PEER_CID));
+        let job = self.job(index.0).filter(|_| index.0 < SLOTS)?;
+        Some(Standing { handle, peer_cid, job })
+    }
+
     /// What one slot holds. None where the table has no such slot, and where octets that no call wrote spell a failed attempt with a result of no
     /// name: every call refuses such a table, by [`Refusal::BadTable`](crate::Refusal::BadTable).
     pub fn slot(&self, index: ChannelIndex) -> Option<Slot> {
@@ -87,7 +109,7 @@ impl Table {
             return None;
         }
         let octet = |column: usize| self.cell(index.0, column);
-        let number = |column: usize| u16::from_le_bytes([octet(column), octet(column + 1)]);
+        let number = |column: usize| self.number(index.0, column);
         let state = match (octet(STATE), octet(1)) {
             (1, identifier) => ChannelState::Connecting(identifier),
             (2, identifier) => ChannelState::PeerConnecting(identifier),
@@ -100,7 +122,7 @@ impl Table {
         let policy = if octet(10) == 1 { CreditFlowPolicy::MinThreshold(number(11)) } else { CreditFlowPolicy::Every(number(11)) };
         Some(Slot {
             state,
-            handle: ConnHandle(number(2)),
+            handle: ConnHandle(number(LINK)),
             spsm: number(4),
             mps: number(6),
             mtu: number(8),
@@ -108,7 +130,7 @@ impl Table {
             credits: number(13),
             received: number(15),
             hold: octet(HOLD),
-            peer_cid: number(18),
+            peer_cid: number(PEER_CID),
             peer_mps: number(20),
             peer_mtu: number(22),
             peer_credits: number(24),
@@ -116,6 +138,7 @@ impl Table {
             want: number(28),
             waiting: octet(30),
             lens: [number(31), number(33), number(35), number(37)],
+            job: self.job(index.0),
         })
     }
 }
@@ -147,7 +170,7 @@ pub struct Slot {
     pub peer_mps: u16,
     /// The peer's MTU.
     pub peer_mtu: u16,
-    /// The credits that we still have.
+    /// The credits that we still have, without those set aside for an open job.
     pub peer_credits: u16,
     /// The octets so far of the job that arrives.
     pub have: u16,
@@ -157,4 +180,27 @@ pub struct Slot {
     pub waiting: u8,
     /// Their lengths, oldest first, then zeros.
     pub lens: [u16; 4],
+    /// The job of ours that is being handed over in portions.
+    pub job: Option<JobNumbers>,
+}
+
+/// The numbers of a job that is handed over in portions. Its octets stand in the buffer that its caller lends.
+#[derive(Clone, Copy, Debug, PartialEq, Eq)]
+pub struct JobNumbers {
+    /// The octets that were stated.
+    pub length: u16,
+    /// Those that were taken so far.
+    pub taken: u16,
+    /// The octets in the payload of the frame that is being filled; of the first frame the job's length, two octets, counts.
+    pub filled: u16,
+    /// The credits set aside, one for each frame to come.
+    pub aside: u16,
+}
+
+/// Whose an open job is, and how far it came: what tells it from another that its slot could have.
+#[derive(Clone, Copy, Debug, PartialEq, Eq)]
+pub(crate) struct Standing {
+    handle: u16,
+    peer_cid: u16,
+    pub(crate) job: JobNumbers,
 }

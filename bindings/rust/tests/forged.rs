@@ -63,7 +63,7 @@ fn zeros_and_ones_are_no_table() {
 #[test]
 fn forged_heads() {
     let (octets, room) = busy();
-    let mut forged = vec![(0, 0), (0, 2), (1, 0), (1, 17), (2, 0), (2, 5), (3, 28), (4, 5)];
+    let mut forged = vec![(0, 0), (0, 1), (0, 3), (1, 0), (1, 17), (2, 0), (2, 5), (3, 28), (4, 5)];
     forged.extend((6..16).map(|place| (place, 1)));
     for (place, value) in forged {
         let mut octets = octets;
@@ -103,6 +103,83 @@ fn forged_rows() {
         octets[cell(0, column)] = value;
         assert!(!refused(&octets, &room), "column {column} as {value}");
     }
+}
+
+/// An open job's counts beyond its length or its frame, and credits above 65,535 with those set aside. Where none are set aside no job is open, and its other numbers say nothing.
+#[test]
+fn forged_jobs() {
+    let (octets, room) = busy();
+    // Of the phone's MPS, 23, and its credits, 5: length, taken, filled, aside, credits.
+    let with = |[length, taken, filled, aside, credits]: [u16; 5]| {
+        let mut octets = octets;
+        for (column, number) in [(39, length), (41, taken), (43, filled), (45, aside), (24, credits)] {
+            [octets[cell(0, column)], octets[cell(0, column + 1)]] = number.to_le_bytes();
+        }
+        octets
+    };
+    for (what, numbers) in [
+        ("more octets taken than stated", [5, 6, 2, 1, 5]),
+        ("the same above 255", [511, 512, 2, 1, 5]),
+        ("more in the frame than the peer's MPS", [300, 290, 24, 1, 5]),
+        ("the same above 255", [600, 600, 279, 1, 5]),
+        ("more in the frame than were taken", [30, 10, 13, 1, 5]),
+        ("the same with nothing taken", [30, 0, 3, 1, 5]),
+        ("credits above 65,535", [30, 0, 2, 1, 65_535]),
+        ("the same by many set aside", [30, 0, 2, 65_531, 5]),
+    ] {
+        assert!(refused(&with(numbers), &room), "{what}");
+        let mut buffer = [0x77; 64];
+        let mut its_room = room.clone();
+        let mut channels = ChannelManager::from_parts(Table::from_octets(with(numbers)), &mut its_room);
+        assert_eq!(channels.start_job(SLOT, 1, &mut buffer).err(), Some(Refusal::BadTable), "{what}");
+        assert_eq!(channels.give_portion(SLOT, &[1], &mut buffer), Err(Refusal::BadTable), "{what}");
+        assert_eq!(channels.cancel_job(SLOT), Err(Refusal::BadTable), "{what}");
+        assert!(buffer == [0x77; 64] && channels.table().octets() == &with(numbers));
+    }
+    for numbers in [
+        [5, 5, 7, 1, 5],
+        [65_535, 65_535, 23, 1, 5],
+        [30, 10, 12, 1, 65_534],
+        [30, 0, 2, 65_530, 5],
+        [0, 0, 2, 1, 5],
+        [5, 9, 60, 0, 65_535],
+    ] {
+        assert!(!refused(&with(numbers), &room), "{numbers:?}");
+    }
+}
+
+/// A portion and a cancel on tables that no call wrote: each ends, writes within the buffer, and changes the slot's open job alone, or its state.
+#[test]
+fn portions_of_forged_jobs() {
+    let (octets, room) = busy();
+    let some = [0, 1, 2, 3, 20, 21, 22, 23, 24, 255, 256, 65_534, 65_535];
+    let mut given = 0;
+    for (length, taken, filled) in some.iter().flat_map(|a| some.iter().flat_map(move |b| (0..=23).map(move |c| (*a, *b, c)))) {
+        for aside in [1_u16, 2, 65_530] {
+            let mut octets = octets;
+            for (column, number) in [(39, length), (41, taken), (43, filled), (45, aside)] {
+                [octets[cell(0, column)], octets[cell(0, column + 1)]] = u16::to_le_bytes(number);
+            }
+            let mut its_room = room.clone();
+            let mut channels = ChannelManager::from_parts(Table::from_octets(octets), &mut its_room);
+            let size = job_buffer_octets(23, length.into());
+            let mut buffer = vec![0x77; size + 1];
+            let left = usize::from(length.saturating_sub(taken));
+            match channels.give_portion(SLOT, &vec![1; left.min(60)], &mut buffer[..size]) {
+                Ok(came) => {
+                    given += 1;
+                    assert!(came.taken <= left && came.frame.is_none_or(|frame| frame.len() <= 27));
+                    assert!(came.taken > 0 || came.frame.is_some() || left == 0);
+                }
+                Err(refusal) => assert_eq!((refusal, taken > length || filled > taken.saturating_add(2)), (Refusal::BadTable, true)),
+            }
+            assert_eq!(buffer[size], 0x77);
+            let now = channels.table().octets();
+            assert!((0..TABLE_OCTETS).all(|place| now[place] == octets[place] || (place % 16 == 0 && place >= cell(0, 39))));
+            assert!(channels.room() == room && channels.attention() != Err(Refusal::BadRoom));
+        }
+    }
+    assert!(given > 1000);
 }
 
 /// A failed attempt with a result of no name is no slot to look at; one with a name is.
@@ -178,7 +255,7 @@ fn a_send_refuses_the_same() {
     assert!(refused > 0 && sent > 0);
 }
 
-/// A frame in tests the octets in the same pass, and of its slot it changes state, account, assembly and queue alone.
+/// A frame in tests the octets in the same pass, and of its slot it changes state, account, assembly and queue alone, and closes the open job of a channel that ends.
 #[test]
 fn a_frame_refuses_the_same() {
     let (busy, room) = busy();
@@ -194,7 +271,7 @@ fn a_frame_refuses_the_same() {
             assert_eq!(answer == Err(Refusal::BadTable), bad, "octet {place} with {change:#x}");
             refused += u32::from(bad);
             changed += u32::from(channels.table().octets() != &octets);
-            for column in (0..=1).chain(10..=16).chain(26..=38).filter(|_| !bad) {
+            for column in (0..=1).chain(10..=16).chain(26..=46).filter(|_| !bad) {
                 octets[cell(0, column)] = channels.table().octets()[cell(0, column)];
             }
             assert!(channels.table().octets() == &octets, "octet {place} with {change:#x}");

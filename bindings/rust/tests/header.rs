@@ -68,7 +68,7 @@ fn wrapper() -> Entries {
         entries.insert(entry.into(), types);
     }
     entries.insert("l2cap_signal_rest".into(), vec!["*const u8".into(), "usize".into(), "usize".into()]);
-    entries.insert("l2cap_version_1".into(), vec!["u32".into()]);
+    entries.insert("l2cap_version_2".into(), vec!["u32".into()]);
     entries
 }
 
@@ -130,6 +130,8 @@ fn refusals_have_the_same_names_and_numbers() {
         QueueFull,
         Held,
         TooLong,
+        JobOpen,
+        WrongLength,
     ];
     let rust = refusals.iter().map(|refusal| (in_c("L2CAP", &format!("{refusal:?}")), refusal.number().into())).collect();
     assert_eq!(named("l2cap_refusal"), rust);

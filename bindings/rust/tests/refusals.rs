@@ -26,7 +26,7 @@ fn refusing(refusal: Refusal, table: &Table, room: &[u8], link: ConnHandle, inde
     names
 }
 
-const LENT_ROOM: [&str; 15] = [
+const LENT_ROOM: [&str; 16] = [
     "signal",
     "reject_pending",
     "reject_all_pending",
@@ -39,6 +39,7 @@ const LENT_ROOM: [&str; 15] = [
     "disconnected",
     "next_disconnect",
     "dispatch",
+    "cancel_job",
     "receive",
     "dispatch_run",
     "make",
@@ -154,6 +155,9 @@ fn refusal_06_bad_slot() {
                 "dec_ref",
                 "disconnect",
                 "send",
+                "start_job",
+                "give_portion",
+                "cancel_job",
                 "receive",
                 "spsm",
                 "mtu",
@@ -467,4 +471,36 @@ fn refusal_23_too_long() {
     // The longest job that goes: 2,850 frames.
     let frames = channels.send(index, &vec![1; 65533], &mut out).unwrap();
     assert_eq!((frames.count, frames.octets.len(), frames.iter().count()), (2850, 76_935, 2850));
+}
+
+#[test]
+fn refusal_24_job_open() {
+    let mut room = [0; ROOM];
+    let mut channels = made(&mut room);
+    let index = opened(&mut channels);
+    let (mut buffer, mut out) = ([0x77; 64], [0x77; 64]);
+    let _ = channels.start_job(index, 5, &mut buffer).unwrap();
+    unchanged(&mut channels, Refusal::JobOpen, |channels| channels.send(index, &[1], &mut out).map(|_| ()));
+    unchanged(&mut channels, Refusal::JobOpen, |channels| channels.start_job(index, 5, &mut out).map(|_| ()));
+    assert_eq!(out, [0x77; 64]);
+    // Its last octet closes it.
+    assert!(channels.give_portion(index, &[1; 5], &mut buffer).unwrap().done);
+    assert_eq!(channels.send(index, &[1], &mut out).unwrap().count, 1);
+}
+
+#[test]
+fn refusal_25_wrong_length() {
+    let mut room = [0; ROOM];
+    let mut channels = made(&mut room);
+    let index = opened(&mut channels);
+    let mut buffer = [0x77; 27];
+    let _ = channels.start_job(index, 30, &mut buffer).unwrap();
+    let begun = buffer;
+    // Also where the call would have stopped at a frame, long before the last octet.
+    unchanged(&mut channels, Refusal::WrongLength, |channels| channels.give_portion(index, &[1; 31], &mut buffer).map(|_| ()));
+    assert_eq!(buffer, begun);
+    assert_eq!(channels.give_portion(index, &[1; 30], &mut buffer).unwrap().taken, 21);
+    let full = buffer;
+    unchanged(&mut channels, Refusal::WrongLength, |channels| channels.give_portion(index, &[1; 10], &mut buffer).map(|_| ()));
+    assert_eq!(buffer, full);
 }

@@ -9,7 +9,7 @@ use l2cap_channels::*;
 use std::collections::{BTreeMap, BTreeSet};
 use std::path::Path;
 
-const REFUSALS: [Refusal; 23] = [
+const REFUSALS: [Refusal; 25] = [
     Refusal::BadTable,
     Refusal::BadRoom,
     Refusal::NoRoom,
@@ -33,6 +33,8 @@ const REFUSALS: [Refusal; 23] = [
     Refusal::QueueFull,
     Refusal::Held,
     Refusal::TooLong,
+    Refusal::JobOpen,
+    Refusal::WrongLength,
 ];
 
 /// What every call tests first.
@@ -162,7 +164,10 @@ fn the_other_tests_are_in_its_order() {
         ended(channels.reject_pending(Hold::of(SLOT), LeCreditConnResultCode::NoResources, &mut signal)).err(),
     );
     before("opened", Disconnected, NotFound, channels.opened(SLOT, PHONE, true).err());
-    before("send", ChannelClosed, InsufficientSpace, channels.send(SLOT, &[1], &mut out).err());
+    before("send", ChannelClosed, JobOpen, channels.send(SLOT, &[1], &mut out).err());
+    before("start_job", ChannelClosed, JobOpen, channels.start_job(SLOT, 1, &mut out).err());
+    before("give_portion", ChannelClosed, NotFound, channels.give_portion(SLOT, &[1], &mut out).err());
+    before("cancel_job", ChannelClosed, NotFound, channels.cancel_job(SLOT).err());
     for (first, second, pdu) in [
         (InvalidValue, NotSupported, "9901000016090500"),
         (Decode, NotFound, "15010a0050006400170005000300"),
@@ -200,16 +205,30 @@ fn the_other_tests_are_in_its_order() {
     before("send", InsufficientSpace, TooLong, channels.send(SLOT, &vec![1; 65536], &mut out).err());
     before("send", TooLong, BadMps, channels.send(SLOT, &vec![1; 65534], &mut out).err());
     before("send", BadMps, Busy, channels.send(SLOT, &[1], &mut out).err());
+    before("start_job", InsufficientSpace, TooLong, channels.start_job(SLOT, usize::MAX, &mut out).err());
+    before("start_job", TooLong, BadMps, channels.start_job(SLOT, 65534, &mut out).err());
+    before("start_job", BadMps, Busy, channels.start_job(SLOT, 1, &mut out).err());
+    before("give_portion", NotFound, NoRoom, channels.give_portion(SLOT, &[1], &mut []).err());
 
     // An open channel without a credit for us, in which two jobs wait.
     let mut room = [0; ROOM];
     let mut channels = made(&mut room);
     open(&mut channels, PHONE, &request(0x50, 100, 23, 0), &L2capChannelConfig { initial_credits: Some(9), ..usual });
     before("send", Busy, NoRoom, channels.send(SLOT, &[1], &mut []).err());
+    before("start_job", Busy, NoRoom, channels.start_job(SLOT, 1, &mut []).err());
     for _ in 0..2 {
         channels.dispatch(PHONE, SLOT.cid(), &[0, 0]).expect("a job");
     }
     before("dispatch", InvalidValue, QueueFull, channels.dispatch(PHONE, SLOT.cid(), &[1, 0, 1, 2]).err());
+
+    // An open channel with an open job.
+    let mut room = [0; ROOM];
+    let mut channels = made(&mut room);
+    opened(&mut channels);
+    let _ = channels.start_job(SLOT, 3, &mut out).expect("a job");
+    before("send", JobOpen, InsufficientSpace, channels.send(SLOT, &[1; 101], &mut out).err());
+    before("start_job", JobOpen, InsufficientSpace, channels.start_job(SLOT, 101, &mut out).err());
+    before("give_portion", NoRoom, WrongLength, channels.give_portion(SLOT, &[1; 4], &mut out[..8]).err());
 }
 
 /// A script's comment that begins with a number names that refusal, and the next line's row has it.
@@ -235,8 +254,8 @@ fn the_script_of_refusals_names_them() {
             }
         }
     }
-    // 2 and 3 can't be reached, and 23 needs a long line.
-    assert_eq!(named, (1..=22).filter(|number| ![2, 3].contains(number)).collect());
+    // 2 can't be reached, and 23 needs a long line.
+    assert_eq!(named, (1..=25).filter(|number| ![2, 23].contains(number)).collect());
 }
 
 /// Numbers that look drawn, the same in every run.
@@ -309,6 +328,15 @@ fn any_call(name: &str, chance: &mut Chance, channels: &mut ChannelManager<'_>, 
             let most = chance.of(&[5, out.len()]);
             channels.send(index, &vec![1; length], &mut out[..most]).err()
         }
+        "start_job" => {
+            let length = chance.of(&[0, 22, 22, 30, 101, 65533, 65534]);
+            let most = chance.of(&[5, out.len()]);
+            channels.start_job(index, length, &mut out[..most]).map(|_| ()).err()
+        }
+        "give_portion" => {
+            let most = chance.of(&[5, out.len(), out.len(), out.len()]);
+            channels.give_portion(index, &[1; 60][..chance.of(&[0, 1, 22, 60])], &mut out[..most]).err()
+        }
         // a run that has no place for an answer
         "dispatch_run" if chance.of(&[true, false]) => channels.dispatch_run(&mut one_frame(&mut [0; 8], link), &mut []).err(),
         "send_run" if chance.of(&[true, false]) => channels.send_run(&mut one_job(&mut [0; 8], index), out, &mut []).err(),
@@ -322,7 +350,8 @@ fn runs_by_chance_give_what_it_lists() {
     let mut seen: BTreeMap<String, BTreeSet<u8>> = BTreeMap::new();
     let (mut out, mut chance) = (vec![0; 76_935], Chance(17));
     // Most calls end a channel or ask. Those with the most to refuse come more often.
-    let names = [&CALLS[..], &["signal"; 20], &["opened"; 5], &["dispatch"; 20], &["send"; 10]].concat();
+    let names =
+        [&CALLS[..], &["signal"; 20], &["opened"; 5], &["dispatch"; 20], &["send"; 10], &["start_job"; 15], &["give_portion"; 15]].concat();
     for _ in 0..4_000 {
         let mut room = [0; ROOM];
         let mut channels = made(&mut room);

@@ -147,7 +147,7 @@ fn any_run(of: Of, chance: &mut Chance) -> Vec<u8> {
 /// Runs by chance, cut at every octet, with answers of every length and outputs of several.
 fn runs_by_chance(of: Of) {
     let mut chance = Chance(of as u64 + 5);
-    let mut numbers = [0; 24];
+    let mut numbers = [0; 26];
     for _ in 0..150 {
         let (table, room) = any_table(&mut chance);
         let octets = any_run(of, &mut chance);
@@ -178,13 +178,13 @@ fn bad_tables_and_rooms() {
     let mut chance = Chance(9);
     let all: Vec<usize> = (0..TABLE_OCTETS).collect();
     for of in [Of::Frames, Of::Jobs] {
-        let mut numbers = [0; 24];
+        let mut numbers = [0; 26];
         for _ in 0..3000 {
             let (table, mut room) = any_table(&mut chance);
             let octets = any_run(of, &mut chance);
             let mut table = table.octets().to_vec();
             table[chance.of(&all)] ^= chance.of(&[1, 2, 4, 8, 16, 32, 64, 128]);
-            table.truncate(chance.of(&[0, 671, 672, 672, 672, 672, 672, 672]));
+            table.truncate(chance.of(&[0, 672, TABLE_OCTETS - 1, TABLE_OCTETS, TABLE_OCTETS, TABLE_OCTETS, TABLE_OCTETS, TABLE_OCTETS]));
             room.truncate(chance.of(&[0, ROOM - 1, ROOM, ROOM, ROOM, ROOM]));
             let was = Memory::new(&table, &room, 200, 160);
             let mut is = same(of, &octets, &was);

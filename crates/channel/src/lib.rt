@@ -70,6 +70,16 @@ pub struct Queue {
     pub lens: [u16; DEPTH],
 }
 
+// The job that is handed over in portions: the octets that were stated, those taken so far, those in the frame that is being filled (the job's
+// length, the stream's first two octets, counts), and the credits still set aside, one for each frame to come. A job is open while credits are
+// set aside; else all four are 0.
+pub struct OpenJob {
+    pub length: u16,
+    pub taken: u16,
+    pub filled: u16,
+    pub aside: u16,
+}
+
 // One slot (`ChannelStorage` in the original). Its local CID is 0x40 + its number and isn't stored.
 pub struct Slot {
     pub state: ChannelState,
@@ -82,6 +92,7 @@ pub struct Slot {
     pub peer: Peer,
     pub assembly: Assembly,
     pub queue: Queue,
+    pub job: OpenJob,
 }
 
 // The table: N slots in use, D waiting jobs a slot, packets of M octets, the next identifier, a bit for each registered SPSM.
@@ -136,7 +147,7 @@ pub enum Answer {
         link: u16,
         slot: ChannelIndex,
     },
-    // 0, and the frames that were written, with their link.
+    // 0, and the frames of the job that was sent or begun, with their link.
     Frames {
         link: u16,
         count: usize,
@@ -162,10 +173,16 @@ pub enum Answer {
         latency: u16,
         timeout: u16,
     },
+    // 0, and what was taken of a portion: its octets, whether a frame is full and given out, and the link on which that goes out.
+    Portion {
+        link: u16,
+        taken: usize,
+        full: bool,
+    },
 }
 
-// What a call gives back: its answer, the table after it, and the octets that it wrote at the start of the lent signal buffer or
-// frame output.
+// What a call gives back: its answer, the table after it, and the octets that it gives out at the start of the lent signal buffer, frame
+// output or job's frame buffer.
 pub struct Served {
     pub answer: Answer,
     pub table: Table,

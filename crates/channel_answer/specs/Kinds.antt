@@ -33,3 +33,7 @@ number = 9
 
 abbrev pub event : ℕ
 event = 10
+
+-- (11 is the answer of a run, which is no call's: crate edge_run.)
+abbrev pub portion : ℕ
+portion = 12

@@ -1,6 +1,7 @@
 -- What an answer tells, in numbers: its kind, its refusal's number, and what it carries. Octets (edge_answer), rows (row_answer,
 -- row_call) and the promises of the definition have an answer's number and values from here.
 use Prim.Native.Nat.{ℕ, min}
+use Rattle.lists.specs.Bits.{bit}
 use Rattle.codes.specs.Codes.{refusalNumber, resultIn}
 use Rattle.channel.specs.declared.Answer.{Answer}
 use Rattle.channel.specs.declared.Answer.the-variants as Answer
@@ -26,6 +27,7 @@ tells (Answer.Job link copied length) = toldBy Kind.job 0 link (shown copied) le
 tells (Answer.Attention set count lowest) = toldBy Kind.attention 0 set count lowest 0
 tells (Answer.Number n) = toldBy Kind.number 0 n 0 0 0
 tells (Answer.Event least most latency timeout) = toldBy Kind.event 0 least most latency timeout
+tells (Answer.Portion link taken full) = toldBy Kind.portion 0 link (shown taken) (bit full) 0
 
 -- the paper's number of an answer: 0, or the number of the refusal (document 01, 'What a refusal says and leaves')
 abbrev pub answerNumber : Answer → ℕ

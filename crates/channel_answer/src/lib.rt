@@ -5,9 +5,10 @@ use codes::Refusal;
 use octets::least;
 ghost use mathlib.Core.Path.{_≡_};
 ghost use Rattle.channel.specs.declared.Answer.the-variants.{Refused};
+ghost use Rattle.lists.specs.Bits as Bits;
 ghost use Rattle.channel_answer.specs.Tells.{shown, toldBy, tells};
 
-// The kinds, a number for each answer in their order (specs/Kinds.antt).
+// The kinds, a number for each answer in their order (specs/Kinds.antt). 11 is the answer of a run, which is no call's (`edge_run`).
 pub const DONE: u8 = 0;
 
 pub const REFUSED: u8 = 1;
@@ -29,6 +30,8 @@ pub const ATTENTION: u8 = 8;
 pub const NUMBER: u8 = 9;
 
 pub const EVENT: u8 = 10;
+
+pub const PORTION: u8 = 12;
 
 // What an answer tells: its kind, the refusal's number, and four numbers.
 pub struct Told {
@@ -59,6 +62,12 @@ pub fn shown(n: usize) -> u16
     ensures { λ r. ⌜ r ≡ shown n ⌝ }
 {
     least(n, 65535) as u16
+}
+
+fn bit(b: bool) -> u16
+    ensures { λ r. ⌜ r ≡ Bits.bit b ⌝ }
+{
+    if b { 1 } else { 0 }
 }
 
 // A refusal, with what it carries.
@@ -106,5 +115,6 @@ pub fn tells(a: Answer) -> Told
             latency,
             timeout,
         } => plain(EVENT, min, max, latency, timeout),
+        Answer::Portion { link, taken, full } => plain(PORTION, link, shown(taken), bit(full), 0),
     }
 }

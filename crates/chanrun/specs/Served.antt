@@ -1,5 +1,6 @@
--- What a line of a script leaves (docs/CHANRUN.md): the table, and all of the room that the program holds, of which the table's own is the start. The rows
--- that it prints are those of the plays.
+-- What a line of a script leaves (docs/CHANRUN.md): the table, all of the room that the program holds, of which the table's own is the start, and the buffers of open
+-- jobs. The rows that it prints are those of the plays.
+use mathlib.Core.Path.{_≡_}
 use mathlib.Core.List.{List, _++_}
 use Prim.Native.Nat.{ℕ, min}
 use lib.ListN.{length, take, drop}
@@ -11,9 +12,31 @@ use Rattle.script.specs.Script.{commandOf}
 use Rattle.script_commands.specs.declared.Command.{Command}
 use Rattle.script_commands.specs.declared.Command.the-variants as Command
 use Rattle.run_play.specs.Plays.{sizeOf, spelledOf}
-use Rattle.run_signals.specs.Signalled.{After, after, left, signalsOf}
+use Rattle.run_signals.specs.Signalled.{After, after, left, Leaves, signalsOf}
 use Rattle.run_table.specs.PlayedTable.{madeOf}
+use Rattle.run_portions.specs.PlayedPortions.{cleared, Lent, portionsOf}
 use Rattle.run.specs.Playing.{playOf}
+
+-- ---- all that a line leaves: the table and the room, and the buffers of open jobs
+
+pub record All : Type 0 where
+  pub after : After
+  pub buffers : List ℕ
+
+abbrev pub allOf : After → (buffers : List ℕ) → All
+allOf a buffers = record { after = a; buffers = buffers }
+
+pub record Serves (a : All) (u : Table) (room′ buffers′ : List ℕ) : Type 0 where
+  pub leaves : Leaves (a .after) u room′
+  pub buffers : buffers′ ≡ a .buffers
+
+-- after each `T`, also one that is refused
+abbrev pub madeAll : (n d m : ℕ) (room buffers : List ℕ) → All
+madeAll n d m room buffers = allOf (left (madeOf n d m room)) (cleared buffers)
+
+-- "nothing but `N` and `p` writes to it"
+abbrev pub lentAll : Lent → All
+lentAll l = allOf (left (l .play)) (l .buffers)
 
 -- ---- a line, by its command
 
@@ -22,23 +45,23 @@ abbrev pub held : Table → (room : List ℕ) → ℕ
 held t room = min (sizeOf (t .n) (t .d) (t .m)) (length room)
 
 -- what stands behind the table's room stays
-abbrev pub before : (rest : List ℕ) → After → After
-before rest a = after (a .table) (a .room ++ rest)
+abbrev pub before : (rest : List ℕ) → All → All
+before rest a = allOf (after (a .after .table) (a .after .room ++ rest)) (a .buffers)
 
-module _ (t : Table) (line room octets frames : List ℕ) where
+module _ (t : Table) (line room octets frames buffers : List ℕ) where
   -- on the table's own room
-  abbrev within : (List ℕ → After) → After
+  abbrev within : (List ℕ → All) → All
   within f = before (drop (held t room) room) (f (take (held t room) room))
 
-  abbrev pub played : Command → After
-  played c = within (λ own. left (playOf t own line octets frames c))
+  abbrev pub played : Command → All
+  played c = within (λ own. allOf (left (playOf t own line octets frames c)) buffers)
 
-  unfoldable pub lineOf : Command → After
+  unfoldable pub lineOf : Command → All
   lineOf Command.Bad = played Command.Bad
   lineOf (Command.Opening c) = played (Command.Opening c)
   lineOf (Command.Closing c) = played (Command.Closing c)
-  lineOf (Command.Make n d m) = left (madeOf n d m room)
-  lineOf (Command.Signal link listening central pdu) = within (λ own. signalsOf link listening central t own (spelledOf (length octets) line pdu))
+  lineOf (Command.Make n d m) = madeAll n d m room buffers
+  lineOf (Command.Signal link listening central pdu) = within (λ own. allOf (signalsOf link listening central t own (spelledOf (length octets) line pdu)) buffers)
   lineOf (Command.Opened slot link up) = played (Command.Opened slot link up)
   lineOf (Command.Dispatch link cid payload) = played (Command.Dispatch link cid payload)
   lineOf (Command.Send slot job) = played (Command.Send slot job)
@@ -46,11 +69,12 @@ module _ (t : Table) (line room octets frames : List ℕ) where
   lineOf (Command.Queries slot) = played (Command.Queries slot)
   lineOf Command.View = played Command.View
   lineOf (Command.Room slot) = played (Command.Room slot)
+  lineOf (Command.Portions c) = within (λ own. lentAll (portionsOf t own line octets buffers c))
 
 -- ---- what was found in the input: a line, or one that is too long, whose row is `? -`; else there is nothing to serve
-module _ (t : Table) (input room octets frames : List ℕ) where
-  unfoldable pub foundOf : Found → After
-  foundOf (Found.Line w) = lineOf t (textOf input w) room octets frames (commandOf (textOf input w))
-  foundOf Found.Passed = after t room
-  foundOf Found.Long = after t room
-  foundOf Found.More = after t room
+module _ (t : Table) (input room octets frames buffers : List ℕ) where
+  unfoldable pub foundOf : Found → All
+  foundOf (Found.Line w) = lineOf t (textOf input w) room octets frames buffers (commandOf (textOf input w))
+  foundOf Found.Passed = allOf (after t room) buffers
+  foundOf Found.Long = allOf (after t room) buffers
+  foundOf Found.More = allOf (after t room) buffers

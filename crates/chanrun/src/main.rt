@@ -18,6 +18,9 @@ const OCTETS: usize = 65535;
 // The frames of the longest job at the smallest MPS.
 const FRAMES: usize = 76935;
 
+// The buffers of open jobs: one for each slot of the largest table.
+const BUFFERS: usize = channel::SLOTS * script_commands::BUFFER_MOST as usize;
+
 // The longest row: the frames in hex, the answer and a column.
 const ROW: usize = 160000;
 
@@ -66,14 +69,21 @@ fn fetch(input: &mut [u8], h: Held) -> Fetched {
 }
 
 // The whole input. A loop has to end, and nothing says that the input does: the turns are counted down from a number that no run uses up.
-fn run(input: &mut [u8], room: &mut [u8], octets: &mut [u8], frames: &mut [u8], row: &mut [u8]) {
+fn run(
+    input: &mut [u8],
+    room: &mut [u8],
+    octets: &mut [u8],
+    frames: &mut [u8],
+    buffers: &mut [u8],
+    row: &mut [u8],
+) {
     let mut t = calls::no_table();
     let mut held = text_lines::none();
     let mut turns = u64::MAX;
     while 0 < turns {
         let next = fetch(input, held);
         let found = next.found;
-        let table = calls::serve_found(t, found, input, room, octets, frames, row);
+        let table = calls::serve_found(t, found, input, room, octets, frames, buffers, row);
         if !next.again {
             return;
         }
@@ -89,7 +99,15 @@ fn main() {
     let mut room = [0u8; ROOM];
     let mut octets = [0u8; OCTETS];
     let mut frames = [0u8; FRAMES];
+    let mut buffers = [0u8; BUFFERS];
     let mut row = [0u8; ROW];
     io::write_all(libc::STDOUT_FILENO, b"answer octets\n");
-    run(&mut input, &mut room, &mut octets, &mut frames, &mut row);
+    run(
+        &mut input,
+        &mut room,
+        &mut octets,
+        &mut frames,
+        &mut buffers,
+        &mut row,
+    );
 }

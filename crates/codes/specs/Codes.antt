@@ -1,4 +1,4 @@
--- The paper's number for each refusal (document 01, 'What a refusal says and leaves') and each result code (Core Vol 3 Part A 4.23).
+-- The paper's number for each refusal (document 01, 'What a refusal says and leaves'; 24 and on, document 02) and each result code (Core Vol 3 Part A 4.23).
 use mathlib.Core.Path.{_≡_, refl, sym, _∙_}
 use mathlib.Core.Bool.{Bool, true, false, cond}
 use Prim.Native.Nat.{ℕ}
@@ -101,6 +101,8 @@ refusalNumber Refusal.BadMps = 20
 refusalNumber Refusal.QueueFull = 21
 refusalNumber Refusal.Held = 22
 refusalNumber Refusal.TooLong = 23
+refusalNumber Refusal.JobOpen = 24
+refusalNumber Refusal.WrongLength = 25
 
 -- the result code that refusal 17 carries; 0 of every other
 unfoldable pub resultIn : Refusal → ℕ
@@ -127,3 +129,5 @@ resultIn Refusal.BadMps = 0
 resultIn Refusal.QueueFull = 0
 resultIn Refusal.Held = 0
 resultIn Refusal.TooLong = 0
+resultIn Refusal.JobOpen = 0
+resultIn Refusal.WrongLength = 0

@@ -23,7 +23,7 @@ pub enum ResultRead {
     Unknown,
 }
 
-// What a call refuses with, in the order of document 01's table.
+// What a call refuses with, in the order of document 01's table, and then of document 02.
 pub enum Refusal {
     BadTable,
     BadRoom,
@@ -48,6 +48,8 @@ pub enum Refusal {
     QueueFull,
     Held,
     TooLong,
+    JobOpen,
+    WrongLength,
 }
 
 // The number on the air.
@@ -105,7 +107,7 @@ pub fn result_of(n: u16) -> ResultRead
     ResultRead::Unknown
 }
 
-// The refusal's number in document 01.
+// The refusal's number on paper.
 pub fn refusal_number(r: Refusal) -> u8
     ensures { λ n. ⌜ n ≡ refusalNumber r ⌝ }
 {
@@ -133,6 +135,8 @@ pub fn refusal_number(r: Refusal) -> u8
         Refusal::QueueFull => 21,
         Refusal::Held => 22,
         Refusal::TooLong => 23,
+        Refusal::JobOpen => 24,
+        Refusal::WrongLength => 25,
     }
 }
 

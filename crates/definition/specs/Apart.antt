@@ -44,7 +44,7 @@ use Rattle.definition.specs.Closing.{disconnected}
 use Rattle.definition.specs.Signals.{onReject, onDisconnectionReq, onDisconnectionRes, onParameters, onParameterResponse, onConnReq, onConnRes, onCredits, handled, checked, signalled}
 use Rattle.definition.specs.Frames.{joined, dispatch}
 use Rattle.definition.specs.Asking.{sendSignal}
-use Rattle.definition.specs.Calls.{Call, frame, sends, down, plain, Request, register, signals, pends, rejectsAll, accepts, rejects, drops, creates, opens, gives, holds, releases, leaves, leavesCid, announces, takes, attends, asks, sendsSignal, writes, bare, Holder, nobody, by, holder, serve, decide}
+use Rattle.definition.specs.Calls.{Call, frame, sends, portions, down, plain, Request, register, signals, pends, rejectsAll, accepts, rejects, drops, creates, opens, gives, holds, releases, leaves, leavesCid, announces, takes, starts, cancels, attends, asks, sendsSignal, writes, bare, Holder, nobody, by, holder, serve, decide}
 use Rattle.definition.specs.Forms.{Fit, Basis, Does, in-use, itself, with-id, still-does, change-does, sweep-does, if-does, else-does, gate-does, gate-at, found-passes, free-slot}
 use Rattle.definition.specs.Tells.{cid-slot}
 
@@ -72,6 +72,8 @@ askedBy (leaves s) = nobody
 askedBy (leavesCid cid) = nobody
 askedBy announces = nobody
 askedBy (takes s) = nobody
+askedBy (starts s l) = nobody
+askedBy (cancels s) = nobody
 askedBy attends = nobody
 askedBy (asks of s) = nobody
 askedBy (sendsSignal link s) = by link
@@ -80,6 +82,7 @@ askedBy (writes octets) = nobody
 abbrev pub calledBy : Call → Holder
 calledBy (frame link cid payload) = by link
 calledBy (sends s sdu out) = nobody
+calledBy (portions s octets out) = nobody
 calledBy (down link) = by link
 calledBy (plain r out job) = askedBy r
 
@@ -250,6 +253,8 @@ asked-apart t fit (leaves s) room out job = tt
 asked-apart t fit (leavesCid cid) room out job = tt
 asked-apart t fit announces room out job = tt
 asked-apart t fit (takes s) room out job = tt
+asked-apart t fit (starts s l) room out job = tt
+asked-apart t fit (cancels s) room out job = tt
 asked-apart t fit attends room out job = tt
 asked-apart t fit (asks of s) room out job = tt
 asked-apart t fit (sendsSignal link s) room out job = sendsSignal-apart t fit link out s
@@ -259,5 +264,6 @@ pub apart : (t : Table) → Fit t → (c : Call) (count room out job : ℕ) → 
 unfolding decide bare
 apart t fit (frame link cid payload) count room out job = frame-apart t fit link room cid _ count
 apart t fit (sends s sdu w) count room out job = tt
+apart t fit (portions s octets w) count room out job = tt
 apart t fit (down link) count room out job = down-apart t fit link room
 apart t fit (plain r v w) count room out job = asked-apart t fit r room out job

@@ -1,5 +1,6 @@
 -- All calls, and what is job and what is public in each (document 01, 'Slots': "Job octets are the SDU octets handed to a send, and a
--- frame's payload but for the two length octets of a frame that arrives with no assembly open").
+-- frame's payload but for the two length octets of a frame that arrives with no assembly open"; document 02: a portion's octets, for its frame
+-- buffer "counts as that link's sent job", and "portion lengths [are] public").
 use mathlib.Core.Bool.{Bool, false, _&&_, not}
 use mathlib.Core.List.{List, [], _∷_}
 use Prim.Native.Nat.{ℕ}
@@ -23,6 +24,7 @@ use Rattle.definition.specs.Opening.{create, opened, giveUp}
 use Rattle.definition.specs.Closing.{incRef, decRef, disconnect, disconnectByCid, disconnected, nextDisconnect}
 use Rattle.definition.specs.Signals.{signalled}
 use Rattle.definition.specs.Frames.{dispatch, send, receive}
+use Rattle.definition.specs.Portions.{startJob, givePortion, cancelJob}
 use Rattle.definition.specs.Asking.{registerSpsm, attention, query, sendSignal}
 
 -- The part of the caller's memory that a call is lent: `size` octets from `from` on.
@@ -48,6 +50,8 @@ pub data Request : Type 0 where
   leavesCid : (cid : ℕ) → Request
   announces : Request
   takes : (slot : ℕ) → Request
+  starts : (slot length : ℕ) → Request  -- its output is the job's frame buffer
+  cancels : (slot : ℕ) → Request
   attends : Request
   asks : (of : Slot → ℕ) (slot : ℕ) → Request
   sendsSignal : (link : ℕ) → Signal → Request
@@ -56,6 +60,7 @@ pub data Request : Type 0 where
 pub data Call : Type 0 where
   frame : (link cid : ℕ) (payload : List ℕ) → Call
   sends : (slot : ℕ) (sdu : List ℕ) (out : Window) → Call
+  portions : (slot : ℕ) (octets : List ℕ) (out : Window) → Call  -- the job's frame buffer
   down : (link : ℕ) → Call
   plain : Request → (out job : Window) → Call  -- the signal buffer, and a take's job buffer
 
@@ -73,6 +78,7 @@ headOf t cid payload = choose (joining t cid) [] (take 2 payload)
 unfoldable pub jobs : Table → Call → List ℕ
 jobs t (frame link cid payload) = choose (joining t cid) payload (drop 2 payload)
 jobs t (sends s sdu out) = sdu
+jobs t (portions s octets out) = octets
 jobs t (down link) = []
 jobs t (plain r out job) = []
 
@@ -80,6 +86,7 @@ jobs t (plain r out job) = []
 unfoldable pub bare : Table → Call → Call
 bare t (frame link cid payload) = frame link cid (headOf t cid payload)
 bare t (sends s sdu out) = sends s [] out
+bare t (portions s octets out) = portions s [] out
 bare t (down link) = down link
 bare t (plain r out job) = plain r out job
 
@@ -110,10 +117,11 @@ abbrev pub isBy : ℕ → Holder → Bool
 isBy k nobody = false
 isBy k (by l) = eqb k l
 
--- The link that the frame came on; the link of the slot that is sent on.
+-- The link that the frame came on; the link of the slot that is sent on, or whose job a portion is.
 unfoldable pub carrier : Table → Call → Holder
 carrier t (frame link cid payload) = by link
 carrier t (sends s sdu out) = holder (slotAt t s)
+carrier t (portions s octets out) = holder (slotAt t s)
 carrier t (down link) = nobody
 carrier t (plain r out job) = nobody
 
@@ -135,15 +143,18 @@ takenFrom t (leaves s) = nobody
 takenFrom t (leavesCid cid) = nobody
 takenFrom t announces = nobody
 takenFrom t (takes s) = holder (slotAt t s)
+takenFrom t (starts s l) = nobody
+takenFrom t (cancels s) = nobody
 takenFrom t attends = nobody
 takenFrom t (asks of s) = nobody
 takenFrom t (sendsSignal link s) = nobody
 takenFrom t (writes octets) = nobody
 
--- Whose frames a call writes to its output: a send alone does.
+-- Whose frames a call writes to its output: a send and a portion do.
 abbrev pub framesOut : Table → Call → Holder
 framesOut t (frame link cid payload) = nobody
 framesOut t (sends s sdu out) = holder (slotAt t s)
+framesOut t (portions s octets out) = holder (slotAt t s)
 framesOut t (down link) = nobody
 framesOut t (plain r out job) = nobody
 
@@ -151,6 +162,7 @@ framesOut t (plain r out job) = nobody
 abbrev pub jobOut : Table → Call → Holder
 jobOut t (frame link cid payload) = nobody
 jobOut t (sends s sdu out) = nobody
+jobOut t (portions s octets out) = nobody
 jobOut t (down link) = nobody
 jobOut t (plain r out job) = takenFrom t r
 
@@ -173,6 +185,8 @@ serve t (leaves s) room out job = disconnect t room s
 serve t (leavesCid cid) room out job = disconnectByCid t room cid
 serve t announces room out job = nextDisconnect t room out
 serve t (takes s) room out job = receive t room out s job
+serve t (starts s l) room out job = startJob t s l out
+serve t (cancels s) room out job = cancelJob t room s
 serve t attends room out job = attention t
 serve t (asks of s) room out job = query of t s
 serve t (sendsSignal link s) room out job = sendSignal t out link s
@@ -181,5 +195,6 @@ serve t (writes octets) room out job = still t Done (given octets ∷ [])
 unfoldable pub decide : Table → Call → (count room out job : ℕ) → Outcome
 decide t (frame link cid head) count room out job = dispatch t room link cid head count
 decide t (sends s sdu w) count room out job = send t s count out
+decide t (portions s octets w) count room out job = givePortion t s count out
 decide t (down link) count room out job = disconnected t room link
 decide t (plain r w v) count room out job = serve t r room out job

@@ -19,12 +19,12 @@ abbrev pub gave : Answer → Table → (octets : ℕ) → Served
 gave a t n = record { answer = a; table = t; octets = n }
 
 abbrev pub servedOf : Outcome → Served
-servedOf o = gave (o .answer) (o .table) (sizes (o .out))
+servedOf o = gave (o .answer) (o .table) (o .octets)
 
 pub record End : Type 0 where
   pub served : Served
   pub room : List ℕ
-  pub out : List ℕ  -- the signal buffer or frame output
+  pub out : List ℕ  -- the signal buffer, the frame output or a job's frame buffer
   pub job : List ℕ  -- a take's job buffer
 
 abbrev pub end : Served → (room out job : List ℕ) → End
@@ -42,8 +42,8 @@ endOf t jobs room out job o =
     record {
       served = servedOf o;
       room = roomAfter t jobs room o;
-      out = written itself jobs room (o .out) out;
-      job = written itself jobs room (o .job) job;
+      out = written itself jobs room (o .at) (o .out) out;
+      job = written itself jobs room 0 (o .job) job;
     }
 
 -- ---- what stands when a making has ended: no signal buffer and no job buffer is lent, and no octet is written but in the room
@@ -75,7 +75,7 @@ pub end-still : (t t′ : Table) (a : Answer) (jobs room out job : List ℕ) →
 unfolding endOf parts written fills sizes
 end-still t t′ a jobs room out job = refl
 
-pub written-none : (jobs room out : List ℕ) → written itself jobs room [] out ≡ out
+pub written-none : (jobs room out : List ℕ) → written itself jobs room 0 [] out ≡ out
 unfolding written fills
 written-none jobs room out = refl
 
@@ -84,7 +84,7 @@ map-itself [] = refl
 map-itself (x ∷ xs) = ap (λ (r : List ℕ). x ∷ r) (map-itself xs)
 
 -- given octets, written from a buffer's start
-pub written-given : (jobs room out xs : List ℕ) → written itself jobs room (given xs ∷ []) out ≡ sets out 0 xs
+pub written-given : (jobs room out xs : List ℕ) → written itself jobs room 0 (given xs ∷ []) out ≡ sets out 0 xs
 unfolding written fills fill
 written-given jobs room out xs = ap (sets out 0) (append-nil (map itself xs) ∙ map-itself xs)
 

@@ -26,7 +26,7 @@ use Rattle.channel.specs.declared.Table.{Table}
 use Rattle.definition.specs.Mem.{Fill, Move, wipe}
 use Rattle.definition.specs.States.{isDisconnected}
 use Rattle.definition.specs.Table.{gap, freed, slotAt, live, width, found, isFree, isCid, slotOf, spent, registered, wellFormed}
-use Rattle.definition.specs.Outcome.{Outcome, still, only, change, sweep, verdict, passed, gate}
+use Rattle.definition.specs.Outcome.{Outcome, still, only, change, filling, sweep, verdict, passed, gate}
 use Rattle.definition.specs.Calls.{nobody, by, holderIn, holder}
 use Rattle.definition.specs.Tells.{not-stopped}
 
@@ -141,6 +141,12 @@ module _ {P : Slot → Slot → List Move → Type 0} {t : Table} (on : Basis P 
         width = rw (q .d, q .m) refl;
         fit = record { fits = rw (q .n, q .slots) (omega (arith, on .fit .fits, length-set (t .slots) s y)) };
       }
+
+  -- a job's frame buffer filled: of the room nothing moves
+  pub filling-does : (s : ℕ) {y : Slot} {a : Answer} {at octets : ℕ} {out : List Fill} → leb (t .n) s ≡ false → P (slotAt t s) y [] → Does P t (filling t s y a at out octets)
+  filling-does s {y} {a} {out = out} h p =
+      let c = change-does s {y = y} {ms = []} {a = a} {out = out} itself h p in
+      record { parts = c .parts; slots = c .slots; width = c .width; fit = c .fit }
 
   pub sweep-does : (p : Slot → Bool) {a : Answer} → ((x : Slot) → p x ≡ true → P x (freed x) (wipe ∷ [])) → Does P t (sweep t p a)
   sweep-does p frees =

@@ -6,7 +6,7 @@ use Prim.Native.Nat.{ℕ, zero, suc, _+_, _-_, _*_, min}
 use lib.Dec.{eqb}
 use lib.ListN.{length, getD, set, drop}
 use Rattle.octets.specs.Octets.{le16, u16At}
-use Rattle.codes.specs.declared.Refusal.the-variants.{InvalidChannelId, NotFound, OutOfMemory, ChannelClosed, QueueFull}
+use Rattle.codes.specs.declared.Refusal.the-variants.{InvalidChannelId, NotFound, OutOfMemory, ChannelClosed, QueueFull, JobOpen}
 use Rattle.credit.specs.declared.Grant.{Grant}
 use Rattle.credit.specs.declared.Grant.the-variants as Grant
 use Rattle.credit.specs.Account.{received, granted, grantOf}
@@ -30,7 +30,7 @@ use Rattle.channel.specs.declared.Table.{Table}
 use Rattle.definition.specs.Mem.{Fill, zeros, given, job, held, Move, put}
 use Rattle.definition.specs.States.{isDisconnected, isConnecting, isPeerConnecting, isConnected, isConnectFailed}
 use Rattle.definition.specs.Slots.{withAccount, withPeerCredits, withAssembly, withQueue}
-use Rattle.definition.specs.Table.{if_then_else_, placeOf, width, slotAt, cidOf, isCid, slotOf, nextId, spent}
+use Rattle.definition.specs.Table.{if_then_else_, placeOf, width, slotAt, isOpen, cidOf, isCid, slotOf, nextId, spent}
 use Rattle.definition.specs.Outcome.{Outcome, change, handout, refuse, done, unassembled, leaving, gate}
 
 -- ---- frame in
@@ -101,30 +101,37 @@ dispatch t room link cid head count = gate t (Is room) Nothing (Is link) Nothing
 
 -- ---- send
 
--- The frames after the first: "the rest MPS each". n of them, from job octet `from` on, of l in all. Each is length, CID, payload
--- (Core Vol 3 Part A 3.4.1).
+-- The header of a K-frame: the payload's length, the channel (Core Vol 3 Part A 3.4.1). That of a job's first frame, and the SDU's length (3.4.2).
+abbrev pub header : (cid p : ℕ) → List ℕ
+header cid p = le16 p ++ le16 cid
+
+abbrev pub firstHeader : (cid p l : ℕ) → List ℕ
+firstHeader cid p l = le16 p ++ le16 cid ++ le16 l
+
+-- The frames after the first: "the rest MPS each". n of them, from job octet `from` on, of l in all. Each is a header and its payload.
 unfoldable pub laterFrames : (cid mps l n from : ℕ) → List Fill
 laterFrames cid mps l zero from = []
 laterFrames cid mps l (suc n) from =
     let p = min mps (l - from) in
-    given (le16 p ++ le16 cid) ∷ job from p ∷ laterFrames cid mps l n (from + p)
+    given (header cid p) ∷ job from p ∷ laterFrames cid mps l n (from + p)
 
 -- "The first frame carries the SDU length and min(L, MPS-2) octets"
 unfoldable pub frames : (cid mps l n : ℕ) → List Fill
 frames cid mps l n =
     let p = min l (mps - 2) in
-    given (le16 (p + 2) ++ le16 cid ++ le16 l) ∷ job 0 p ∷ laterFrames cid mps l (n - 1) p
+    given (firstHeader cid (p + 2) l) ∷ job 0 p ∷ laterFrames cid mps l (n - 1) p
 
 -- "On success peer credits fall by n."
 unfoldable pub planned : Table → (slot : ℕ) → Slot → (l : ℕ) → Plan → Outcome
 planned t s x l (Plan.Refused r) = refuse t r
 planned t s x l (Plan.Frames n octets) = change t s (withPeerCredits (x .peer .credits - n) x) [] (Frames (x .link) n) (frames (x .peer .cid) (x .peer .mps) l n)
 
--- "Send order: 11, 12, 23, 20, 14, 3." Of these 12 to 3 are the plan's (crate sar_cut). Behind the first refusals:
+-- "Send order: 11, 12, 23, 20, 14, 3", and 24, "for a second send while a job is open, comes after 11" (document 02). Of these 12 to 3 are the plan's (crate sar_cut). Behind the first refusals:
 abbrev pub sentOn : Table → (slot l out : ℕ) → Outcome
 sentOn t s l out =
     let x = slotAt t s in
     if not (isConnected (x .state)) then refuse t ChannelClosed
+    else if isOpen (x .job) then refuse t JobOpen
     else planned t s x l (planSend l (x .peer .mtu) (x .peer .mps) (x .peer .credits) out)
 
 unfoldable pub send : Table → (slot l out : ℕ) → Outcome

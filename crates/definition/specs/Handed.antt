@@ -1,5 +1,5 @@
 -- What each call hands out to the caller's memory: a take, to its job buffer alone, octets of the slot's own part of the room; a send, its
--- SDU; all else are octets that the call worked out itself. One lemma a call, and `hands` for all of them.
+-- SDU; a portion, its octets; all else are octets that the call worked out itself. One lemma a call, and `hands` for all of them.
 use mathlib.Core.Path.{_≡_, refl, sym, _∙_, ap}
 use mathlib.Core.Bool.{Bool, true, false, _&&_, false≢true}
 use mathlib.Core.List.{List, [], _∷_}
@@ -41,6 +41,7 @@ use Rattle.channel.specs.declared.Given.the-variants.{Nothing, Is}
 use Rattle.channel.specs.declared.L2capChannelConfig.{L2capChannelConfig}
 use Rattle.channel.specs.declared.Verdict.{Verdict}
 use Rattle.channel.specs.declared.Verdict.the-variants.{Pass, Stop}
+use Rattle.channel.specs.declared.OpenJob.{OpenJob}
 use Rattle.channel.specs.declared.Slot.{Slot}
 use Rattle.channel.specs.declared.Table.{Table}
 use Rattle.definition.specs.Slots.{withAccount}
@@ -51,8 +52,9 @@ use Rattle.definition.specs.Opening.{create, opened, giveUp}
 use Rattle.definition.specs.Closing.{incRef, decRef, disconnecting, disconnect, disconnectByCid, disconnected, nextDisconnect}
 use Rattle.definition.specs.Signals.{onReject, onDisconnectionReq, onDisconnectionRes, onParameters, onParameterResponse, onConnReq, onConnRes, onCredits, handled, checked, signalled}
 use Rattle.definition.specs.Frames.{joined, dispatch, planned, send, handing, taken, receive, laterFrames, frames, grantIn, oldestAt}
+use Rattle.definition.specs.Portions.{startPlanned, startJob, begins, filledWith, givePortion, cancelJob}
 use Rattle.definition.specs.Asking.{registerSpsm, attention, query, sendSignal}
-use Rattle.definition.specs.Calls.{Call, frame, sends, down, plain, Request, register, signals, pends, rejectsAll, accepts, rejects, drops, creates, opens, gives, holds, releases, leaves, leavesCid, announces, takes, attends, asks, sendsSignal, writes, bare, Holder, nobody, holder, carrier, serve, decide, takenFrom, framesOut, jobOut}
+use Rattle.definition.specs.Calls.{Call, frame, sends, portions, down, plain, Request, register, signals, pends, rejectsAll, accepts, rejects, drops, creates, opens, gives, holds, releases, leaves, leavesCid, announces, takes, starts, cancels, attends, asks, sendsSignal, writes, bare, Holder, nobody, holder, carrier, serve, decide, takenFrom, framesOut, jobOut}
 use Rattle.definition.specs.Mem.{Fill, zeros, given, job, held}
 use Rattle.definition.specs.Forms.{Fit, pass-slot, pass-well}
 use native.Mathlib.Nat.{suc-mul, one-mul, mul-le-mul-right}
@@ -288,6 +290,19 @@ module _ (t : Table) where
   pass-hands Pass f = f refl
   pass-hands (Stop r) f = record { out = none; tray = none }
 
+  started-quiet : (s l size : ℕ) (x : Slot) (p : Plan) → Quiet (startPlanned t s x l size p)
+  unfolding startPlanned
+  started-quiet s l size x (Plan.Refused r) = leaf refl refl
+  started-quiet s l size x (Plan.Frames n octets) = either _ (leaf refl refl) (leaf refl refl)
+
+  starts-quiet : (s l size : ℕ) → Quiet (startJob t s l size)
+  unfolding startJob
+  starts-quiet s l size = gated t Nothing Nothing Nothing (Is s) (either _ (leaf refl refl) (either _ (leaf refl refl) (started-quiet s l size _ _)))
+
+  cancels-quiet : (room s : ℕ) → Quiet (cancelJob t room s)
+  unfolding cancelJob
+  cancels-quiet room s = gated t (Is room) Nothing Nothing (Is s) (either _ (leaf refl refl) (either _ (leaf refl refl) (either _ (leaf refl refl) (leaf refl refl))))
+
   -- ---- a send: headers, and its SDU
 
   later-own : {h : Holder} (cid mps l n from : ℕ) → OwnFills t h h (laterFrames cid mps l n from)
@@ -306,7 +321,18 @@ module _ (t : Table) where
 
   sends-hands : {h : Holder} (s l out : ℕ) → Hands t h h nobody (send t s l out)
   unfolding send
-  sends-hands s l out = pass-hands (verdict t Nothing Nothing Nothing (Is s)) λ _. else-hands _ _ _ λ _. planned-hands s l _ _
+  sends-hands s l out = pass-hands (verdict t Nothing Nothing Nothing (Is s)) λ _. else-hands _ _ _ λ _. else-hands _ _ _ λ _. planned-hands s l _ _
+
+  -- ---- a portion: a header, and its octets
+
+  filled-own : {h : Holder} (cid mps count : ℕ) (j : OpenJob) → OwnFills t h h (filledWith cid mps j count)
+  filled-own cid mps count j = if-cases (OwnFills t _ _) (begins mps j count) (λ _. more worked (more (carried refl) none)) (λ _. more (carried refl) none)
+
+  portions-hands : {h : Holder} (s count size : ℕ) → Hands t h h nobody (givePortion t s count size)
+  unfolding givePortion
+  portions-hands s count size =
+      pass-hands (verdict t Nothing Nothing Nothing (Is s)) λ _. else-hands _ _ _ λ _. else-hands _ _ _ λ _. else-hands _ _ _ λ _. else-hands _ _ _ λ _.
+      record { out = filled-own (slotAt t s .peer .cid) (slotAt t s .peer .mps) count (slotAt t s .job); tray = none }
 
   -- ---- a take: the oldest job of its slot, which lies in its place
 
@@ -370,6 +396,8 @@ asked-hands t fit (leaves s) room out tray = quiet-hands t (leaves-quiet t room 
 asked-hands t fit (leavesCid cid) room out tray = quiet-hands t (leavesCid-quiet t room cid)
 asked-hands t fit announces room out tray = quiet-hands t (announces-quiet t room out)
 asked-hands t fit (takes s) room out tray = takes-hands t fit room out s tray
+asked-hands t fit (starts s l) room out tray = quiet-hands t (starts-quiet t s l out)
+asked-hands t fit (cancels s) room out tray = quiet-hands t (cancels-quiet t room s)
 asked-hands t fit attends room out tray = quiet-hands t (attends-quiet t)
 asked-hands t fit (asks of s) room out tray = quiet-hands t (asks-quiet t of s)
 asked-hands t fit (sendsSignal link s) room out tray = quiet-hands t (sendsSignal-quiet t out link s)
@@ -379,5 +407,6 @@ pub hands : (t : Table) → Fit t → (c : Call) (count room out tray : ℕ) →
 unfolding decide carrier bare
 hands t fit (frame link cid payload) count room out tray = quiet-hands t (frame-quiet t room link cid _ count)
 hands t fit (sends s sdu w) count room out tray = sends-hands t s count out
+hands t fit (portions s octets w) count room out tray = portions-hands t s count out
 hands t fit (down link) count room out tray = quiet-hands t (down-quiet t room link)
 hands t fit (plain r v w) count room out tray = asked-hands t fit r room out tray

@@ -25,6 +25,8 @@ pub mod Readers
 pub mod Signals
 -- frame in, send, take
 pub mod Frames
+-- jobs handed over in portions: start, portion, cancel
+pub mod Portions
 -- making and registering, the attention set, the search over a run of slots, the queries, the parameter senders
 pub mod Asking
 -- what stands when a call has ended: what a contract says; and how proofs read it
@@ -61,3 +63,5 @@ pub mod Example
 pub mod Line
 -- worked lines in which every test of every call decides
 pub mod Worked
+-- the same of jobs handed over in portions
+pub mod PortionLines

@@ -28,10 +28,10 @@ call-after s c r room out tray h apart =
     let js = jobs (s .table) c in
     let e : r .table ≡ o .table = ap (λ (x : End). x .served .table) h in
     let f : room ≡ roomAfter (s .table) js (s .room) o = ap (λ (x : End). x .room) h in
-    let g : out ≡ written itself js (s .room) (o .out) (lent (outWindow c) (s .memory)) = ap (λ (x : End). x .out) h in
-    let i : tray ≡ written itself js (s .room) (o .job) (lent (jobWindow c) (s .memory)) = ap (λ (x : End). x .job) h in
+    let g : out ≡ written itself js (s .room) (o .at) (o .out) (lent (outWindow c) (s .memory)) = ap (λ (x : End). x .out) h in
+    let i : tray ≡ written itself js (s .room) 0 (o .job) (lent (jobWindow c) (s .memory)) = ap (λ (x : End). x .job) h in
     rw (e, f, g, i)
-    (ap (λ (l : List ℕ). record { table = o .table; room = roomAfter (s .table) js (s .room) o; memory = sets (sets (s .memory) (jobWindow c .from) (written itself js (s .room) (o .job) (lent (jobWindow c) (s .memory)))) (outWindow c .from) (written itself js (s .room) (o .out) l) })
+    (ap (λ (l : List ℕ). record { table = o .table; room = roomAfter (s .table) js (s .room) o; memory = sets (sets (s .memory) (jobWindow c .from) (written itself js (s .room) 0 (o .job) (lent (jobWindow c) (s .memory)))) (outWindow c .from) (written itself js (s .room) (o .at) (o .out) l) })
     (rw i at apart))
 
 -- ---- frame in
@@ -62,6 +62,6 @@ pub roomless-end : (t : Table) (o : Outcome) → Roomless t o → (js room out t
 unfolding endOf written
 roomless-end t o p js room out tray r out′ tray′ h =
     let e : r ≡ _ = ap (λ (x : End). x .served) h in
-    let g : out′ ≡ sets out 0 (fills itself js [] (o .out)) = ap (λ (x : End). x .out) h in
+    let g : out′ ≡ sets out (o .at) (fills itself js [] (o .out)) = ap (λ (x : End). x .out) h in
     let i : tray′ ≡ sets tray 0 (fills itself js [] (o .job)) = ap (λ (x : End). x .job) h in
     rw (e, g, i, fills-unheld js room (o .out) (p .out), fills-unheld js room (o .job) (p .tray), p .room js room)

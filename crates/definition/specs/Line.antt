@@ -11,7 +11,7 @@ use Rattle.credit.specs.declared.CreditFlowControl.{CreditFlowControl}
 use Rattle.credit.specs.declared.CreditFlowPolicy.the-variants.{Every, MinThreshold}
 use Rattle.sar_join.specs.declared.Assembly.{Assembly}
 use Rattle.channel.specs.declared.Answer.{Answer}
-use Rattle.channel.specs.declared.Answer.the-variants.{Done, Refused, At, Link, Opened, Due, Frames, Job, Attention, Number, Event}
+use Rattle.channel.specs.declared.Answer.the-variants.{Done, Refused, At, Link, Opened, Due, Frames, Job, Attention, Number, Event, Portion}
 use Rattle.channel.specs.declared.ChannelState.{ChannelState}
 use Rattle.channel.specs.declared.ChannelState.the-variants.{Disconnected, Connecting, PeerConnecting, Connected, ConnectFailed}
 use Rattle.channel.specs.declared.L2capChannelConfig.{L2capChannelConfig}
@@ -20,6 +20,7 @@ use Rattle.channel.specs.declared.Queue.{Queue}
 use Rattle.channel.specs.declared.Setting.the-variants as Setting
 use Rattle.channel.specs.declared.Slot.{Slot}
 use Rattle.channel.specs.declared.Table.{Table}
+use Rattle.definition.specs.Slots.{noJob}
 use Rattle.definition.specs.Calls.{Window, Call, Request, plain}
 use Rattle.definition.specs.Run.{State, outcome, after}
 
@@ -41,6 +42,7 @@ told (Job l copied n) = answered (Job l copied n)
 told (Attention set count lowest) = answered (Attention set count lowest)
 told (Number n) = answered (Number n)
 told (Event min max latency timeout) = answered (Event min max latency timeout)
+told (Portion l taken full) = answered (Portion l taken full)
 
 pub record Shown : Type 0 where
   pub answer : Told
@@ -192,11 +194,11 @@ both a b = record { count = 2; lens = a ∷ b ∷ 0 ∷ 0 ∷ [] }
 
 -- freed, but for its holds
 abbrev pub free : (hold : ℕ) → Slot
-free h = record { state = Disconnected; link = 0; spsm = 0; mps = 0; mtu = 0; account = every 1 0 0; hold = h; peer = nobody; assembly = idle; queue = none }
+free h = record { state = Disconnected; link = 0; spsm = 0; mps = 0; mtu = 0; account = every 1 0 0; hold = h; peer = nobody; assembly = idle; queue = none; job = noJob }
 
 -- what the peer asked for: SPSM 0x80, with 3 credits
 abbrev pub wish : ChannelState → (link hold : ℕ) → Peer → Slot
-wish k l h p = record { state = k; link = l; spsm = 0x80; mps = 0; mtu = 0; account = every 1 0 0; hold = h; peer = p; assembly = idle; queue = none }
+wish k l h p = record { state = k; link = l; spsm = 0x80; mps = 0; mtu = 0; account = every 1 0 0; hold = h; peer = p; assembly = idle; queue = none; job = noJob }
 
 -- .. and that waits for an answer
 abbrev pub asked : (link id hold : ℕ) → Slot
@@ -204,7 +206,7 @@ asked l id h = wish (PeerConnecting id) l h (peer 3)
 
 -- our own attempt, for SPSM 0x81, with the default numbers: waiting, refused, granted
 abbrev pub attempt : ChannelState → (link hold : ℕ) → Peer → Slot
-attempt k l h p = record { state = k; link = l; spsm = 0x81; mps = 25; mtu = 23; account = every 1 2 0; hold = h; peer = p; assembly = idle; queue = none }
+attempt k l h p = record { state = k; link = l; spsm = 0x81; mps = 25; mtu = 23; account = every 1 2 0; hold = h; peer = p; assembly = idle; queue = none; job = noJob }
 
 abbrev pub ours : (link id hold : ℕ) → Slot
 ours l id h = attempt (Connecting id) l h nobody
@@ -217,7 +219,7 @@ granted l h = attempt Connected l h (peer 3)
 
 -- a channel that is or was Connected
 abbrev pub channel : ChannelState → (link hold : ℕ) → CreditFlowControl → Peer → Assembly → Queue → Slot
-channel k l h a p s q = record { state = k; link = l; spsm = 0x80; mps = 25; mtu = 23; account = a; hold = h; peer = p; assembly = s; queue = q }
+channel k l h a p s q = record { state = k; link = l; spsm = 0x80; mps = 25; mtu = 23; account = a; hold = h; peer = p; assembly = s; queue = q; job = noJob }
 
 -- .. with 3 credits on each side, and nothing received
 abbrev pub quiet : ChannelState → (link hold : ℕ) → Slot

@@ -49,10 +49,10 @@ module _ {A : Type 0} (octet : ℕ → A) (jobs : List A) where
   parts w [] room = room
   parts w (ms ∷ mss) room = moves (take w room) ms ++ parts w mss (drop w room)
 
-  -- What is written to a lent buffer, from its start, piece after piece.
+  -- What is written to a lent buffer, piece after piece, from octet `at` of it on.
   unfoldable pub fills : List A → List Fill → List A
   fills room [] = []
   fills room (f ∷ fs) = fill room f ++ fills room fs
 
-  unfoldable pub written : List A → List Fill → List A → List A
-  written room fs out = sets out 0 (fills room fs)
+  unfoldable pub written : List A → (at : ℕ) → List Fill → List A → List A
+  written room at fs out = sets out at (fills room fs)

@@ -32,3 +32,5 @@ refused-not-0 Refusal.BadMps = refl
 refused-not-0 Refusal.QueueFull = refl
 refused-not-0 Refusal.Held = refl
 refused-not-0 Refusal.TooLong = refl
+refused-not-0 Refusal.JobOpen = refl
+refused-not-0 Refusal.WrongLength = refl

@@ -36,6 +36,7 @@ attemptAs id link spsm mps mtu account =
       peer = fresh 0 .peer;
       assembly = fresh 0 .assembly;
       queue = fresh 0 .queue;
+      job = fresh 0 .job;
     }
 
 abbrev pub attempt : Table → (link spsm : ℕ) → L2capChannelConfig → Slot

@@ -1,5 +1,5 @@
 -- What a call comes to: an answer, the table after it, and what it does to memory as data (Mem.antt). An outcome is built from
--- four forms only: `still`, `change`, `handout` and `sweep`. And `gate`, the refusals that come first in every call.
+-- five forms only: `still`, `change`, `handout`, `filling` and `sweep`. And `gate`, the refusals that come first in every call.
 use mathlib.Core.Bool.{Bool, false, not}
 use mathlib.Core.List.{List, [], _∷_, map}
 use Prim.Native.Nat.{ℕ, zero, suc}
@@ -18,7 +18,7 @@ use Rattle.channel.specs.declared.Verdict.{Verdict}
 use Rattle.channel.specs.declared.Verdict.the-variants.{Pass, Stop}
 use Rattle.channel.specs.declared.Slot.{Slot}
 use Rattle.channel.specs.declared.Table.{Table}
-use Rattle.definition.specs.Mem.{Fill, zeros, Move, put, wipe}
+use Rattle.definition.specs.Mem.{Fill, zeros, Move, put, wipe, sizes}
 use Rattle.definition.specs.Slots.{left}
 use Rattle.definition.specs.Table.{if_then_else_, placeOf, roomSize, live, withSlots, putSlot, freed, wellFormed}
 
@@ -26,14 +26,16 @@ pub record Outcome : Type 0 where
   pub answer : Answer
   pub table : Table
   pub parts : List (List Move)  -- what happens in the slots' parts of the room, slot by slot
-  pub out : List Fill  -- what is written to the lent signal buffer or frame output, from its start
+  pub at : ℕ  -- where in it begins what is written to the lent signal buffer, frame output or job's frame buffer
+  pub out : List Fill  -- what is written there
+  pub octets : ℕ  -- how many octets are given out at its start
   pub job : List Fill  -- what is written to the lent job buffer, from its start (a take)
 
--- ---- the four forms
+-- ---- the five forms
 
 -- Nothing changes but the output. (t is the table after the call: the caller's, or that with an identifier used.)
 abbrev pub still : Table → Answer → List Fill → Outcome
-still t a out = record { answer = a; table = t; parts = []; out = out; job = [] }
+still t a out = record { answer = a; table = t; parts = []; at = 0; out = out; octets = sizes out; job = [] }
 
 -- Moves in one slot's part alone.
 unfoldable pub only : ℕ → List Move → List (List Move)
@@ -42,11 +44,15 @@ only (suc s) ms = [] ∷ only s ms
 
 -- Slot s becomes x, and its part of the room changes by ms.
 abbrev pub change : Table → ℕ → Slot → List Move → Answer → List Fill → Outcome
-change t s x ms a out = record { answer = a; table = putSlot t s x; parts = only s ms; out = out; job = [] }
+change t s x ms a out = record { answer = a; table = putSlot t s x; parts = only s ms; at = 0; out = out; octets = sizes out; job = [] }
 
 -- The same with a job handed out: a take.
 abbrev pub handout : Table → ℕ → Slot → List Move → Answer → (out job : List Fill) → Outcome
-handout t s x ms a out job = record { answer = a; table = putSlot t s x; parts = only s ms; out = out; job = job }
+handout t s x ms a out job = record { answer = a; table = putSlot t s x; parts = only s ms; at = 0; out = out; octets = sizes out; job = job }
+
+-- Slot s becomes x, and a job's frame buffer is filled from octet `at` on; so many octets of it are given out: a start, a portion.
+abbrev pub filling : Table → ℕ → Slot → Answer → (at : ℕ) → List Fill → (octets : ℕ) → Outcome
+filling t s x a at out octets = record { answer = a; table = putSlot t s x; parts = only s []; at = at; out = out; octets = octets; job = [] }
 
 -- Every slot that passes the test is freed.
 abbrev pub freedIf : (Slot → Bool) → Slot → Slot
@@ -58,7 +64,9 @@ sweep t p a =
       answer = a;
       table = withSlots t (mapFirst (t .n) (λ x. freedIf p x) (t .slots));
       parts = map (λ x. choose (p x) (wipe ∷ []) []) (live t);
+      at = 0;
       out = [];
+      octets = 0;
       job = [];
     }
 

@@ -92,6 +92,7 @@ acceptedAs mps mtu account x =
       peer = x .peer;
       assembly = x .assembly;
       queue = x .queue;
+      job = x .job;
     }
 
 abbrev pub accepted : Table → L2capChannelConfig → Slot → Slot

@@ -13,7 +13,7 @@ use Rattle.lists.specs.Both.{and-left, and-right}
 use Rattle.channel.specs.Limits.{cidBase}
 use Rattle.channel.specs.declared.Table.{Table}
 use Rattle.definition.specs.Table.{slotAt, isCid, slotOf}
-use Rattle.definition.specs.Calls.{Window, frame, sends, joining, headOf, jobs, bare}
+use Rattle.definition.specs.Calls.{Window, frame, sends, portions, joining, headOf, jobs, bare}
 
 -- An assembly is open in the slot that the CID names.
 pub record Assembling (t : Table) (cid : ℕ) : Type 0 where
@@ -81,3 +81,13 @@ module _ (t : Table) where
   pub sent-count : (s : ℕ) (x y : List ℕ) (out : Window) → length x ≡ length y → length (jobs t (sends s x out)) ≡ length (jobs t (sends s y out))
   unfolding jobs
   sent-count s x y out e = e
+
+  -- ---- a portion of other octets
+
+  pub portioned-bare : (s : ℕ) (x y : List ℕ) (out : Window) → bare t (portions s x out) ≡ bare t (portions s y out)
+  unfolding bare
+  portioned-bare s x y out = refl
+
+  pub portioned-count : (s : ℕ) (x y : List ℕ) (out : Window) → length x ≡ length y → length (jobs t (portions s x out)) ≡ length (jobs t (portions s y out))
+  unfolding jobs
+  portioned-count s x y out e = e

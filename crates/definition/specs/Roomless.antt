@@ -10,19 +10,21 @@ use Rattle.sar_cut.specs.declared.Plan.the-variants as Plan
 use Rattle.signal_forms.specs.declared.Signal.{Signal}
 use Rattle.channel.specs.declared.Given.{Given}
 use Rattle.channel.specs.declared.L2capChannelConfig.{L2capChannelConfig}
+use Rattle.channel.specs.declared.OpenJob.{OpenJob}
 use Rattle.channel.specs.declared.Slot.{Slot}
 use Rattle.channel.specs.declared.Table.{Table}
 use Rattle.channel.specs.declared.Verdict.{Verdict}
 use Rattle.channel.specs.declared.Verdict.the-variants.{Pass, Stop}
 use Rattle.definition.specs.Mem.{Fill, zeros, given, job, held, Move, parts}
-use Rattle.definition.specs.Table.{width, found, isFree, pendingOf}
+use Rattle.definition.specs.Table.{width, slotAt, found, isFree, pendingOf}
 use Rattle.definition.specs.Outcome.{Outcome, only, verdict, passed, gate}
 use Rattle.definition.specs.Pending.{nextPending, acceptPending}
 use Rattle.definition.specs.Opening.{create}
 use Rattle.definition.specs.Closing.{incRef}
 use Rattle.definition.specs.Frames.{planned, send, laterFrames, frames}
+use Rattle.definition.specs.Portions.{startPlanned, startJob, begins, filledWith, givePortion}
 use Rattle.definition.specs.Asking.{registerSpsm, attention, query, sendSignal}
-use Rattle.definition.specs.Calls.{Call, frame, sends, down, plain, Request, register, signals, pends, rejectsAll, accepts, rejects, drops, creates, opens, gives, holds, releases, leaves, leavesCid, announces, takes, attends, asks, sendsSignal, writes, bare, serve, decide}
+use Rattle.definition.specs.Calls.{Call, frame, sends, portions, down, plain, Request, register, signals, pends, rejectsAll, accepts, rejects, drops, creates, opens, gives, holds, releases, leaves, leavesCid, announces, takes, starts, cancels, attends, asks, sendsSignal, writes, bare, serve, decide}
 use Rattle.definition.specs.Ending.{itself, roomAfter, parts-none}
 
 -- which they are
@@ -43,6 +45,8 @@ roomlessRequest (leaves s) = false
 roomlessRequest (leavesCid cid) = false
 roomlessRequest announces = false
 roomlessRequest (takes s) = false
+roomlessRequest (starts s l) = true
+roomlessRequest (cancels s) = false
 roomlessRequest attends = true
 roomlessRequest (asks of s) = true
 roomlessRequest (sendsSignal link s) = true
@@ -51,6 +55,7 @@ roomlessRequest (writes octets) = true
 abbrev pub roomless : Call → Bool
 roomless (frame link cid payload) = false
 roomless (sends s sdu out) = true
+roomless (portions s octets out) = true
 roomless (down link) = false
 roomless (plain r out tray) = roomlessRequest r
 
@@ -132,7 +137,25 @@ module _ (t : Table) where
 
   sends-roomless : (s l out : ℕ) → Roomless t (send t s l out)
   unfolding send
-  sends-roomless s l out = of-gate _ _ _ _ (of-both _ (none refl refl refl) (planned-roomless s l _ _))
+  sends-roomless s l out = of-gate _ _ _ _ (of-both _ (none refl refl refl) (of-both _ (none refl refl refl) (planned-roomless s l _ _)))
+
+  started-roomless : (s l size : ℕ) (x : Slot) (p : Plan) → Roomless t (startPlanned t s x l size p)
+  unfolding startPlanned
+  started-roomless s l size x (Plan.Refused r) = none refl refl refl
+  started-roomless s l size x (Plan.Frames n octets) = of-both _ (none refl refl refl) (at s refl refl refl)
+
+  starts-roomless : (s l size : ℕ) → Roomless t (startJob t s l size)
+  unfolding startJob
+  starts-roomless s l size = of-gate _ _ _ _ (of-both _ (none refl refl refl) (of-both _ (none refl refl refl) (started-roomless s l size _ _)))
+
+  filled-unheld : (cid mps count : ℕ) (j : OpenJob) → unheldAll (filledWith cid mps j count) ≡ true
+  filled-unheld cid mps count j = if-cases (λ (fs : List Fill). unheldAll fs ≡ true) (begins mps j count) (λ _. refl) (λ _. refl)
+
+  portions-roomless : (s count size : ℕ) → Roomless t (givePortion t s count size)
+  unfolding givePortion
+  portions-roomless s count size =
+      of-gate _ _ _ _ (of-both _ (none refl refl refl) (of-both _ (none refl refl refl) (of-both _ (none refl refl refl) (of-both _ (none refl refl refl)
+      (at s refl (filled-unheld (slotAt t s .peer .cid) (slotAt t s .peer .mps) count (slotAt t s .job)) refl)))))
 
   request-roomless : (r : Request) → roomlessRequest r ≡ true → (room out tray : ℕ) → Roomless t (serve t r room out tray)
   unfolding serve
@@ -152,6 +175,8 @@ module _ (t : Table) where
   request-roomless (leavesCid cid) e room out tray = absurd (false≢true e)
   request-roomless announces e room out tray = absurd (false≢true e)
   request-roomless (takes s) e room out tray = absurd (false≢true e)
+  request-roomless (starts s l) e room out tray = starts-roomless s l out
+  request-roomless (cancels s) e room out tray = absurd (false≢true e)
   request-roomless attends e room out tray = attends-roomless
   request-roomless (asks of s) e room out tray = asks-roomless of s
   request-roomless (sendsSignal link s) e room out tray = sendsSignal-roomless out link s
@@ -161,5 +186,6 @@ module _ (t : Table) where
   unfolding decide bare
   roomless-call (frame link cid payload) e count room out tray = absurd (false≢true e)
   roomless-call (sends s sdu w) e count room out tray = sends-roomless s count out
+  roomless-call (portions s octets w) e count room out tray = portions-roomless s count out
   roomless-call (down link) e count room out tray = absurd (false≢true e)
   roomless-call (plain r v w) e count room out tray = request-roomless r e room out tray

@@ -11,7 +11,7 @@ use Rattle.definition.specs.Mem.{parts, written}
 use Rattle.definition.specs.Table.{width}
 use Rattle.definition.specs.Outcome.{Outcome}
 use Rattle.definition.specs.Asking.{make}
-use Rattle.definition.specs.Calls.{Window, Call, frame, sends, down, plain, signals, jobs, bare, decide}
+use Rattle.definition.specs.Calls.{Window, Call, frame, sends, portions, down, plain, signals, jobs, bare, decide}
 use Rattle.definition.specs.Ending.{itself}
 
 pub record State : Type 0 where
@@ -27,10 +27,11 @@ lent w memory = take (w .size) (drop (w .from) memory)
 abbrev pub nowhere : Window
 nowhere = record { from = 0; size = 0 }
 
--- the signal buffer, or a send's output
+-- the signal buffer, a send's output or a job's frame buffer
 abbrev pub outWindow : Call → Window
 outWindow (frame link cid payload) = nowhere
 outWindow (sends s sdu out) = out
+outWindow (portions s octets out) = out
 outWindow (down link) = nowhere
 outWindow (plain r out job) = out
 
@@ -38,6 +39,7 @@ outWindow (plain r out job) = out
 abbrev pub jobWindow : Call → Window
 jobWindow (frame link cid payload) = nowhere
 jobWindow (sends s sdu out) = nowhere
+jobWindow (portions s octets out) = nowhere
 jobWindow (down link) = nowhere
 jobWindow (plain r out job) = job
 
@@ -57,8 +59,8 @@ module _ {A : Type 0} (octet : ℕ → A) (js : List A) where
   -- the job buffer is written first, then the signal buffer or frame output
   abbrev pub memoryLeft : Outcome → (out job : Window) → (room memory : List A) → List A
   memoryLeft o out job room memory =
-      let m = sets memory (job .from) (written octet js room (o .job) (lent job memory)) in
-      sets m (out .from) (written octet js room (o .out) (lent out m))
+      let m = sets memory (job .from) (written octet js room 0 (o .job) (lent job memory)) in
+      sets m (out .from) (written octet js room (o .at) (o .out) (lent out m))
 
 unfoldable pub after : State → Call → State
 after s c =

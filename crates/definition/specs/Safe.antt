@@ -56,11 +56,12 @@ use Rattle.definition.specs.Opening.{create, opened, giveUp}
 use Rattle.definition.specs.Closing.{incRef, decRef, disconnecting, disconnect, disconnectByCid, disconnected, nextDisconnect}
 use Rattle.definition.specs.Signals.{onReject, onDisconnectionReq, onDisconnectionRes, onParameters, onParameterResponse, onConnReq, onConnRes, onCredits, handled, checked, signalled}
 use Rattle.definition.specs.Frames.{joined, dispatch, planned, send, shifted, movingUp, handing, taken, receive}
+use Rattle.definition.specs.Portions.{startPlanned, startJob, givePortion, cancelJob}
 use Rattle.definition.specs.Asking.{registerSpsm, attention, query, sendSignal}
-use Rattle.definition.specs.Calls.{Call, frame, sends, down, plain, Request, register, signals, pends, rejectsAll, accepts, rejects, drops, creates, opens, gives, holds, releases, leaves, leavesCid, announces, takes, attends, asks, sendsSignal, writes, bare, Holder, nobody, by, holderIn, holder, isBy, carrier, serve, decide}
+use Rattle.definition.specs.Calls.{Call, frame, sends, portions, down, plain, Request, register, signals, pends, rejectsAll, accepts, rejects, drops, creates, opens, gives, holds, releases, leaves, leavesCid, announces, takes, starts, cancels, attends, asks, sendsSignal, writes, bare, Holder, nobody, by, holderIn, holder, isBy, carrier, serve, decide}
 use Rattle.definition.specs.Numbers.{answerNumber, refused-not-0}
 use Rattle.definition.specs.Mem.{Fill, zeros, given, job, held, Move, put, wipe}
-use Rattle.definition.specs.Forms.{Fit, Basis, Does, in-use, Like, itself, with-id, with-spsm, still-does, change-does, sweep-does, if-does, else-does, gate-does, gate-at, found-passes, free-slot}
+use Rattle.definition.specs.Forms.{Fit, Basis, Does, in-use, Like, itself, with-id, with-spsm, still-does, change-does, filling-does, sweep-does, if-does, else-does, gate-does, gate-at, found-passes, free-slot}
 use Rattle.definition.specs.Tells.{cid-slot}
 
 -- ---- one slot
@@ -293,7 +294,7 @@ module _ (t : Table) (fit : Fit t) where
 
   sends-safe : {l : Holder} (s count out : ℕ) → Safe t l (send t s count out)
   unfolding send
-  sends-safe s count out = gate-at on Nothing Nothing Nothing s λ v. else-does on _ _ _ itself λ _. planned-safe s count v _
+  sends-safe s count out = gate-at on Nothing Nothing Nothing s λ v. else-does on _ _ _ itself λ _. else-does on _ _ _ itself λ _. planned-safe s count v _
 
   handing-safe : {l : Holder} {t′ : Table} (s size : ℕ) (x : Slot) (signal : List Fill) → Like t t′ → leb (t .n) s ≡ false → holder x ≡ holder (slotAt t s) → Safe t l (handing t′ s x size signal)
   handing-safe {t′ = t′} s size x signal q a e =
@@ -310,6 +311,30 @@ module _ (t : Table) (fit : Fit t) where
   takes-safe room signal s size =
       gate-at on (Is room) (Is signal) Nothing s λ v.
       else-does on _ _ _ itself λ _. else-does on _ _ _ itself λ _. taken-safe s size v _
+
+  -- ---- Portions.antt
+
+  started-safe : {l : Holder} (s count size : ℕ) → leb (t .n) s ≡ false → (p : Plan) → Safe t l (startPlanned t s (slotAt t s) count size p)
+  unfolding startPlanned
+  started-safe s count size a (Plan.Refused r) = still-does on itself
+  started-safe s count size a (Plan.Frames n octets) = else-does on _ _ _ itself λ _. filling-does on s a (kept refl refl)
+
+  starts-safe : {l : Holder} (s count size : ℕ) → Safe t l (startJob t s count size)
+  unfolding startJob
+  starts-safe s count size = gate-at on Nothing Nothing Nothing s λ v. else-does on _ _ _ itself λ _. else-does on _ _ _ itself λ _. started-safe s count size v _
+
+  portions-safe : {l : Holder} (s count size : ℕ) → Safe t l (givePortion t s count size)
+  unfolding givePortion
+  portions-safe s count size =
+      gate-at on Nothing Nothing Nothing s λ v.
+      else-does on _ _ _ itself λ _. else-does on _ _ _ itself λ _. else-does on _ _ _ itself λ _. else-does on _ _ _ itself λ _. filling-does on s v (kept refl refl)
+
+  cancels-safe : {l : Holder} (room s : ℕ) → Safe t l (cancelJob t room s)
+  unfolding cancelJob
+  cancels-safe room s =
+      gate-at on (Is room) Nothing Nothing s λ v.
+      else-does on _ _ _ itself λ c. else-does on _ _ _ itself λ _.
+      if-does on (λ _. change-does on s itself v (kept refl refl)) λ _. change-does on s itself v (kept (own isConnected refl s (not-false _ c)) refl)
 
   -- ---- Asking.antt
 
@@ -349,6 +374,8 @@ module _ (t : Table) (fit : Fit t) where
   serve-safe (leavesCid cid) room out tray = leavesCid-safe room cid
   serve-safe announces room out tray = announces-safe room out
   serve-safe (takes s) room out tray = takes-safe room out s tray
+  serve-safe (starts s l) room out tray = starts-safe s l out
+  serve-safe (cancels s) room out tray = cancels-safe room s
   serve-safe attends room out tray = attends-safe
   serve-safe (asks of s) room out tray = asks-safe of s
   serve-safe (sendsSignal link s) room out tray = sendsSignal-safe out link s
@@ -358,6 +385,7 @@ module _ (t : Table) (fit : Fit t) where
   unfolding decide carrier bare
   safe (frame link cid payload) count room out tray = frame-safe room link cid _ count
   safe (sends s sdu w) count room out tray = sends-safe s count out
+  safe (portions s octets w) count room out tray = portions-safe s count out
   safe (down link) count room out tray = down-safe room link
   safe (plain r w v) count room out tray = serve-safe r room out tray
 

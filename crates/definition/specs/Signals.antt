@@ -63,6 +63,7 @@ pending link id req =
       peer = record { cid = req .scid; mps = req .mps; mtu = req .mtu; credits = req .credits };
       assembly = fresh 0 .assembly;
       queue = fresh 0 .queue;
+      job = fresh 0 .job;
     }
 
 unfoldable pub onConnReq : Table → (link : ℕ) (listening : Bool) (id : ℕ) → LeCreditConnReqRead → Outcome
@@ -91,7 +92,8 @@ onConnRes t link id b =
     if leb (t .n) s then sweep t (attemptOf link) (Refused NotFound)
     else answered t s res
 
--- ---- 0x16 (4.24): "first Connected slot of this link with that peer CID. A sum above 65,535: Disconnecting, credits kept."
+-- ---- 0x16 (4.24): "first Connected slot of this link with that peer CID. A sum above 65,535: Disconnecting, credits kept." "0x16's sum counts
+-- credits set aside" (document 02).
 
 unfoldable pub onCredits : Table → (link id : ℕ) → LeCreditFlowIndRead → Outcome
 onCredits t link id b =
@@ -99,7 +101,7 @@ onCredits t link id b =
     let s = found (connectedTo link (ind .cid)) t in
     let x = slotAt t s in
     if leb (t .n) s then refuse t NotFound
-    else if ltb creditsMost (x .peer .credits + ind .credits) then leaving t s x (Disconnecting false) (Refused InvalidValue)
+    else if ltb creditsMost (x .peer .credits + x .job .aside + ind .credits) then leaving t s x (Disconnecting false) (Refused InvalidValue)
     else change t s (withPeerCredits (x .peer .credits + ind .credits) x) [] Done []
 
 -- ---- 0x06 (4.6): "slot with that CID, this link, not Disconnected → PeerDisconnecting; else reject reason 2"

@@ -15,11 +15,12 @@ use Rattle.channel.specs.Limits.{slotsMost, depthMost, packetLeast, packetMost,
 use Rattle.channel.specs.declared.ChannelIndex.{ChannelIndex}
 use Rattle.channel.specs.declared.Cid.{Cid}
 use Rattle.channel.specs.declared.ChannelState.the-variants.{Disconnected}
+use Rattle.channel.specs.declared.OpenJob.{OpenJob}
 use Rattle.channel.specs.declared.Queue.{Queue}
 use Rattle.channel.specs.declared.Slot.{Slot}
 use Rattle.channel.specs.declared.Table.{Table}
 pub use Rattle.definition.specs.States.{isDisconnected, isConnecting, isPeerConnecting, isConnected, isConnectFailed, isPeerDisconnecting, isDisconnecting, isDue, identifierOf, failureOf}
-pub use Rattle.definition.specs.Slots.{inState, withHold, withAccount, withPeer, withPeerCredits, withAssembly, withQueue, left}
+pub use Rattle.definition.specs.Slots.{inState, withHold, withAccount, withPeer, withPeerCredits, withAssembly, withQueue, withJob, noJob, left}
 
 -- A test, an answer, and what else: read it aloud.
 infixr 5 if_then_else_
@@ -69,6 +70,7 @@ fresh hold =
       peer = record { cid = 0; mps = 0; mtu = 0; credits = 0 };
       assembly = idle;
       queue = record { count = 0; lens = replicate depthMost 0 };
+      job = noJob;
     }
 
 -- "Freed means Disconnected and all numbers but the hold count reset."
@@ -200,14 +202,25 @@ sizesFit n d m = leb 1 n && (leb n slotsMost && (leb 1 d && (leb d depthMost && 
 abbrev pub lensFit : (place : ℕ) → Queue → Bool
 lensFit place q = every (λ n. leb n place) (take (q .count) (q .lens))
 
--- "a job, queue count or local MTU beyond its place, or a credit sum (held plus received) above 65,535"
+-- A job is open while credits are set aside for its frames.
+abbrev pub isOpen : OpenJob → Bool
+isOpen j = ltb 0 (j .aside)
+
+-- "an open job's counts beyond its length or frame" (document 02): a frame has at most the peer's MPS, and what was taken with the two octets of the length.
+abbrev pub jobFits : (mps : ℕ) → OpenJob → Bool
+jobFits mps j = not (isOpen j) || (leb (j .taken) (j .length) && (leb (j .filled) mps && leb (j .filled) (j .taken + 2)))
+
+-- "a job, queue count or local MTU beyond its place, or a credit sum (held plus received) above 65,535"; document 02: an open job's counts, "or peer
+-- credits plus those set aside above 65,535"
 unfoldable pub slotFits : ℕ → ℕ → Slot → Bool
 slotFits d place x =
     leb (x .queue .count) d
     && (lensFit place (x .queue)
     && (leb (x .assembly .have) place
     && (leb (x .assembly .want) place
-    && (leb (x .mtu) place && leb (creditSum (x .account)) creditsMost))))
+    && (leb (x .mtu) place
+    && (leb (creditSum (x .account)) creditsMost
+    && (jobFits (x .peer .mps) (x .job) && leb (x .peer .credits + x .job .aside) creditsMost))))))
 
 unfoldable pub wellFormed : Table → Bool
 wellFormed t = sizesFit (t .n) (t .d) (t .m) && every (slotFits (t .d) (placeOf t)) (live t)

@@ -36,6 +36,7 @@ use Rattle.channel.specs.declared.Queue.{Queue}
 use Rattle.channel.specs.declared.Slot.{Slot}
 use Rattle.channel.specs.declared.Table.{Table}
 use Rattle.definition.specs.Mem.{fill, move, moves, parts, fills, written}
+use Rattle.definition.specs.Slots.{noJob}
 use Rattle.definition.specs.Table.{index, slotAt, slotFits, wellFormed}
 use Rattle.definition.specs.Outcome.{only, verdict}
 use Rattle.definition.specs.Pending.{nextPending, rejectAllPending, acceptPending, rejectPending, notCode, dropPending}
@@ -729,7 +730,7 @@ abbrev fits : Slot → Bool
 fits x = wellFormed (two x (free 0))
 
 abbrev sized-slot : (mtu : ℕ) → CreditFlowControl → Assembly → Queue → Slot
-sized-slot mtu a s q = record { state = Connected; link = 1; spsm = 0x80; mps = 25; mtu = mtu; account = a; hold = 1; peer = peer 3; assembly = s; queue = q }
+sized-slot mtu a s q = record { state = Connected; link = 1; spsm = 0x80; mps = 25; mtu = mtu; account = a; hold = 1; peer = peer 3; assembly = s; queue = q; job = noJob }
 
 record Gate-lines : Type 0 where
   --                                                   table room signal link slot, its own

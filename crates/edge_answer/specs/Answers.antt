@@ -1,5 +1,5 @@
 -- What a call answers, as 16 octets, for whoever calls from another language. Numbers have the lower octet first.
---   octet 0        the kind: 0 Done, 1 Refused, 2 At, 3 Link, 4 Opened, 5 Due, 6 Frames, 7 Job, 8 Attention, 9 Number, 10 Event
+--   octet 0        the kind: 0 Done, 1 Refused, 2 At, 3 Link, 4 Opened, 5 Due, 6 Frames, 7 Job, 8 Attention, 9 Number, 10 Event, 12 Portion (11 is a run's: `edge_run`)
 --   octet 1        the refusal's number (document 01), 0 where nothing is refused
 --   octets 2..6    how many octets the call wrote at the start of the signal buffer or frame output
 --   octets 6..14   four numbers: what the answer carries, in its fields' order, then zeros; of refusal 17 the result code

@@ -72,7 +72,7 @@ fn row_of(t: &[u8], n: usize, link: u16, cid: u16) -> usize
     i
 }
 
-// Writes of the slot what the signal changed: the peer's credits, or, of a channel that is left, what a frame can change too.
+// Writes of the slot what the signal changed: the peer's credits, or, of a channel that is left, what changes then.
 fn put_credited(t: &mut [u8], i: usize, x: Slot)
     requires { ⌜ (tableOctets ≤ length (now t)) × (i < slotsMost) ⌝ }
     ensures { λ _. ⌜ now (t .exit) ≡ creditedRow (now (t .entry)) i x ⌝ }
@@ -81,7 +81,7 @@ fn put_credited(t: &mut [u8], i: usize, x: Slot)
     if table_state::is_connected(k) {
         edge_layout_write::put_peer_credits(t, i, x.peer.credits);
     } else {
-        edge_layout_write::put_framed(t, i, x);
+        edge_layout_write::put_left(t, i, x);
     }
 }
 

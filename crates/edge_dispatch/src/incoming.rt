@@ -50,6 +50,7 @@ fn row(t: &[u8], i: usize) -> Slot
     let peer = edge_layout_read::peer_at(t, i);
     let assembly = edge_layout_read::assembly_at(t, i);
     let queue = edge_layout_read::queue_at(t, i);
+    let job = edge_layout_read::job_at(t, i);
     Slot {
         state,
         link: number(t, i, LINK),
@@ -61,10 +62,11 @@ fn row(t: &[u8], i: usize) -> Slot
         peer,
         assembly,
         queue,
+        job,
     }
 }
 
-// Writes what a frame can change of the slot, as `edge_layout_write::put_framed` does: with one caller too.
+// Writes what a frame can change of the slot: the open job too where the channel is left. With one caller too.
 fn put_row(t: &mut [u8], i: usize, x: Slot)
     requires { ⌜ (tableOctets ≤ length (now t)) × (i < slotsMost) ⌝ }
     ensures { λ _. ⌜ now (t .exit) ≡ framedRow (now (t .entry)) i x ⌝ }
@@ -77,6 +79,11 @@ fn put_row(t: &mut [u8], i: usize, x: Slot)
     edge_layout_write::put_assembly(t, i, b);
     let q = x.queue;
     edge_layout_write::put_queue(t, i, q);
+    if table_state::is_connected(k) {
+        return;
+    }
+    let j = x.job;
+    edge_layout_write::put_job(t, i, j);
 }
 
 // A frame to slot s, whose part is in the room and whose row is in the table's octets.

@@ -12,10 +12,11 @@ use Rattle.definition.specs.Outcome.{Outcome, refuse}
 use Rattle.definition.specs.Asking.{noSlots, registerSpsm, attention, spsm, mtu, mps, peerMtu, peerMps, sendConnParamUpdateReq, sendConnParamUpdateRes}
 use Rattle.definition.specs.Closing.{incRef, decRef, disconnect, disconnectByCid, disconnected, nextDisconnect}
 use Rattle.definition.specs.Frames.{send, receive}
+use Rattle.definition.specs.Portions.{startJob, givePortion, cancelJob}
 use Rattle.definition.specs.Opening.{create, opened, giveUp}
 use Rattle.definition.specs.Pending.{nextPending, rejectAllPending, acceptPending, rejectNumbered, dropPending}
 use Rattle.definition.specs.Signals.{signalled}
-use Rattle.definition.specs.Calls.{Call, frame, sends, down, Request, register, signals, pends, rejectsAll, accepts, rejects, drops, creates, opens, gives, holds, releases, leaves, leavesCid, announces, takes, attends, asks, sendsSignal, headOf, jobs, frameIn, serve, decide}
+use Rattle.definition.specs.Calls.{Call, frame, sends, portions, down, Request, register, signals, pends, rejectsAll, accepts, rejects, drops, creates, opens, gives, holds, releases, leaves, leavesCid, announces, takes, starts, cancels, attends, asks, sendsSignal, headOf, jobs, frameIn, serve, decide}
 use Rattle.definition.specs.Ending.{servedOf, endOf}
 use Rattle.edge_layout.specs.Layout.{read}
 use Rattle.edge.specs.Edge.{onTable, alone, flag, configOf}
@@ -24,7 +25,7 @@ use Rattle.edge_opening.specs.Opening.{createEdge, openedEdge, giveUpEdge}
 use Rattle.edge_pending.specs.Pending.{nextPendingEdge, acceptPendingEdge, rejectPendingEdge, rejectAllPendingEdge, dropPendingEdge}
 use Rattle.edge_closing.specs.Holding.{incRefEdge, decRefEdge}
 use Rattle.edge_closing.specs.Closing.{disconnectEdge, disconnectByCidEdge, disconnectedEdge, nextDisconnectEdge}
-use Rattle.edge_placed.specs.Frames.{dispatchEdge, sendEdge, receiveEdge}
+use Rattle.edge_placed.specs.Frames.{dispatchEdge, sendEdge, receiveEdge, startEdge, portionEdge, cancelEdge}
 use Rattle.edge_signals.specs.Signals.{signalEdge}
 use Rattle.edge_laws.specs.NoTable.{shut, isRequest, isCall, serve-refuses, decide-refuses, no-slots, none-ends, leftAlone, on-none}
 
@@ -154,6 +155,18 @@ dispatch-on-none o a room link cid payload none = on-none-lent o a room [] [] (�
 pub send-on-none : (o a out : List ℕ) (slot : ℕ) (sdu : List ℕ) → read o .ok ≡ false → sendEdge o a out slot sdu ≡ leftAlone o a [] out []
 unfolding decide
 send-on-none o a out slot sdu none = on-none-lent o a [] out [] (λ t. sdu) (λ t. send t slot (length sdu) (length out)) none (none-decides (sends slot sdu (record { from = 0; size = length out })) refl (length sdu) 0 (length out) 0)
+
+pub start-job-on-none : (o a buffer : List ℕ) (slot stated : ℕ) → read o .ok ≡ false → startEdge o a buffer slot stated ≡ leftAlone o a [] buffer []
+unfolding serve
+start-job-on-none o a buffer slot stated none = on-none-lent o a [] buffer [] (λ t. []) (λ t. startJob t slot stated (length buffer)) none (none-serves (starts slot stated) refl 0 (length buffer) 0)
+
+pub give-portion-on-none : (o a buffer : List ℕ) (slot : ℕ) (octets : List ℕ) → read o .ok ≡ false → portionEdge o a buffer slot octets ≡ leftAlone o a [] buffer []
+unfolding decide
+give-portion-on-none o a buffer slot octets none = on-none-lent o a [] buffer [] (λ t. octets) (λ t. givePortion t slot (length octets) (length buffer)) none (none-decides (portions slot octets (record { from = 0; size = length buffer })) refl (length octets) 0 (length buffer) 0)
+
+pub cancel-job-on-none : (o a room : List ℕ) (slot : ℕ) → read o .ok ≡ false → cancelEdge o a room slot ≡ leftAlone o a room [] []
+unfolding serve
+cancel-job-on-none o a room slot none = on-none-lent o a room [] [] (λ t. []) (λ t. cancelJob t (length room) slot) none (none-serves (cancels slot) refl (length room) 0 0)
 
 pub receive-on-none : (o a room signal job : List ℕ) (slot : ℕ) → read o .ok ≡ false → receiveEdge o a room signal job slot ≡ leftAlone o a room signal job
 unfolding serve

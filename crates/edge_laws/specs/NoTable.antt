@@ -23,8 +23,9 @@ use Rattle.definition.specs.Closing.{incRef, decRef, disconnect, disconnectByCi
 use Rattle.definition.specs.Frames.{dispatch, send, receive}
 use Rattle.definition.specs.Opening.{create, opened, giveUp}
 use Rattle.definition.specs.Pending.{nextPending, rejectAllPending, acceptPending, rejectPending, notCode, dropPending}
+use Rattle.definition.specs.Portions.{startJob, givePortion, cancelJob}
 use Rattle.definition.specs.Signals.{signalled}
-use Rattle.definition.specs.Calls.{Call, frame, sends, down, plain, Request, register, signals, pends, rejectsAll, accepts, rejects, drops, creates, opens, gives, holds, releases, leaves, leavesCid, announces, takes, attends, asks, sendsSignal, writes, jobs, serve, decide}
+use Rattle.definition.specs.Calls.{Call, frame, sends, portions, down, plain, Request, register, signals, pends, rejectsAll, accepts, rejects, drops, creates, opens, gives, holds, releases, leaves, leavesCid, announces, takes, starts, cancels, attends, asks, sendsSignal, writes, jobs, serve, decide}
 use Rattle.definition.specs.Ending.{End, end, gave, endOf, end-still}
 use Rattle.edge_layout.specs.declared.Decoded.{Decoded}
 use Rattle.edge_layout.specs.Layout.{read}
@@ -60,6 +61,8 @@ isRequest (leaves s) = true
 isRequest (leavesCid cid) = true
 isRequest announces = true
 isRequest (takes s) = true
+isRequest (starts s l) = true
+isRequest (cancels s) = true
 isRequest attends = true
 isRequest (asks of s) = true
 isRequest (sendsSignal link s) = true
@@ -68,12 +71,13 @@ isRequest (writes octets) = false
 abbrev pub isCall : Call → Bool
 isCall (frame link cid payload) = true
 isCall (sends s sdu out) = true
+isCall (portions s octets out) = true
 isCall (down link) = true
 isCall (plain r out job) = isRequest r
 
 module _ (t : Table) (bad : wellFormed t ≡ false) where
   pub serve-refuses : (r : Request) → isRequest r ≡ true → (room out job : ℕ) → serve t r room out job ≡ refuse t BadTable
-  unfolding serve registerSpsm signalled nextPending rejectAllPending acceptPending rejectPending notCode dropPending create opened giveUp incRef decRef disconnect disconnectByCid nextDisconnect receive attention query sendSignal
+  unfolding serve registerSpsm signalled nextPending rejectAllPending acceptPending rejectPending notCode dropPending create opened giveUp incRef decRef disconnect disconnectByCid nextDisconnect receive startJob cancelJob attention query sendSignal
   serve-refuses (register spsm) is room out job = shut t _ _ _ _ _ bad
   serve-refuses (signals link listening central pdu) is room out job = shut t _ _ _ _ _ bad
   serve-refuses (pends link up) is room out job = shut t _ _ _ _ _ bad
@@ -91,15 +95,18 @@ module _ (t : Table) (bad : wellFormed t ≡ false) where
   serve-refuses (leavesCid cid) is room out job = shut t _ _ _ _ _ bad
   serve-refuses announces is room out job = shut t _ _ _ _ _ bad
   serve-refuses (takes s) is room out job = shut t _ _ _ _ _ bad
+  serve-refuses (starts s l) is room out job = shut t _ _ _ _ _ bad
+  serve-refuses (cancels s) is room out job = shut t _ _ _ _ _ bad
   serve-refuses attends is room out job = shut t _ _ _ _ _ bad
   serve-refuses (asks of s) is room out job = shut t _ _ _ _ _ bad
   serve-refuses (sendsSignal link s) is room out job = shut t _ _ _ _ _ bad
   serve-refuses (writes octets) is room out job = absurd (false≢true is)
 
   pub decide-refuses : (c : Call) → isCall c ≡ true → (count room out job : ℕ) → decide t c count room out job ≡ refuse t BadTable
-  unfolding decide dispatch send disconnected
+  unfolding decide dispatch send givePortion disconnected
   decide-refuses (frame link cid head) is count room out job = shut t _ _ _ _ _ bad
   decide-refuses (sends s sdu w) is count room out job = shut t _ _ _ _ _ bad
+  decide-refuses (portions s octets w) is count room out job = shut t _ _ _ _ _ bad
   decide-refuses (down link) is count room out job = shut t _ _ _ _ _ bad
   decide-refuses (plain r w v) is count room out job = serve-refuses r is room out job
 

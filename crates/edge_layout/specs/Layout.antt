@@ -1,7 +1,7 @@
--- The table as octets, for whoever keeps it outside: 672 of them, best seen in lines of 16.
+-- The table as octets, for whoever keeps it outside: 800 of them, best seen in lines of 16.
 --   line 0        this layout's number, N, D, M (the lower octet first), the next identifier, ten zeros
 --   lines 1, 2    a bit for each registered SPSM: SPSM s is bit s % 8 of octet s / 8
---   lines 3..41   a column each: one octet of every slot's row, slot 0 first
+--   lines 3..49   a column each: one octet of every slot's row, slot 0 first
 -- A number of 16 bits takes two columns, the lower octets first. A table has ONE spelling; other octets are refusal 1.
 use mathlib.Core.Bool.{Bool, true, false, _&&_}
 use mathlib.Core.List.{List, [], _∷_, _++_, map}
@@ -22,6 +22,7 @@ use Rattle.sar_join.specs.declared.Assembly.{Assembly}
 use Rattle.channel.specs.Limits.{slotsMost}
 use Rattle.channel.specs.declared.ChannelState.{ChannelState}
 use Rattle.channel.specs.declared.ChannelState.the-variants.{Disconnected, Connecting, PeerConnecting, Connected, ConnectFailed, PeerDisconnecting, Disconnecting}
+use Rattle.channel.specs.declared.OpenJob.{OpenJob}
 use Rattle.channel.specs.declared.Peer.{Peer}
 use Rattle.channel.specs.declared.Queue.{Queue}
 use Rattle.channel.specs.declared.Slot.{Slot}
@@ -33,7 +34,7 @@ use Rattle.edge_layout.specs.declared.Decoded.{Decoded}
 -- ---- sizes
 
 abbrev pub layoutNumber : ℕ
-layoutNumber = 1
+layoutNumber = 2
 
 abbrev pub spsmOctets : ℕ
 spsmOctets = 32
@@ -43,7 +44,7 @@ headOctets = 16 + spsmOctets
 
 -- the octets of one slot
 abbrev pub columnCount : ℕ
-columnCount = 39
+columnCount = 47
 
 abbrev pub tableOctets : ℕ
 tableOctets = headOctets + slotsMost * columnCount
@@ -96,6 +97,9 @@ assemblyOctets a = le16 (a .have) ++ le16 (a .want)
 abbrev pub queueOctets : Queue → List ℕ
 queueOctets q = q .count ∷ le16 (getD (q .lens) 0 0) ++ (le16 (getD (q .lens) 1 0) ++ (le16 (getD (q .lens) 2 0) ++ le16 (getD (q .lens) 3 0)))
 
+abbrev pub jobOctets : OpenJob → List ℕ
+jobOctets j = le16 (j .length) ++ (le16 (j .taken) ++ (le16 (j .filled) ++ le16 (j .aside)))
+
 -- a slot's row, column by column
 unfoldable pub row : Slot → List ℕ
 row x =
@@ -104,7 +108,8 @@ row x =
     ++ (accountOctets (x .account)
     ++ (x .hold ∷ peerOctets (x .peer)
     ++ (assemblyOctets (x .assembly)
-    ++ queueOctets (x .queue)))))
+    ++ (queueOctets (x .queue)
+    ++ jobOctets (x .job))))))
 
 -- ---- how a table is spelled
 
@@ -163,6 +168,7 @@ slotIn f =
       peer = record { cid = numberIn f 18; mps = numberIn f 20; mtu = numberIn f 22; credits = numberIn f 24 };
       assembly = record { have = numberIn f 26; want = numberIn f 28 };
       queue = record { count = f 30; lens = numberIn f 31 ∷ numberIn f 33 ∷ numberIn f 35 ∷ numberIn f 37 ∷ [] };
+      job = record { length = numberIn f 39; taken = numberIn f 41; filled = numberIn f 43; aside = numberIn f 45 };
     }
 
 unfoldable pub taken : List ℕ → Table

@@ -60,8 +60,16 @@ pub const COUNT: usize = WANT + 2 * SLOTS;
 
 pub const LENS: usize = COUNT + SLOTS;
 
+pub const JOB_LENGTH: usize = LENS + 2 * DEPTH * SLOTS;
+
+pub const JOB_TAKEN: usize = JOB_LENGTH + 2 * SLOTS;
+
+pub const JOB_FILLED: usize = JOB_TAKEN + 2 * SLOTS;
+
+pub const JOB_ASIDE: usize = JOB_FILLED + 2 * SLOTS;
+
 // The octets of a table.
-pub const TABLE_OCTETS: usize = LENS + 2 * DEPTH * SLOTS;
+pub const TABLE_OCTETS: usize = JOB_ASIDE + 2 * SLOTS;
 
 // ---- a state and a policy as octets
 

@@ -66,8 +66,8 @@ module _ (o : List ℕ) (long : length o ≡ tableOctets) (octets : (k : ℕ) �
   line : headSpelled o ≡ true → layoutNumber ∷ getD o 1 0 % 256 ∷ getD o 2 0 % 256 ∷ u16At o 3 % 256 ∷ u16At o 3 / 256 % 256 ∷ getD o 5 0 ∷ replicate 10 0 ≡ tabulate (λ k. getD o k 0) 16
   unfolding headSpelled tabulate
   line h =
-      let first : getD o 0 0 ≡ 1 = eqb-true (getD o 0 0) 1 (and-left (eqb (getD o 0 0) 1) (allBelow (λ k. eqb (getD o (k + 6) 0) 0) 10) h) in
-      let rest = and-right (eqb (getD o 0 0) 1) (allBelow (λ k. eqb (getD o (k + 6) 0) 0) 10) h in
+      let first : getD o 0 0 ≡ layoutNumber = eqb-true (getD o 0 0) layoutNumber (and-left (eqb (getD o 0 0) layoutNumber) (allBelow (λ k. eqb (getD o (k + 6) 0) 0) 10) h) in
+      let rest = and-right (eqb (getD o 0 0) layoutNumber) (allBelow (λ k. eqb (getD o (k + 6) 0) 0) 10) h in
       let none : (k : ℕ) → k < 10 → getD o (k + 6) 0 ≡ 0 = λ k l. eqb-true (getD o (k + 6) 0) 0 (all-each (λ k. eqb (getD o (k + 6) 0) 0) 10 rest k l) in
       let z0 : getD o 6 0 ≡ 0 = none 0 (omega arith) in
       let z1 : getD o 7 0 ≡ 0 = none 1 (omega arith) in

@@ -12,7 +12,7 @@ ghost use Rattle.edge_layout.specs.Spelled.{headSpelled, rowsSpelled};
 ghost use Rattle.edge_layout_decode.specs.Whole.{spelled, notRead};
 
 // This layout's number.
-const LAYOUT: u8 = 1;
+const LAYOUT: u8 = 2;
 
 // ---- the tests
 

@@ -1,6 +1,7 @@
 // A slot read from its row of the table's octets; `edge_layout_decode` reads the whole table. It stands on `edge_layout::cells`, and on `edge_layout`, whose
 // specs/Layout.antt says what the octets mean.
 use channel::ChannelState;
+use channel::OpenJob;
 use channel::Peer;
 use channel::Queue;
 use channel::SLOTS;
@@ -10,6 +11,10 @@ use edge_layout::COUNT;
 use edge_layout::CREDITS;
 use edge_layout::HAVE;
 use edge_layout::HOLD;
+use edge_layout::JOB_ASIDE;
+use edge_layout::JOB_FILLED;
+use edge_layout::JOB_LENGTH;
+use edge_layout::JOB_TAKEN;
 use edge_layout::KIND;
 use edge_layout::LENS;
 use edge_layout::LINK;
@@ -92,6 +97,18 @@ pub fn queue_at(t: &[u8], i: usize) -> Queue
     }
 }
 
+pub fn job_at(t: &[u8], i: usize) -> OpenJob
+    requires { ⌜ (tableOctets ≤ length (now t)) × (i < slotsMost) ⌝ }
+    ensures { λ r. ⌜ r ≡ slotIn (cell (now (t .entry)) i) .job ⌝ }
+{
+    OpenJob {
+        length: number(t, i, JOB_LENGTH),
+        taken: number(t, i, JOB_TAKEN),
+        filled: number(t, i, JOB_FILLED),
+        aside: number(t, i, JOB_ASIDE),
+    }
+}
+
 // The slot that row i says.
 pub fn slot_at(t: &[u8], i: usize) -> Slot
     requires { ⌜ (tableOctets ≤ length (now t)) × (i < slotsMost) ⌝ }
@@ -102,6 +119,7 @@ pub fn slot_at(t: &[u8], i: usize) -> Slot
     let peer = peer_at(t, i);
     let assembly = assembly_at(t, i);
     let queue = queue_at(t, i);
+    let job = job_at(t, i);
     Slot {
         state,
         link: number(t, i, LINK),
@@ -113,5 +131,6 @@ pub fn slot_at(t: &[u8], i: usize) -> Slot
         peer,
         assembly,
         queue,
+        job,
     }
 }

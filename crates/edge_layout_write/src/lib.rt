@@ -2,6 +2,7 @@
 // writes the whole table. It stands on `edge_layout`, whose specs/Layout.antt says what the octets mean.
 mod local;
 
+use channel::OpenJob;
 use channel::Peer;
 use channel::Queue;
 use channel::SLOTS;
@@ -9,6 +10,10 @@ use channel::Slot;
 use edge_layout::COUNT;
 use edge_layout::HAVE;
 use edge_layout::HOLD;
+use edge_layout::JOB_ASIDE;
+use edge_layout::JOB_FILLED;
+use edge_layout::JOB_LENGTH;
+use edge_layout::JOB_TAKEN;
 use edge_layout::LENS;
 use edge_layout::PEER_CID;
 use edge_layout::PEER_CREDITS;
@@ -26,8 +31,8 @@ ghost use Prim.Native.Nat.{_≤_, _<_};
 ghost use lib.ListN.{length};
 ghost use Rattle.octets.specs.Octets.{le16};
 ghost use Rattle.channel.specs.Limits.{slotsMost};
-ghost use Rattle.edge_layout.specs.Layout.{tableOctets, peerOctets, assemblyOctets, queueOctets, row};
-ghost use Rattle.edge_layout_write.specs.Puts.{puts, framedRow, takenRow};
+ghost use Rattle.edge_layout.specs.Layout.{tableOctets, peerOctets, assemblyOctets, queueOctets, jobOctets, row};
+ghost use Rattle.edge_layout_write.specs.Puts.{puts, leftRow, takenRow};
 
 fn put_peer(t: &mut [u8], i: usize, p: Peer)
     requires { ⌜ (tableOctets ≤ length (now t)) × (i < slotsMost) ⌝ }
@@ -67,6 +72,26 @@ pub fn put_queue(t: &mut [u8], i: usize, q: Queue)
     put_number(t, i, LENS + 6 * SLOTS, lens[3]);
 }
 
+pub fn put_job(t: &mut [u8], i: usize, j: OpenJob)
+    requires { ⌜ (tableOctets ≤ length (now t)) × (i < slotsMost) ⌝ }
+    ensures { λ _. ⌜ now (t .exit) ≡ puts (now (t .entry)) i 39 (jobOctets j) ⌝ }
+{
+    put_number(t, i, JOB_LENGTH, j.length);
+    put_number(t, i, JOB_TAKEN, j.taken);
+    put_number(t, i, JOB_FILLED, j.filled);
+    put_number(t, i, JOB_ASIDE, j.aside);
+}
+
+// The job that arrives, those that wait and the open one.
+fn put_jobs(t: &mut [u8], i: usize, a: Assembly, q: Queue, j: OpenJob)
+    requires { ⌜ (tableOctets ≤ length (now t)) × (i < slotsMost) ⌝ }
+    ensures { λ _. ⌜ now (t .exit) ≡ puts (puts (puts (now (t .entry)) i 26 (assemblyOctets a)) i 30 (queueOctets q)) i 39 (jobOctets j) ⌝ }
+{
+    put_assembly(t, i, a);
+    put_queue(t, i, q);
+    put_job(t, i, j);
+}
+
 // Writes the slot's octets into row i.
 pub fn put_slot(t: &mut [u8], i: usize, x: Slot)
     requires { ⌜ (tableOctets ≤ length (now t)) × (i < slotsMost) ⌝ }
@@ -81,24 +106,24 @@ pub fn put_slot(t: &mut [u8], i: usize, x: Slot)
     let p = x.peer;
     put_peer(t, i, p);
     let b = x.assembly;
-    put_assembly(t, i, b);
     let q = x.queue;
-    put_queue(t, i, q);
+    let j = x.job;
+    put_jobs(t, i, b, q, j);
 }
 
-// Writes of the slot what a frame can change: its state, its account, its assembly and the jobs that wait.
-pub fn put_framed(t: &mut [u8], i: usize, x: Slot)
+// Writes of the slot what changes where its channel is left: its state, its account, its assembly, the jobs that wait and the open job.
+pub fn put_left(t: &mut [u8], i: usize, x: Slot)
     requires { ⌜ (tableOctets ≤ length (now t)) × (i < slotsMost) ⌝ }
-    ensures { λ _. ⌜ now (t .exit) ≡ framedRow (now (t .entry)) i x ⌝ }
+    ensures { λ _. ⌜ now (t .exit) ≡ leftRow (now (t .entry)) i x ⌝ }
 {
     let k = x.state;
     put_state(t, i, k);
     let a = x.account;
     put_account(t, i, a);
     let b = x.assembly;
-    put_assembly(t, i, b);
     let q = x.queue;
-    put_queue(t, i, q);
+    let j = x.job;
+    put_jobs(t, i, b, q, j);
 }
 
 // Writes of the slot what a take can change: its account and the jobs that wait.

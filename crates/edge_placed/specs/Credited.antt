@@ -38,11 +38,11 @@ use Rattle.slot_credits.specs.Crediting.{creditsOf}
 use Rattle.slot_credits.specs.Into.{credits-quiet, credits-astray, credits-into}
 use Rattle.edge_layout.specs.Layout.{cell, stateOf, failedBy, slotIn, taken, read, written}
 use Rattle.edge_layout.specs.Columns.{tabulate-length, tabulate-at}
-use Rattle.edge_layout_write.specs.Puts.{puts, framedRow}
+use Rattle.edge_layout_write.specs.Puts.{puts, leftRow}
 use Rattle.edge.specs.Edge.{Edge, edge, onTable}
 use Rattle.edge_scan.specs.Scan.{validOctets}
 use Rattle.edge_row.specs.Row.{table-taken, slots-told, depth-told, packet-told, slot-read, credits-written}
-use Rattle.edge_row.specs.Framed.{framed-written}
+use Rattle.edge_row.specs.Framed.{left-written}
 use Rattle.edge_row.specs.Gate.{answered, stays, changes, stopped, valid-read, valid-slots}
 use Rattle.edge_row.specs.Room.{row-low}
 
@@ -100,19 +100,19 @@ module _ (o : List ℕ) where
 
 -- ---- what is written
 
--- the columns of row i that a credit signal changes, with those of slot x: the peer's credits, or of a channel that is left those that a frame can change
+-- the columns of row i that a credit signal changes, with those of slot x: the peer's credits, or of a channel that is left those that change then
 abbrev pub creditedRow : List ℕ → ℕ → Slot → List ℕ
-creditedRow o i x = if isConnected (x .state) then puts o i 24 (le16 (x .peer .credits)) else framedRow o i x
+creditedRow o i x = if isConnected (x .state) then puts o i 24 (le16 (x .peer .credits)) else leftRow o i x
 
 -- THE TABLE WITH THAT SLOT PUT
 credited-written : (o : List ℕ) → read o .ok ≡ true → (s : ℕ) → s < slotsMost → (place more : ℕ) → isConnected (slotAt (read o .table) s .state) ≡ true
     → written o (putSlot (read o .table) s (creditsOf place (slotAt (read o .table) s) more .slot)) ≡ creditedRow o s (creditsOf place (slotAt (read o .table) s) more .slot)
 unfolding creditsOf choose
-credited-written o ok s h place more on = go (ltb creditsMost (slotAt (read o .table) s .peer .credits + more)) refl
+credited-written o ok s h place more on = go (ltb creditsMost (slotAt (read o .table) s .peer .credits + slotAt (read o .table) s .job .aside + more)) refl
   where
-    go : (b : Bool) → ltb creditsMost (slotAt (read o .table) s .peer .credits + more) ≡ b
+    go : (b : Bool) → ltb creditsMost (slotAt (read o .table) s .peer .credits + slotAt (read o .table) s .job .aside + more) ≡ b
         → written o (putSlot (read o .table) s (creditsOf place (slotAt (read o .table) s) more .slot)) ≡ creditedRow o s (creditsOf place (slotAt (read o .table) s) more .slot)
-    go true e = rw e (framed-written o ok s h _ refl refl)
+    go true e = rw e (left-written o ok s h _ refl refl)
     go false e = rw (e, on) (credits-written o ok s h (slotAt (read o .table) s .peer .credits + more))
 
 -- what the work on the slot of row s leaves, in the octets and in the room

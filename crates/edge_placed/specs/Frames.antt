@@ -5,6 +5,7 @@ use lib.ListN.{length}
 use Rattle.definition.specs.Calls.{frame, jobs, frameIn}
 use Rattle.definition.specs.Ending.{endOf}
 use Rattle.definition.specs.Frames.{send, receive}
+use Rattle.definition.specs.Portions.{startJob, givePortion, cancelJob}
 use Rattle.edge_layout.specs.Layout.{read}
 use Rattle.edge.specs.Edge.{Edge, onTable}
 
@@ -23,3 +24,15 @@ sentOctets table out slot sdu = let t = read table .table in endOf t sdu [] out 
 -- Takes the oldest job that waits in a slot.
 abbrev pub receiveEdge : (table answer room signal job : List ℕ) (slot : ℕ) → Edge
 receiveEdge table answer room signal job slot = onTable table answer (λ t. endOf t [] room signal job (receive t (length room) (length signal) slot (length job)))
+
+-- Begins a job of so many octets, to be handed over in portions; its first frame is begun in the lent buffer.
+abbrev pub startEdge : (table answer buffer : List ℕ) (slot l : ℕ) → Edge
+startEdge table answer buffer slot l = onTable table answer (λ t. endOf t [] [] buffer [] (startJob t slot l (length buffer)))
+
+-- Hands over a portion of it.
+abbrev pub portionEdge : (table answer buffer : List ℕ) (slot : ℕ) (octets : List ℕ) → Edge
+portionEdge table answer buffer slot octets = onTable table answer (λ t. endOf t octets [] buffer [] (givePortion t slot (length octets) (length buffer)))
+
+-- Gives it up.
+abbrev pub cancelEdge : (table answer room : List ℕ) (slot : ℕ) → Edge
+cancelEdge table answer room slot = onTable table answer (λ t. endOf t [] room [] [] (cancelJob t (length room) slot))

@@ -1,7 +1,7 @@
 -- A frame in on the table's octets where they stand: the first refusals told from the octets, one row read, the work on its slot, and the columns written that a
 -- frame can change.
 use mathlib.Core.Path.{_≡_, refl, sym, ap, _∙_}
-use mathlib.Core.Bool.{Bool, true, false, not, _&&_}
+use mathlib.Core.Bool.{Bool, true, false, false≢true, not, _&&_}
 use mathlib.Core.List.{List, []}
 use Prim.Native.Nat.{ℕ, _≤_, _<_}
 use lib.Dec.{eqb, leb, ltb}
@@ -52,23 +52,23 @@ framedEdge o a room d m s link p =
     let w = frameOf d (placeSize m) x link p in
     edge (answerNumber (w .answer)) (framedRow o s (w .slot)) (answered a (w .answer) 0) (parts itself (jobOctets (x .assembly) p) (partWidth d m) (only s (w .moves)) room) [] []
 
--- a frame leaves link, SPSM, our sizes, holds and the peer's side as they were
+-- a frame leaves link, SPSM, our sizes, holds and the peer's side as they were, and the open job where the channel stays
 abbrev Same : Slot → Work → Type 0
-Same x w = (localOf (w .slot) ≡ localOf x) × (peerOf (w .slot) ≡ peerOf x)
+Same x w = (localOf (w .slot) ≡ localOf x) × ((peerOf (w .slot) ≡ peerOf x) × (isConnected (w .slot .state) ≡ true → w .slot .job ≡ x .job))
 
 joined-local : (place : ℕ) (x : Slot) (k : CreditFlowControl) (count : ℕ) (j : Joined) → Same x (joinedTo place (withAccount k x) count j)
 unfolding joinedTo
-joined-local place x k count (Joined.Refused r) = (refl, refl)
-joined-local place x k count (Joined.Assembling a) = (refl, refl)
-joined-local place x k count (Joined.Finished len) = (refl, refl)
-joined-local place x k count Joined.Dropped = (refl, refl)
+joined-local place x k count (Joined.Refused r) = (refl, (refl, λ e. absurd (false≢true e)))
+joined-local place x k count (Joined.Assembling a) = (refl, (refl, λ _. refl))
+joined-local place x k count (Joined.Finished len) = (refl, (refl, λ _. refl))
+joined-local place x k count Joined.Dropped = (refl, (refl, λ _. refl))
 
 frame-local : (d place : ℕ) (x : Slot) (link : ℕ) (p : List ℕ) → Same x (frameOf d place x link p)
 unfolding frameOf
 frame-local d place x link p =
-    if-cases (Same x) (not (isConnected (x .state))) (λ _. (refl, refl))
-    (λ _. if-cases (Same x) (not (eqb (x .link) link)) (λ _. (refl, refl))
-    (λ _. if-cases (Same x) (eqb (x .account .credits) 0) (λ _. (refl, refl)) (λ _. joined-local place x _ _ _)))
+    if-cases (Same x) (not (isConnected (x .state))) (λ _. (refl, (refl, λ _. refl)))
+    (λ _. if-cases (Same x) (not (eqb (x .link) link)) (λ _. (refl, (refl, λ _. refl)))
+    (λ _. if-cases (Same x) (eqb (x .account .credits) 0) (λ _. (refl, (refl, λ _. refl))) (λ _. joined-local place x _ _ _)))
 
 -- ---- what the gate says of a call that is given a room and a link
 
@@ -160,4 +160,4 @@ module _ (o a room p : List ℕ) (link cid : ℕ) (v : validOctets o ≡ true) (
         let same = frame-local (t .d) (placeOf t) (slotAt t s) link p in
         rw (← depth-told o (valid-read o v), ← packet-told o (valid-read o v), ← slot-read o ok s row-low)
         (changes o a (parts itself js (partWidth (t .d) (t .m)) (only s (w .moves)) room) [] [] (λ t. endOf t (jobs t (frame link cid p)) room [] [] (frameIn t (length room) link cid p))
-        (w .answer) (putSlot t s (w .slot)) 0 ok ends (sym (framed-written o ok s row-low (w .slot) (same .0) (same .1))))
+        (w .answer) (putSlot t s (w .slot)) 0 ok ends (sym (framed-written o ok s row-low (w .slot) (same .0) (same .1 .0) (same .1 .1))))

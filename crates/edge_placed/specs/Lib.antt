@@ -1,4 +1,4 @@
--- What a frame, a send and a take leave on octets.
+-- What a frame, a send, a take and a job handed over in portions leave on octets.
 pub mod Frames
 -- A send on the table's octets where they stand.
 pub mod Sent
@@ -10,3 +10,7 @@ pub mod Valid
 pub mod Taken
 -- A credit signal on the table's octets where they stand.
 pub mod Credited
+-- A start and a portion on the table's octets where they stand.
+pub mod Filled
+-- A cancel on the table's octets where they stand.
+pub mod Cancelled

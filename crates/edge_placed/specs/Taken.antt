@@ -49,7 +49,7 @@ abbrev leaves : (table answer room signal job : List ℕ) (w s next : ℕ) → T
 leaves o a room out job w s next k =
     let n = sizes (k .work .out) in
     edge (answerNumber (k .work .answer)) (set (takenRow o s (k .work .slot)) 5 (idThen next n)) (answered a (k .work .answer) n)
-    (parts itself [] w (only s (k .work .moves)) room) (mem.written itself [] room (k .work .out) out) (mem.written itself [] room (k .job) job)
+    (parts itself [] w (only s (k .work .moves)) room) (mem.written itself [] room 0 (k .work .out) out) (mem.written itself [] room 0 (k .job) job)
 
 unfoldable pub takenEdge : (table answer room signal job : List ℕ) (d m s : ℕ) → Edge
 takenEdge o a room out job d m s = leaves o a room out job (partWidth d m) s (getD o 5 0) (takeAt o d m s (length job))
@@ -106,7 +106,7 @@ module _ (o a room out job : List ℕ) (s : ℕ) (v : validOctets o ≡ true) (e
 
     ends : endOf t [] room out job (receive t (length room) (length out) s (length job))
         ≡ end (gave (k .work .answer) (putSlot (tableThen t n) s (k .work .slot)) n)
-        (parts itself [] (partWidth (t .d) (t .m)) (only s (k .work .moves)) room) (mem.written itself [] room (k .work .out) out) (mem.written itself [] room (k .job) job)
+        (parts itself [] (partWidth (t .d) (t .m)) (only s (k .work .moves)) room) (mem.written itself [] room 0 (k .work .out) out) (mem.written itself [] room 0 (k .job) job)
     unfolding receive
     ends =
         ap (λ (x : Verdict). endOf t [] room out job (passed t x (takenOn t s (length job)))) (passes o v (Is (length room)) (Is (length out)) Nothing (Is s) (ap not e) f refl g)
@@ -133,5 +133,5 @@ module _ (o a room out job : List ℕ) (s : ℕ) (v : validOctets o ≡ true) (e
     take-placed =
         let ok = valid-read o v in
         rw (← depth-told o ok, ← packet-told o ok, ← slot-read o ok s take-row, ← identifier-told o ok)
-        (changes o a (parts itself [] (partWidth (t .d) (t .m)) (only s (k .work .moves)) room) (mem.written itself [] room (k .work .out) out) (mem.written itself [] room (k .job) job)
+        (changes o a (parts itself [] (partWidth (t .d) (t .m)) (only s (k .work .moves)) room) (mem.written itself [] room 0 (k .work .out) out) (mem.written itself [] room 0 (k .job) job)
         (λ t. endOf t [] room out job (receive t (length room) (length out) s (length job))) (k .work .answer) (putSlot (tableThen t n) s (k .work .slot)) n ok ends (sym (table-is (eqb n 0))))

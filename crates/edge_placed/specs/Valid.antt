@@ -17,6 +17,8 @@ use Rattle.codes.specs.declared.Refusal.{Refusal}
 use Rattle.codes.specs.declared.Refusal.the-variants.{BadRoom, BadHandle, BadSlot}
 use Rattle.credit.specs.Account.{creditSum, received}
 use Rattle.credit_laws.specs.AccountLaws.{received-sum}
+use Rattle.sar_cut.specs.declared.Plan.{Plan}
+use Rattle.sar_cut.specs.declared.Plan.the-variants as Plan
 use Rattle.sar_join.specs.declared.Joined.{Joined}
 use Rattle.sar_join.specs.declared.Joined.the-variants as Joined
 use Rattle.sar_join.specs.Joining.{idle, reached, firstStep, joinStep}
@@ -24,15 +26,16 @@ use Rattle.channel.specs.Limits.{slotsMost, depthMost, handleMost, creditsMost}
 use Rattle.channel.specs.declared.Given.the-variants.{Nothing, Is}
 use Rattle.channel.specs.declared.Slot.{Slot}
 use Rattle.channel.specs.declared.Table.{Table}
-use Rattle.definition.specs.Table.{placeOf, gap, slotAt, slotOf, isCid, isConnected, roomWidth, live, lensFit, sizesFit, slotFits, wellFormed, withAccount, withPeerCredits}
+use Rattle.definition.specs.Table.{placeOf, gap, slotAt, slotOf, isCid, isConnected, roomWidth, live, lensFit, isOpen, jobFits, sizesFit, slotFits, wellFormed, withAccount, withPeerCredits}
 use Rattle.definition.specs.Tells.{cid-within}
 use Rattle.table_gate_sizes.specs.Sizes.{formed-sizes}
 use Rattle.definition.specs.Frames.{queued}
 use Rattle.slot_work.specs.Work.{Work}
-use Rattle.slot_send.specs.Sending.{sentFrom}
+use Rattle.slot_send.specs.Sending as Sending
+use Rattle.slot_send.specs.Sending.{plannedFrom, sentFrom}
 use Rattle.slot_send.specs.Into.{credits-alone}
 use Rattle.slot_frame.specs.FrameIn.{joinedTo, joinOf, frameOf}
-use Rattle.edge_layout.specs.Layout.{read, slotIn}
+use Rattle.edge_layout.specs.Layout.{cell, read, slotIn}
 use Rattle.edge.specs.Edge.{Edge}
 use Rattle.edge_scan.specs.Scan.{validOctets}
 use Rattle.rules.specs.Keep.{every-set}
@@ -52,6 +55,8 @@ pub record Fit (d place : ℕ) (x : Slot) : Type 0 where
   pub want : x .assembly .want ≤ place
   pub mtu : x .mtu ≤ place
   pub sum : creditSum (x .account) ≤ creditsMost
+  pub job : jobFits (x .peer .mps) (x .job) ≡ true
+  pub aside : x .peer .credits + x .job .aside ≤ creditsMost
 
 fit : (d place : ℕ) (x : Slot) → slotFits d place x ≡ true → Fit d place x
 unfolding slotFits
@@ -60,19 +65,23 @@ fit d place x e =
     let b = and-right (lensFit place (x .queue)) _ a in
     let c = and-right (leb (x .assembly .have) place) _ b in
     let f = and-right (leb (x .assembly .want) place) _ c in
+    let g = and-right (leb (x .mtu) place) _ f in
+    let h = and-right (leb (creditSum (x .account)) creditsMost) _ g in
     record {
       count = leb-true _ _ (and-left (leb (x .queue .count) d) _ e);
       lens = and-left (lensFit place (x .queue)) _ a;
       have = leb-true _ _ (and-left (leb (x .assembly .have) place) _ b);
       want = leb-true _ _ (and-left (leb (x .assembly .want) place) _ c);
       mtu = leb-true _ _ (and-left (leb (x .mtu) place) _ f);
-      sum = leb-true _ _ (and-right (leb (x .mtu) place) _ f);
+      sum = leb-true _ _ (and-left (leb (creditSum (x .account)) creditsMost) _ g);
+      job = and-left (jobFits (x .peer .mps) (x .job)) _ h;
+      aside = leb-true _ _ (and-right (jobFits (x .peer .mps) (x .job)) _ h);
     }
 
 fits : (d place : ℕ) (x : Slot) → Fit d place x → slotFits d place x ≡ true
 unfolding slotFits
 fits d place x h =
-    and-both _ _ (le-leb _ _ (h .count)) (and-both _ _ (h .lens) (and-both _ _ (le-leb _ _ (h .have)) (and-both _ _ (le-leb _ _ (h .want)) (and-both _ _ (le-leb _ _ (h .mtu)) (le-leb _ _ (h .sum))))))
+    and-both _ _ (le-leb _ _ (h .count)) (and-both _ _ (h .lens) (and-both _ _ (le-leb _ _ (h .have)) (and-both _ _ (le-leb _ _ (h .want)) (and-both _ _ (le-leb _ _ (h .mtu)) (and-both _ _ (le-leb _ _ (h .sum)) (and-both _ _ (h .job) (le-leb _ _ (h .aside))))))))
 
 -- ---- what the join step comes to fits
 
@@ -101,8 +110,8 @@ module _ (d place q : ℕ) where
 
 joined-fits : (d place : ℕ) (x : Slot) (count : ℕ) (j : Joined) → Fit d place x → Fitting d place (x .queue .count) j → Fit d place (joinedTo place x count j .slot)
 unfolding joinedTo
-joined-fits d place x count (Joined.Refused r) h k = record { count = h .count; lens = h .lens; have = omega arith; want = omega arith; mtu = h .mtu; sum = h .sum }
-joined-fits d place x count (Joined.Assembling a) h k = record { count = h .count; lens = h .lens; have = k .0; want = k .1; mtu = h .mtu; sum = h .sum }
+joined-fits d place x count (Joined.Refused r) h k = record { count = h .count; lens = h .lens; have = omega arith; want = omega arith; mtu = h .mtu; sum = h .sum; job = refl; aside = omega (arith, h .aside) }
+joined-fits d place x count (Joined.Assembling a) h k = record { count = h .count; lens = h .lens; have = k .0; want = k .1; mtu = h .mtu; sum = h .sum; job = h .job; aside = h .aside }
 joined-fits d place x count (Joined.Finished len) h k =
     record {
       count = omega (arith, k .1);
@@ -111,13 +120,15 @@ joined-fits d place x count (Joined.Finished len) h k =
       want = omega arith;
       mtu = h .mtu;
       sum = h .sum;
+      job = h .job;
+      aside = h .aside;
     }
-joined-fits d place x count Joined.Dropped h k = record { count = h .count; lens = h .lens; have = omega arith; want = omega arith; mtu = h .mtu; sum = h .sum }
+joined-fits d place x count Joined.Dropped h k = record { count = h .count; lens = h .lens; have = omega arith; want = omega arith; mtu = h .mtu; sum = h .sum; job = h .job; aside = h .aside }
 
 used-fits : (d place : ℕ) (x : Slot) → eqb (x .account .credits) 0 ≡ false → Fit d place x → Fit d place (withAccount (received (x .account) 1) x)
 used-fits d place x e h =
     let some = eqb-false (x .account .credits) 0 e in
-    record { count = h .count; lens = h .lens; have = h .have; want = h .want; mtu = h .mtu; sum = rw (received-sum (x .account) 1 (h .sum) (omega arith)) (h .sum) }
+    record { count = h .count; lens = h .lens; have = h .have; want = h .want; mtu = h .mtu; sum = rw (received-sum (x .account) 1 (h .sum) (omega arith)) (h .sum); job = h .job; aside = h .aside }
 
 module _ (d place : ℕ) (x : Slot) (link : ℕ) (p : List ℕ) where
   frame-fit : Fit d place x → Fit d place (frameOf d place x link p .slot)
@@ -145,11 +156,23 @@ module _ (d place : ℕ) (x : Slot) (link : ℕ) (p : List ℕ) where
       (λ _. if-cases (λ (w : Work). length (w .slot .queue .lens) ≡ depthMost) (not (eqb (x .link) link)) (λ _. h)
       (λ _. if-cases (λ (w : Work). length (w .slot .queue .lens) ≡ depthMost) (eqb (x .account .credits) 0) (λ _. h) (λ _. joined-long _ _ _ h)))
 
--- ---- a send: the peer's credits are nothing that refusal 1 asks for
+-- ---- a send: the peer's credits are no more than before
 
-credits-fit : (d place : ℕ) (x : Slot) (n : ℕ) → slotFits d place x ≡ true → slotFits d place (withPeerCredits n x) ≡ true
-unfolding slotFits
-credits-fit d place x n e = e
+credits-fit : (d place : ℕ) (x : Slot) (n : ℕ) → n ≤ x .peer .credits → slotFits d place x ≡ true → slotFits d place (withPeerCredits n x) ≡ true
+credits-fit d place x n l e =
+    let h = fit d place x e in
+    fits d place (withPeerCredits n x) (record { count = h .count; lens = h .lens; have = h .have; want = h .want; mtu = h .mtu; sum = h .sum; job = h .job; aside = omega (arith, h .aside) })
+
+planned-less : (x : Slot) (sdu out : List ℕ) (p : Plan) → plannedFrom x sdu out p .gave .slot .peer .credits ≤ x .peer .credits
+unfolding plannedFrom
+planned-less x sdu out (Plan.Refused r) = omega arith
+planned-less x sdu out (Plan.Frames n octets) = omega arith
+
+sent-less : (x : Slot) (sdu out : List ℕ) → sentFrom x sdu out .gave .slot .peer .credits ≤ x .peer .credits
+unfolding sentFrom
+sent-less x sdu out =
+    if-cases (λ (w : Sending.Work). w .gave .slot .peer .credits ≤ x .peer .credits) (not (isConnected (x .state))) (λ _. omega arith)
+    (λ _. if-cases (λ (w : Sending.Work). w .gave .slot .peer .credits ≤ x .peer .credits) (isOpen (x .job)) (λ _. omega arith) (λ _. planned-less x sdu out _))
 
 -- ---- the table's octets
 
@@ -170,6 +193,13 @@ module _ (o : List ℕ) (v : validOctets o ≡ true) where
 
   within : t .n ≤ length (t .slots)
   within = omega (arith, formed-sizes t (valid-formed o v) .n-most, slots-long o (valid-read o v))
+
+  -- the row of a slot in use fits
+  pub row-fit : (s : ℕ) → leb (getD o 1 0) s ≡ false → Fit (t .d) (placeOf t) (slotIn (cell o s))
+  row-fit s n =
+      let ok = valid-read o v in
+      let h : s < t .n = rw (slots-told o ok) (leb-false (getD o 1 0) s n) in
+      rw (← slot-read o ok s (slot-within o s v n)) (fit (t .d) (placeOf t) (slotAt t s) (slot-fits t s (valid-formed o v) within h))
 
   row-long : (s : ℕ) → s < slotsMost → length (slotAt t s .queue .lens) ≡ depthMost
   unfolding slotIn
@@ -212,7 +242,7 @@ module _ (o : List ℕ) (v : validOctets o ≡ true) where
         let y = sentFrom x sdu out .gave .slot in
         let q = credits-alone x sdu out in
         subst Kept (sent-table o a out sdu slot v n)
-        (valid-put o v slot low y (rw q (credits-fit (t .d) (placeOf t) x _ (slot-fits t slot (valid-formed o v) within h))) (rw q (row-long slot low)))
+        (valid-put o v slot low y (rw q (credits-fit (t .d) (placeOf t) x _ (sent-less x sdu out) (slot-fits t slot (valid-formed o v) within h))) (rw q (row-long slot low)))
 
     -- A SEND
     pub send-valid : validOctets (sendEdge o a out slot sdu .table) ≡ true

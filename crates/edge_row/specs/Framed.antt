@@ -1,16 +1,19 @@
--- A slot that a frame has changed, in its table's octets: its state, its account, its assembly and the jobs that wait are written, and that is its whole row.
-use mathlib.Core.Path.{_≡_, sym, ap, _∙_}
-use mathlib.Core.Bool.{true}
+-- A slot that a frame has changed, in its table's octets: its state, its account, its assembly and the jobs that wait are written, and its open job where the
+-- channel is left; and that is its whole row.
+use mathlib.Core.Path.{_≡_, refl, sym, ap, _∙_}
+use mathlib.Core.Bool.{Bool, true, false}
 use mathlib.Core.List.{List, _∷_, _++_}
 use Prim.Native.Nat.{ℕ, _+_, _<_}
 use native.Mathlib.Omega.{arith}
 use lib.ListN.{getD, List·getD-append}
 use lib.Seq.{getD-drop}
+use Rattle.lists.specs.Choose.{choose}
 use Rattle.channel.specs.Limits.{slotsMost}
+use Rattle.channel.specs.declared.OpenJob.{OpenJob}
 use Rattle.channel.specs.declared.Slot.{Slot}
-use Rattle.definition.specs.Table.{slotAt, putSlot}
-use Rattle.edge_layout.specs.Layout.{columnCount, stateOctets, localOctets, accountOctets, peerOctets, assemblyOctets, queueOctets, row, cell, read, written}
-use Rattle.edge_layout_write.specs.Puts.{puts, framedRow}
+use Rattle.definition.specs.Table.{slotAt, putSlot, isConnected}
+use Rattle.edge_layout.specs.Layout.{columnCount, stateOctets, localOctets, accountOctets, peerOctets, assemblyOctets, queueOctets, jobOctets, row, cell, read, written}
+use Rattle.edge_layout_write.specs.Puts.{puts, keptRow, leftRow, framedRow}
 use Rattle.edge_layout_write.specs.Cells.{place, puts-other, row-parts}
 use Rattle.edge_row.specs.Parts.{puts-held}
 use Rattle.edge_row.specs.Row.{holds, row-written}
@@ -24,11 +27,15 @@ peerOf x = x .hold ∷ peerOctets (x .peer)
 
 local-cells : (x : Slot) (e : ℕ) → e < 8 → getD (row x) (2 + e) 0 ≡ getD (localOf x) e 0
 unfolding row
-local-cells x e h = sym (getD-drop 2 (row x) e 0) ∙ List·getD-append (localOf x) (accountOctets (x .account) ++ (peerOf x ++ (assemblyOctets (x .assembly) ++ queueOctets (x .queue)))) 0 e (omega arith)
+local-cells x e h = sym (getD-drop 2 (row x) e 0) ∙ List·getD-append (localOf x) (accountOctets (x .account) ++ (peerOf x ++ (assemblyOctets (x .assembly) ++ (queueOctets (x .queue) ++ jobOctets (x .job))))) 0 e (omega arith)
 
 peer-cells : (x : Slot) (e : ℕ) → e < 9 → getD (row x) (17 + e) 0 ≡ getD (peerOf x) e 0
 unfolding row
-peer-cells x e h = sym (getD-drop 17 (row x) e 0) ∙ List·getD-append (peerOf x) (assemblyOctets (x .assembly) ++ queueOctets (x .queue)) 0 e (omega arith)
+peer-cells x e h = sym (getD-drop 17 (row x) e 0) ∙ List·getD-append (peerOf x) (assemblyOctets (x .assembly) ++ (queueOctets (x .queue) ++ jobOctets (x .job))) 0 e (omega arith)
+
+job-cells : (x : Slot) (e : ℕ) → getD (row x) (39 + e) 0 ≡ getD (jobOctets (x .job)) e 0
+unfolding row
+job-cells x e = sym (getD-drop 39 (row x) e 0)
 
 module _ (o : List ℕ) (i : ℕ) (x : Slot) (has : (c : ℕ) → c < columnCount → cell o i c ≡ getD (row x) c 0) (y : Slot) where
   abbrev state-put : List ℕ
@@ -36,6 +43,9 @@ module _ (o : List ℕ) (i : ℕ) (x : Slot) (has : (c : ℕ) → c < columnCoun
 
   abbrev account-put : List ℕ
   account-put = puts state-put i 10 (accountOctets (y .account))
+
+  abbrev assembly-put : List ℕ
+  assembly-put = puts account-put i 26 (assemblyOctets (y .assembly))
 
   -- the columns between them hold already what they are to hold
   local-held : puts state-put i 2 (localOf x) ≡ state-put
@@ -49,17 +59,52 @@ module _ (o : List ℕ) (i : ℕ) (x : Slot) (has : (c : ℕ) → c < columnCoun
       ∙ puts-other o i 0 (stateOctets (y .state)) (place i (17 + e)) (λ k f g q. omega arith)
       ∙ has (17 + e) (omega arith) ∙ peer-cells x e h)
 
-  pub framed-row : localOf y ≡ localOf x → peerOf y ≡ peerOf x → puts o i 0 (row y) ≡ framedRow o i y
-  unfolding puts
-  framed-row l p =
-      sym (row-parts o i y)
-      ∙ ap (λ (r : List ℕ). puts (puts (puts (puts (puts state-put i 2 r) i 10 (accountOctets (y .account))) i 17 (peerOf y)) i 26 (assemblyOctets (y .assembly))) i 30 (queueOctets (y .queue))) l
-      ∙ ap (λ (r : List ℕ). puts (puts (puts (puts r i 10 (accountOctets (y .account))) i 17 (peerOf y)) i 26 (assemblyOctets (y .assembly))) i 30 (queueOctets (y .queue))) local-held
-      ∙ ap (λ (r : List ℕ). puts (puts (puts account-put i 17 r) i 26 (assemblyOctets (y .assembly))) i 30 (queueOctets (y .queue))) p
-      ∙ ap (λ (r : List ℕ). puts (puts r i 26 (assemblyOctets (y .assembly))) i 30 (queueOctets (y .queue))) peer-held
+  -- and so do those behind them, where the open job is as it was
+  job-held : puts (keptRow o i y) i 39 (jobOctets (x .job)) ≡ keptRow o i y
+  job-held =
+      puts-held (keptRow o i y) i 39 (jobOctets (x .job))
+      (λ e h. puts-other assembly-put i 30 (queueOctets (y .queue)) (place i (39 + e)) (λ k f g q. omega arith)
+      ∙ puts-other account-put i 26 (assemblyOctets (y .assembly)) (place i (39 + e)) (λ k f g q. omega arith)
+      ∙ puts-other state-put i 10 (accountOctets (y .account)) (place i (39 + e)) (λ k f g q. omega arith)
+      ∙ puts-other o i 0 (stateOctets (y .state)) (place i (39 + e)) (λ k f g q. omega arith)
+      ∙ has (39 + e) (omega arith) ∙ job-cells x e)
+
+  -- with what stands behind the account written
+  abbrev rest-put : List ℕ → List ℕ
+  rest-put r = puts (puts (puts r i 26 (assemblyOctets (y .assembly))) i 30 (queueOctets (y .queue))) i 39 (jobOctets (y .job))
+
+  module _ (l : localOf y ≡ localOf x) (p : peerOf y ≡ peerOf x) where
+    pub left-row : puts o i 0 (row y) ≡ leftRow o i y
+    unfolding puts
+    left-row =
+        sym (row-parts o i y)
+        ∙ ap (λ (r : List ℕ). rest-put (puts (puts (puts state-put i 2 r) i 10 (accountOctets (y .account))) i 17 (peerOf y))) l
+        ∙ ap (λ (r : List ℕ). rest-put (puts (puts r i 10 (accountOctets (y .account))) i 17 (peerOf y))) local-held
+        ∙ ap (λ (r : List ℕ). rest-put (puts account-put i 17 r)) p
+        ∙ ap rest-put peer-held
+
+    pub kept-row : y .job ≡ x .job → puts o i 0 (row y) ≡ keptRow o i y
+    kept-row j = left-row ∙ ap (λ (w : OpenJob). puts (keptRow o i y) i 39 (jobOctets w)) j ∙ job-held
+
+    pub framed-row : (isConnected (y .state) ≡ true → y .job ≡ x .job) → puts o i 0 (row y) ≡ framedRow o i y
+    unfolding choose
+    framed-row j = go (isConnected (y .state)) refl
+      where
+        go : (b : Bool) → isConnected (y .state) ≡ b → puts o i 0 (row y) ≡ framedRow o i y
+        go true e = rw e (kept-row (j e))
+        go false e = rw e left-row
 
 -- THE TABLE WITH THAT SLOT PUT
-pub framed-written : (o : List ℕ) (ok : read o .ok ≡ true) (i : ℕ) (h : i < slotsMost) (y : Slot)
-    → localOf y ≡ localOf (slotAt (read o .table) i) → peerOf y ≡ peerOf (slotAt (read o .table) i)
-    → written o (putSlot (read o .table) i y) ≡ framedRow o i y
-framed-written o ok i h y l p = row-written o ok i h y ∙ framed-row o i (slotAt (read o .table) i) (holds o ok i h) y l p
+module _ (o : List ℕ) (ok : read o .ok ≡ true) (i : ℕ) (h : i < slotsMost) (y : Slot) (l : localOf y ≡ localOf (slotAt (read o .table) i)) (p : peerOf y ≡ peerOf (slotAt (read o .table) i)) where
+  abbrev x : Slot
+  x = slotAt (read o .table) i
+
+  pub framed-written : (isConnected (y .state) ≡ true → y .job ≡ x .job) → written o (putSlot (read o .table) i y) ≡ framedRow o i y
+  framed-written j = row-written o ok i h y ∙ framed-row o i x (holds o ok i h) y l p j
+
+  -- that of a channel that stays, and of one that is left
+  pub kept-written : y .job ≡ x .job → written o (putSlot (read o .table) i y) ≡ keptRow o i y
+  kept-written j = row-written o ok i h y ∙ kept-row o i x (holds o ok i h) y l p j
+
+  pub left-written : written o (putSlot (read o .table) i y) ≡ leftRow o i y
+  left-written = row-written o ok i h y ∙ left-row o i x (holds o ok i h) y l p

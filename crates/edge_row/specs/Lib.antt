@@ -5,4 +5,5 @@ pub mod Gate
 pub mod Framed
 pub mod Stays
 pub mod Taken
+pub mod Jobbed
 pub mod Room

@@ -13,10 +13,11 @@ use Rattle.lists.specs.Choose.{choose}
 use Rattle.octets.specs.Octets.{le16, u16At}
 use Rattle.octets.specs.Sets.{sets-whole}
 use Rattle.channel.specs.Limits.{slotsMost}
+use Rattle.channel.specs.declared.OpenJob.{OpenJob}
 use Rattle.channel.specs.declared.Slot.{Slot}
 use Rattle.channel.specs.declared.Table.{Table}
-use Rattle.definition.specs.Table.{gap, slotAt, putSlot, nextId, idAfter, spent, withPeerCredits}
-use Rattle.edge_layout.specs.Layout.{headOctets, spsmOctets, columnCount, tableOctets, row, head, columns, spell, cell, slotIn, taken, same, read, written}
+use Rattle.definition.specs.Table.{gap, slotAt, putSlot, nextId, idAfter, spent, withPeerCredits, withJob}
+use Rattle.edge_layout.specs.Layout.{headOctets, spsmOctets, columnCount, tableOctets, row, jobOctets, head, columns, spell, cell, slotIn, taken, same, read, written}
 use Rattle.edge_layout.specs.Rows.{row-length}
 use Rattle.edge_layout.specs.Columns.{tabulate-length, tabulate-at, head-length, spell-length, cell-at}
 use Rattle.edge_layout.specs.Back.{one-spelling}
@@ -161,6 +162,11 @@ module _ (o : List ℕ) (ok : read o .ok ≡ true) where
     pub credits-written : (n : ℕ) → written o (putSlot (read o .table) i (withPeerCredits n (slotAt (read o .table) i))) ≡ puts o i 24 (le16 n)
     unfolding row
     credits-written n = part-written (withPeerCredits n (slotAt (read o .table) i)) 24 (le16 n) (omega arith) refl
+
+    -- the open job's numbers are columns 39 to 46
+    pub job-written : (j : OpenJob) → written o (putSlot (read o .table) i (withJob j (slotAt (read o .table) i))) ≡ puts o i 39 (jobOctets j)
+    unfolding row
+    job-written j = part-written (withJob j (slotAt (read o .table) i)) 39 (jobOctets j) (omega arith) refl
 
     -- THE OCTET OF THE NEXT IDENTIFIER WRITTEN is the table with that identifier used
     pub spent-written : (x : Slot) → written o (putSlot (spent (read o .table)) i x) ≡ set (written o (putSlot (read o .table) i x)) 5 (idAfter (nextId (read o .table)))

@@ -2,7 +2,7 @@
 -- identifier, which a signal uses.
 use mathlib.Core.Path.{_≡_, refl, sym, ap, _∙_}
 use mathlib.Core.Bool.{true}
-use mathlib.Core.List.{List}
+use mathlib.Core.List.{List, _++_}
 use Prim.Native.Nat.{ℕ, _+_, _<_}
 use native.Mathlib.Nat.{zero-add}
 use native.Mathlib.Omega.{arith}
@@ -13,12 +13,12 @@ use Rattle.channel.specs.Limits.{slotsMost}
 use Rattle.channel.specs.declared.Queue.{Queue}
 use Rattle.channel.specs.declared.Slot.{Slot}
 use Rattle.definition.specs.Table.{slotAt, putSlot, withAccount, withQueue}
-use Rattle.edge_layout.specs.Layout.{columnCount, stateOctets, accountOctets, assemblyOctets, queueOctets, row, cell, read, written}
-use Rattle.edge_layout_write.specs.Puts.{puts, framedRow, takenRow}
+use Rattle.edge_layout.specs.Layout.{columnCount, stateOctets, accountOctets, assemblyOctets, queueOctets, jobOctets, row, cell, read, written}
+use Rattle.edge_layout_write.specs.Puts.{puts, keptRow, takenRow}
 use Rattle.edge_layout_write.specs.Cells.{place, puts-other}
 use Rattle.edge_row.specs.Parts.{puts-held}
 use Rattle.edge_row.specs.Row.{holds}
-use Rattle.edge_row.specs.Framed.{framed-written}
+use Rattle.edge_row.specs.Framed.{kept-written}
 
 state-cells : (x : Slot) (e : ℕ) → e < 2 → getD (row x) (0 + e) 0 ≡ getD (stateOctets (x .state)) e 0
 unfolding row
@@ -26,7 +26,7 @@ state-cells x e h = ap (λ (k : ℕ). getD (row x) k 0) (zero-add e) ∙ List·g
 
 assembly-cells : (x : Slot) (e : ℕ) → e < 4 → getD (row x) (26 + e) 0 ≡ getD (assemblyOctets (x .assembly)) e 0
 unfolding row
-assembly-cells x e h = sym (getD-drop 26 (row x) e 0) ∙ List·getD-append (assemblyOctets (x .assembly)) (queueOctets (x .queue)) 0 e (omega arith)
+assembly-cells x e h = sym (getD-drop 26 (row x) e 0) ∙ List·getD-append (assemblyOctets (x .assembly)) (queueOctets (x .queue) ++ jobOctets (x .job)) 0 e (omega arith)
 
 -- of the columns that a frame can change, a take leaves state and assembly
 module _ (o : List ℕ) (i : ℕ) (x : Slot) (has : (c : ℕ) → c < columnCount → cell o i c ≡ getD (row x) c 0) (k : CreditFlowControl) (q : Queue) where
@@ -41,7 +41,7 @@ module _ (o : List ℕ) (i : ℕ) (x : Slot) (has : (c : ℕ) → c < columnCoun
       puts-held account-put i 26 (assemblyOctets (x .assembly))
       (λ e h. puts-other o i 10 (accountOctets k) (place i (26 + e)) (λ c f g p. omega arith) ∙ has (26 + e) (omega arith) ∙ assembly-cells x e h)
 
-  taken-row : framedRow o i (withQueue q (withAccount k x)) ≡ takenRow o i (withQueue q (withAccount k x))
+  taken-row : keptRow o i (withQueue q (withAccount k x)) ≡ takenRow o i (withQueue q (withAccount k x))
   taken-row =
       ap (λ (r : List ℕ). puts (puts (puts r i 10 (accountOctets k)) i 26 (assemblyOctets (x .assembly))) i 30 (queueOctets q)) state-held
       ∙ ap (λ (r : List ℕ). puts r i 30 (queueOctets q)) assembly-held
@@ -51,7 +51,7 @@ pub taken-written : (o : List ℕ) (ok : read o .ok ≡ true) (i : ℕ) (h : i <
     → written o (putSlot (read o .table) i (withQueue q (withAccount k (slotAt (read o .table) i)))) ≡ takenRow o i (withQueue q (withAccount k (slotAt (read o .table) i)))
 taken-written o ok i h k q =
     let x = slotAt (read o .table) i in
-    framed-written o ok i h (withQueue q (withAccount k x)) refl refl ∙ taken-row o i x (holds o ok i h) k q
+    kept-written o ok i h (withQueue q (withAccount k x)) refl refl refl ∙ taken-row o i x (holds o ok i h) k q
 
 -- a row written leaves line 0: its next identifier, written as it stands there, changes nothing
 pub identifier-kept : (o : List ℕ) (i : ℕ) (y : Slot) → set (takenRow o i y) 5 (getD o 5 0) ≡ takenRow o i y

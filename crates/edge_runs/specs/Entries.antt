@@ -8,7 +8,7 @@ use Rattle.signal_forms.specs.declared.Signal.the-variants.{ConnParamUpdateReq,
 use Rattle.channel.specs.declared.Answer.the-variants.{Done}
 use Rattle.definition.specs.Mem.{given}
 use Rattle.definition.specs.Outcome.{still}
-use Rattle.definition.specs.Calls.{Window, Call, frame, sends, down, plain, register, signals, pends, rejectsAll, accepts, rejects, drops, creates, opens, gives, holds, releases, leavesCid, announces, takes, attends, asks, sendsSignal, writes}
+use Rattle.definition.specs.Calls.{Window, Call, frame, sends, portions, down, plain, register, signals, pends, rejectsAll, accepts, rejects, drops, creates, opens, gives, holds, releases, leavesCid, announces, takes, starts, cancels, attends, asks, sendsSignal, writes}
 use Rattle.definition.specs.Calls as Calls
 use Rattle.definition.specs.Ending.{endOf}
 use Rattle.definition.specs.Run.{lent, nowhere}
@@ -18,11 +18,11 @@ use Rattle.edge_opening.specs.Opening.{createEdge, openedEdge, giveUpEdge}
 use Rattle.edge_pending.specs.Pending.{nextPendingEdge, acceptPendingEdge, rejectPendingEdge, rejectAllPendingEdge, dropPendingEdge}
 use Rattle.edge_closing.specs.Holding.{incRefEdge, decRefEdge}
 use Rattle.edge_closing.specs.Closing.{disconnectEdge, disconnectByCidEdge, disconnectedEdge, nextDisconnectEdge}
-use Rattle.edge_placed.specs.Frames.{dispatchEdge, sendEdge, receiveEdge}
+use Rattle.edge_placed.specs.Frames.{dispatchEdge, sendEdge, receiveEdge, startEdge, portionEdge, cancelEdge}
 use Rattle.edge_signals.specs.Signals.{signalEdge}
 
 -- An entry with its numbers as C gives them, in C's order: flags, configurations and result codes are numbers. Buffers that it writes to (signal, out,
--- job) are parts of the caller's memory. Octets that it only reads (pdu, payload, sdu) are given as they are.
+-- buffer, job) are parts of the caller's memory. Octets that it only reads (pdu, payload, sdu, octets) are given as they are.
 pub data Entry : Type 0 where
   registerSpsm : (number : ℕ) → Entry
   spsm : (slot : ℕ) → Entry
@@ -50,6 +50,9 @@ pub data Entry : Type 0 where
   signal : (signal : Window) (link listening central : ℕ) (pdu : List ℕ) → Entry
   dispatch : (link cid : ℕ) (payload : List ℕ) → Entry
   send : (out : Window) (slot : ℕ) (sdu : List ℕ) → Entry
+  startJob : (buffer : Window) (slot length : ℕ) → Entry
+  givePortion : (buffer : Window) (slot : ℕ) (octets : List ℕ) → Entry
+  cancelJob : (slot : ℕ) → Entry
   receive : (signal job : Window) (slot : ℕ) → Entry
   own : (at : Window) (octets : List ℕ) → Entry  -- no entry: the caller writes into its own memory. Told as one that answers 0.
 
@@ -82,6 +85,9 @@ leaves table answer room memory (nextDisconnect w) = nextDisconnectEdge table an
 leaves table answer room memory (signal w link listening central pdu) = signalEdge table answer room (lent w memory) link listening central pdu
 leaves table answer room memory (dispatch link cid payload) = dispatchEdge table answer room link cid payload
 leaves table answer room memory (send w slot sdu) = sendEdge table answer (lent w memory) slot sdu
+leaves table answer room memory (startJob w slot length) = startEdge table answer (lent w memory) slot length
+leaves table answer room memory (givePortion w slot octets) = portionEdge table answer (lent w memory) slot octets
+leaves table answer room memory (cancelJob slot) = cancelEdge table answer room slot
 leaves table answer room memory (receive w v slot) = receiveEdge table answer room (lent w memory) (lent v memory) slot
 leaves table answer room memory (own w octets) = onTable table answer (λ t. endOf t [] [] (lent w memory) [] (still t Done (given octets ∷ [])))
 
@@ -113,5 +119,8 @@ callOf (nextDisconnect w) = plain announces w nowhere
 callOf (signal w link listening central pdu) = plain (signals link (flag listening) (flag central) pdu) w nowhere
 callOf (dispatch link cid payload) = frame link cid payload
 callOf (send w slot sdu) = sends slot sdu w
+callOf (startJob w slot length) = plain (starts slot length) w nowhere
+callOf (givePortion w slot octets) = portions slot octets w
+callOf (cancelJob slot) = plain (cancels slot) nowhere nowhere
 callOf (receive w v slot) = plain (takes slot) w v
 callOf (own w octets) = plain (writes octets) w nowhere

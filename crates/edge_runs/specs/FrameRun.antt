@@ -47,7 +47,7 @@ module _ (frames memory : List ℕ) where
   quiet table answer room link cid p =
       let t = read table .table in
       let o = frameIn t (length room) link cid p in
-      (none-written (jobs t (frame link cid p)) room (o .out), none-written (jobs t (frame link cid p)) room (o .job))
+      (none-written (jobs t (frame link cid p)) room (o .at) (o .out), none-written (jobs t (frame link cid p)) room 0 (o .job))
 
   step : (from at : ℕ) (answer : List ℕ) (l : Lent) → stands (frameCall frames from at answer l) ≡ entered (stands l) (frameAsked frames from answer l)
   unfolding entered leaves choose

@@ -1,6 +1,6 @@
 -- Demand 3 at the entries, proved: a run of entries is the definition's run, spelled (Lift, Start), and what it tells is what that run's outcomes say
 -- and hand out (Telling); so `isolation` and the rule that refusals 1 and 2 never come (crates isolation and rules) hold of it. No entry gives credits above 65,535,
--- which is all that the rule asks (`entry-fits`).
+-- and a PDU is octets, which is all that the rule asks (`entry-fits`).
 use mathlib.Core.Path.{_≡_, refl, sym, ap, ap₂, _∙_, subst, subst₂}
 use mathlib.Core.Bool.{_&&_}
 use mathlib.Core.List.{List, [], _∷_, map}
@@ -20,14 +20,14 @@ use Rattle.definition.specs.Run.{State, outWindow, jobWindow, outcome, after, m
 use Rattle.edge_layout.specs.declared.Decoded.{Decoded}
 use Rattle.edge_layout.specs.Layout.{spell}
 use Rattle.edge_layout.specs.Back.{Sized, read-back}
-use Rattle.isolation.specs.Statement.{isDown, overAfter, sent, framed, Alike, same, exchanged, AlikeRuns, Marks, marksOf, Isolated, Handed}
+use Rattle.isolation.specs.Statement.{isDown, overAfter, sent, portioned, framed, Alike, same, exchanged, AlikeRuns, Marks, marksOf, Isolated, Handed}
 use Rattle.isolation.specs.Isolation.{isolation}
 use Rattle.rules.specs.Run.{SettingFits, Fits, Reached, start, next}
 use Rattle.rules.specs.Rules.{never-1-nor-2}
 use Rattle.edge.specs.Edge.{settingOf}
 use Rattle.edge_sized.specs.Sized.{after-sized, run-sized}
-use Rattle.edge_runs.specs.Entries.{Entry, registerSpsm, spsm, mtu, mps, peerMtu, peerMps, attention, sendConnParamUpdateReq, sendConnParamUpdateRes, nextPending, acceptPending, rejectPending, rejectAllPending, dropPending, create, opened, giveUp, incRef, decRef, disconnect, disconnectByCid, disconnected, nextDisconnect, signal, dispatch, send, receive, own, callOf}
-use Rattle.edge_runs.specs.Run.{EdgeState, stateOf, Asked, callIn, edgeOf, entered, BuffersApart, entries, signalIn, told}
+use Rattle.edge_runs.specs.Entries.{Entry, registerSpsm, spsm, mtu, mps, peerMtu, peerMps, attention, sendConnParamUpdateReq, sendConnParamUpdateRes, nextPending, acceptPending, rejectPending, rejectAllPending, dropPending, create, opened, giveUp, incRef, decRef, disconnect, disconnectByCid, disconnected, nextDisconnect, signal, dispatch, send, startJob, givePortion, cancelJob, receive, own, callOf}
+use Rattle.edge_runs.specs.Run.{EdgeState, stateOf, Asked, callIn, edgeOf, entered, BuffersApart, InOctets, AllInOctets, entries, signalIn, told}
 use Rattle.edge_runs.specs.Lift.{spelled, number-is, entered-spelled, entries-spelled}
 use Rattle.edge_runs.specs.Start.{starting}
 use Rattle.edge_runs.specs.Telling.{tellings, told-spelled}
@@ -43,16 +43,19 @@ state-back s w = ap (λ (d : Decoded). record { table = d .table; room = s .room
 out-alike : {k j over : ℕ} {t : Table} {c d : Call} → Alike k j over t c d → outWindow d ≡ outWindow c
 out-alike same = refl
 out-alike (exchanged g (sent h e)) = refl
+out-alike (exchanged g (portioned h e)) = refl
 out-alike (exchanged g (framed e f)) = refl
 
 job-alike : {k j over : ℕ} {t : Table} {c d : Call} → Alike k j over t c d → jobWindow d ≡ jobWindow c
 job-alike same = refl
 job-alike (exchanged g (sent h e)) = refl
+job-alike (exchanged g (portioned h e)) = refl
 job-alike (exchanged g (framed e f)) = refl
 
 signal-alike : {k j over : ℕ} {t : Table} {c d : Call} → Alike k j over t c d → (xs : List ℕ) → signalIn d xs ≡ signalIn c xs
 signal-alike same xs = refl
 signal-alike (exchanged g (sent h e)) xs = refl
+signal-alike (exchanged g (portioned h e)) xs = refl
 signal-alike (exchanged g (framed e f)) xs = refl
 
 apart-alike : (k j over : ℕ) (s : EdgeState) (es fs : List Asked) → AlikeEntries k j over s es fs → BuffersApart es → BuffersApart fs
@@ -92,47 +95,50 @@ setting-fits : (n : ℕ) → SettingFits (settingOf n)
 unfolding settingOf
 setting-fits n = if-cases SettingFits (ltb 65535 n) (λ _. tt) (λ e. let h = ltb-false 65535 n e in omega arith)
 
-pub entry-fits : (e : Entry) → Fits (callOf e)
-entry-fits (registerSpsm number) = tt
-entry-fits (spsm slot) = tt
-entry-fits (mtu slot) = tt
-entry-fits (mps slot) = tt
-entry-fits (peerMtu slot) = tt
-entry-fits (peerMps slot) = tt
-entry-fits attention = tt
-entry-fits (sendConnParamUpdateReq w link min max latency timeout) = tt
-entry-fits (sendConnParamUpdateRes w link result) = tt
-entry-fits (nextPending link up) = tt
-entry-fits (acceptPending w slot ourMtu ourMps kind value credits) = setting-fits credits
-entry-fits (rejectPending w slot result) = tt
-entry-fits (rejectAllPending w link) = tt
-entry-fits (dropPending slot) = tt
-entry-fits (create w link number ourMtu ourMps kind value credits) = setting-fits credits
-entry-fits (opened slot link up) = tt
-entry-fits (giveUp slot) = tt
-entry-fits (incRef slot) = tt
-entry-fits (decRef slot) = tt
-entry-fits (disconnect slot) = tt
-entry-fits (disconnectByCid cid) = tt
-entry-fits (disconnected link) = tt
-entry-fits (nextDisconnect w) = tt
-entry-fits (signal w link listening central pdu) = tt
-entry-fits (dispatch link cid payload) = tt
-entry-fits (send w slot sdu) = tt
-entry-fits (receive w v slot) = tt
-entry-fits (own w octets) = tt
+pub entry-fits : (e : Entry) → InOctets e → Fits (callOf e)
+entry-fits (registerSpsm number) h = tt
+entry-fits (spsm slot) h = tt
+entry-fits (mtu slot) h = tt
+entry-fits (mps slot) h = tt
+entry-fits (peerMtu slot) h = tt
+entry-fits (peerMps slot) h = tt
+entry-fits attention h = tt
+entry-fits (sendConnParamUpdateReq w link min max latency timeout) h = tt
+entry-fits (sendConnParamUpdateRes w link result) h = tt
+entry-fits (nextPending link up) h = tt
+entry-fits (acceptPending w slot ourMtu ourMps kind value credits) h = setting-fits credits
+entry-fits (rejectPending w slot result) h = tt
+entry-fits (rejectAllPending w link) h = tt
+entry-fits (dropPending slot) h = tt
+entry-fits (create w link number ourMtu ourMps kind value credits) h = setting-fits credits
+entry-fits (opened slot link up) h = tt
+entry-fits (giveUp slot) h = tt
+entry-fits (incRef slot) h = tt
+entry-fits (decRef slot) h = tt
+entry-fits (disconnect slot) h = tt
+entry-fits (disconnectByCid cid) h = tt
+entry-fits (disconnected link) h = tt
+entry-fits (nextDisconnect w) h = tt
+entry-fits (signal w link listening central pdu) h = h
+entry-fits (dispatch link cid payload) h = tt
+entry-fits (send w slot sdu) h = tt
+entry-fits (startJob w slot length) h = tt
+entry-fits (givePortion w slot octets) h = tt
+entry-fits (cancelJob slot) h = tt
+entry-fits (receive w v slot) h = tt
+entry-fits (own w octets) h = tt
 
 -- ---- no entry of a run returns 1 or 2
 
-never : (s : State) → Reached s → Sized (s .table) → (es : List Asked) → BuffersApart es → Never1Nor2 (told (spelled s) es)
+never : (s : State) → Reached s → Sized (s .table) → (es : List Asked) → BuffersApart es → AllInOctets es → Never1Nor2 (told (spelled s) es)
 unfolding told
-never s r w [] h = tt
-never s r w (a ∷ es) h =
+never s r w [] h o = tt
+never s r w (a ∷ es) h o =
     let c = callIn a in
-    let p = never-1-nor-2 r c (entry-fits (a .entry)) in
+    let p = never-1-nor-2 r c (entry-fits (a .entry) (o .0)) in
     let e : edgeOf (spelled s) a .number ≡ answerNumber (outcome s c .answer) = number-is s w a in (
       ((λ f. p .0 (sym e ∙ f)), (λ f. p .1 (sym e ∙ f))),
-      subst (λ (x : EdgeState). Never1Nor2 (told x es)) (sym (entered-spelled s w a (h .0))) (never (after s c) (next c r (entry-fits (a .entry))) (after-sized s c w) es (h .1)),
+      subst (λ (x : EdgeState). Never1Nor2 (told x es)) (sym (entered-spelled s w a (h .0))) (never (after s c) (next c r (entry-fits (a .entry) (o .0))) (after-sized s c w) es (h .1) (o .1)),
     )
 
 -- ---- as far as any entry
@@ -175,6 +181,6 @@ isolation-at-entries k j n d m table₁ table₂ answer₁ answer₂ room₁ roo
           ∙ ap₂ (λ (os : List Outcome) (hs : List Handed). tellings memory es os hs) (q .0) (q .1)
           ∙ tellings-alike memory k j 0 (spelled s₁) es fs e _ _
           ∙ sym (told-spelled k s₂ (b .sized) fs p memory refl);
-      never = never s₁ (start n d m room₁ memory (a .answer)) (a .sized) es apart;
+      never = λ o. never s₁ (start n d m room₁ memory (a .answer)) (a .sized) es apart o;
       leaves = λ i. states k j s₁ s₂ (a .sized) (b .sized) es fs apart p i (q .2 i);
     })

@@ -100,11 +100,13 @@ module _ (jobs memory room : List ℕ) (w : Window) (fits : w .from + w .size �
 
   send-long : (table answer out : List ℕ) (slot : ℕ) (sdu : List ℕ) → length (sendEdge table answer out slot sdu .out) ≡ length out
   unfolding onTable lifted endOf written
-  send-long table answer out slot sdu = length-sets out 0 (fills itself sdu [] (Frames.send (read table .table) slot (length sdu) (length out) .out))
+  send-long table answer out slot sdu =
+      let o = Frames.send (read table .table) slot (length sdu) (length out) in
+      length-sets out (o .at) (fills itself sdu [] (o .out))
 
   send-quiet : (table answer out : List ℕ) (slot : ℕ) (sdu : List ℕ) → sendEdge table answer out slot sdu .job ≡ []
   unfolding onTable lifted endOf
-  send-quiet table answer out slot sdu = none-written sdu [] (Frames.send (read table .table) slot (length sdu) (length out) .job)
+  send-quiet table answer out slot sdu = none-written sdu [] 0 (Frames.send (read table .table) slot (length sdu) (length out) .job)
 
   keeps : (from at : ℕ) (answer : List ℕ) (l : Lent) → Within l → Within (jobCall jobs from at answer l)
   keeps from at answer l h =

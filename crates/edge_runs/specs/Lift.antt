@@ -31,7 +31,7 @@ use Rattle.edge_layout.specs.Back.{Sized, read-back}
 use Rattle.edge_answer.specs.Answers.{answerOctets}
 use Rattle.edge.specs.Edge.{Edge, edge, onTable, lifted, alone, flag}
 use Rattle.edge_sized.specs.Sized.{after-sized}
-use Rattle.edge_runs.specs.Entries.{Entry, registerSpsm, spsm, mtu, mps, peerMtu, peerMps, attention, sendConnParamUpdateReq, sendConnParamUpdateRes, nextPending, acceptPending, rejectPending, rejectAllPending, dropPending, create, opened, giveUp, incRef, decRef, disconnect, disconnectByCid, disconnected, nextDisconnect, signal, dispatch, send, receive, own, leaves, callOf}
+use Rattle.edge_runs.specs.Entries.{Entry, registerSpsm, spsm, mtu, mps, peerMtu, peerMps, attention, sendConnParamUpdateReq, sendConnParamUpdateRes, nextPending, acceptPending, rejectPending, rejectAllPending, dropPending, create, opened, giveUp, incRef, decRef, disconnect, disconnectByCid, disconnected, nextDisconnect, signal, dispatch, send, startJob, givePortion, cancelJob, receive, own, leaves, callOf}
 use Rattle.edge_runs.specs.Run.{EdgeState, Asked, callIn, edgeOf, entered, Apart, BuffersApart, entries}
 
 -- A state of the definition's runs, its table spelled.
@@ -52,7 +52,7 @@ module _ {t : Table} (w : Sized t) (a : List ℕ) where
   -- a call that is lent nothing else
   alone-end : (o : Outcome) → Roomless t o → alone (servedOf o) ≡ endOf t [] [] [] [] o
   unfolding endOf written
-  alone-end o p = rw (p .room [] [], sets-out {A = ℕ} [] 0 (fills itself [] [] (o .out)) (omega arith), sets-out {A = ℕ} [] 0 (fills itself [] [] (o .job)) (omega arith)) refl
+  alone-end o p = rw (p .room [] [], sets-out {A = ℕ} [] (o .at) (fills itself [] [] (o .out)) (omega arith), sets-out {A = ℕ} [] 0 (fills itself [] [] (o .job)) (omega arith)) refl
 
   on-alone : (r : Request) → roomlessRequest r ≡ true → onTable (spell t) a (λ x. alone (servedOf (serve x r 0 0 0))) ≡ lifted true (spell t) a (endOf t [] [] [] [] (serve t r 0 0 0))
   unfolding decide bare
@@ -87,6 +87,9 @@ module _ (s : State) (w : Sized (s .table)) (a : List ℕ) where
   spelled-edge (signal v link listening central pdu) = on-spelled w a _
   spelled-edge (dispatch link cid payload) = on-spelled w a _
   spelled-edge (send v slot sdu) = on-spelled w a _
+  spelled-edge (startJob v slot length) = on-spelled w a _
+  spelled-edge (givePortion v slot octets) = on-spelled w a _
+  spelled-edge (cancelJob slot) = on-spelled w a _
   spelled-edge (receive v u slot) = on-spelled w a _
   spelled-edge (own v octets) = on-spelled w a _
 

@@ -40,9 +40,9 @@ by-apart (Stop r) es h = tt
 by-apart Pass es h = h
 
 -- a buffer of no octets stays so
-pub none-written : (js room : List ℕ) (fs : List Fill) → written itself js room fs [] ≡ []
+pub none-written : (js room : List ℕ) (at : ℕ) (fs : List Fill) → written itself js room at fs [] ≡ []
 unfolding written
-none-written js room fs = sets-out {A = ℕ} [] 0 (fills itself js room fs) (omega arith)
+none-written js room at fs = sets-out {A = ℕ} [] at (fills itself js room fs) (omega arith)
 
 -- an answer keeps its length
 pub answer-long : (table answer : List ℕ) (call : Table → End) → length (onTable table answer call .answer) ≡ length answer

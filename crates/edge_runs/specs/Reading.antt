@@ -24,7 +24,7 @@ use Rattle.definition.specs.Closing.{decRef, disconnecting, disconnect, disconn
 use Rattle.definition.specs.Signals.{onConnReq, handled, checked, signalled}
 use Rattle.definition.specs.Frames.{joined, dispatch, laterFrames, frames, planned, send, grantIn, taken, receive}
 use Rattle.definition.specs.Asking.{make, registerSpsm}
-use Rattle.definition.specs.Calls.{Call, frame, sends, down, plain, bare, serve, decide}
+use Rattle.definition.specs.Calls.{Call, frame, sends, portions, down, plain, bare, serve, decide}
 use Rattle.definition.specs.Calls as Calls
 use Rattle.definition.specs.Run.{State, after, run, outcomes}
 use Rattle.definition.specs.Example.{start}
@@ -38,7 +38,7 @@ use Rattle.edge_runs.specs.Start.{Start, starting}
 use Rattle.edge_runs.specs.Telling.{tellings, told-spelled}
 use Rattle.edge_runs.specs.Statement.{IsolatedAt, Never1Nor2, Undistinguished, Demand3AtEntries}
 use Rattle.edge_runs.specs.Isolation.{state-back, apart-take}
-use Rattle.edge_runs.specs.Example.{channel, apart, made-well, begun, both-alike}
+use Rattle.edge_runs.specs.Example.{channel, apart, octets, made-well, begun, both-alike}
 
 -- ---- what the entries of a run leave, one after the other, without the words of `Told`
 
@@ -60,7 +60,7 @@ answer a x = x .answer
 abbrev table : Asked → Edge → List ℕ
 table a x = x .table
 
--- what was written to the signal buffer, of every entry but a send
+-- what was written to the signal buffer, of every entry but one that writes frames
 abbrev signal : Asked → Edge → List ℕ
 signal a x = choose (isSend (callIn a)) [] (take (countIn (x .answer)) (x .out))
 
@@ -68,6 +68,7 @@ signal-told : (c : Call) (xs : List ℕ) → signalIn c xs ≡ choose (isSend c)
 unfolding choose
 signal-told (frame link cid payload) xs = refl
 signal-told (sends slot sdu out) xs = refl
+signal-told (portions slot octets out) xs = refl
 signal-told (down link) xs = refl
 signal-told (plain r out job) xs = refl
 
@@ -95,7 +96,7 @@ module _ (demand : Demand3AtEntries) (id a b c x y e a′ b′ c′ x′ y′ e�
 
   both : Undistinguished 1 0 (begun 5) (begun 6) es fs
   both =
-      demand 1 0 2 1 29 (replicate 672 5) (replicate 672 6) [] [] (replicate 92 5) (replicate 92 6) (replicate 30 9) es fs (made-well 5) (made-well 6) (apart id a b c x y e)
+      demand 1 0 2 1 29 (replicate 800 5) (replicate 800 6) [] [] (replicate 92 5) (replicate 92 6) (replicate 30 9) es fs (made-well 5) (made-well 6) (apart id a b c x y e)
       (both-alike id a b c x y e a′ b′ c′ x′ y′ e′)
 
   -- what the entries leave is equal, by any word for it that what is told bears out; and it is what the definition's run says of the first run
@@ -103,7 +104,7 @@ module _ (demand : Demand3AtEntries) (id a b c x y e a′ b′ c′ x′ y′ e�
   equal g f h = sym (each-told g f h (begun 5) es) ∙ ap (map g) (both .tells) ∙ each-told g f h (begun 6) fs
 
   begins : Start 2 1 29 (replicate 92 5) (replicate 30 9) (begun 5)
-  begins = starting (replicate 672 5) [] (replicate 92 5) 2 1 29 (replicate 30 9) (made-well 5)
+  begins = starting (replicate 800 5) [] (replicate 92 5) 2 1 29 (replicate 30 9) (made-well 5)
 
   second : {A : Type 0} (g : Told → A) (f : Asked → Edge → A) → ((a : Asked) (x : Edge) → g (toldBy a x) ≡ f a x)
       → each f (begun 6) fs ≡ map g (tellings (replicate 30 9) es (outcomes start (map callIn es)) (handed 1 start (map callIn es)))
@@ -124,7 +125,7 @@ module _ (demand : Demand3AtEntries) (id a b c x y e a′ b′ c′ x′ y′ e�
         ∷ [] ∷ [] ∷ []
         ∷ (8 ∷ 0 ∷ 5 ∷ 0 ∷ 0x06 ∷ 2 ∷ 4 ∷ 0 ∷ 0x50 ∷ 0 ∷ 0x40 ∷ 0 ∷ [])
         ∷ [] ∷ [] ∷ []
-    never : (i : ℕ) → (getD (each number (begun 5) es) i 0 ≡ 1 → ⊥) × (getD (each number (begun 5) es) i 0 ≡ 2 → ⊥)
+    never : id < 256 → (i : ℕ) → (getD (each number (begun 5) es) i 0 ≡ 1 → ⊥) × (getD (each number (begun 5) es) i 0 ≡ 2 → ⊥)
 
   heard : Heard
   unfolding tellings outcomes handed size sizes answerOctets settingOf policyBy encodeOf after decide serve registerSpsm signalled checked headersOf whole handled onConnReq leCreditConnReq nextPending acceptPending dispatch joined joinStep firstStep reached assembled receive taken grantIn grantOf due send planned planSend frameCount ceil framesLength frames laterFrames disconnect disconnecting nextDisconnect disconnected decRef Calls.jobs bare verdict wellFormed slotFits every first only choose make parts moves move fill fills written
@@ -134,7 +135,7 @@ module _ (demand : Demand3AtEntries) (id a b c x y e a′ b′ c′ x′ y′ e�
         answers = equal (λ x. x .answer) answer (λ a x. refl);
         tables = equal (λ x. x .table) table (λ a x. refl);
         signals = second (λ x. x .signal) signal (λ a x. signal-told (callIn a) _);
-        never = never-at (begun 5) es (both .never);
+        never = λ h. never-at (begun 5) es (both .never (octets id a b c x y e h));
       }
 
   -- what stands after i entries: its marks are those of the definition's run, and so is the first run

@@ -41,7 +41,7 @@ use Rattle.rules_jobs.specs.Sending.{sends-frames, exact-rejoining, exact-takin
 use Rattle.edge_asking.specs.Asking.{makeEdge}
 use Rattle.edge_sized.specs.Sized.{after-sized}
 use Rattle.edge_runs.specs.Entries as Entries
-use Rattle.edge_runs.specs.Run.{EdgeState, stateOf, Asked, callIn, edgeOf, entered, Apart, started}
+use Rattle.edge_runs.specs.Run.{EdgeState, stateOf, Asked, callIn, edgeOf, entered, Apart, InOctets, started}
 use Rattle.edge_runs.specs.Lift.{spelled, number-is, out-is, job-is, entered-spelled}
 use Rattle.edge_runs.specs.Start.{starting}
 use Rattle.edge_runs.specs.Telling.{over-take, out-written, job-written}
@@ -51,7 +51,7 @@ use Rattle.edge_runs.specs.Isolation.{state-back, entry-fits}
 
 pub data ReachedAt : EdgeState → Type 0 where
   start : (table answer room : List ℕ) (n d m : ℕ) (memory : List ℕ) → makeEdge table answer room n d m .number ≡ 0 → ReachedAt (started table answer room n d m memory)
-  next : {s : EdgeState} (a : Asked) → ReachedAt s → Apart (outWindow (callIn a)) (jobWindow (callIn a)) → ReachedAt (entered s a)
+  next : {s : EdgeState} (a : Asked) → ReachedAt s → Apart (outWindow (callIn a)) (jobWindow (callIn a)) → InOctets (a .entry) → ReachedAt (entered s a)
 
 record Spells (s : EdgeState) : Type 0 where
   state : State
@@ -63,13 +63,13 @@ spells : {s : EdgeState} → ReachedAt s → Spells s
 spells (start table answer room n d m memory h) =
     let a = starting table answer room n d m memory h in
     record { state = made n d m room memory; is = a .is; sized = a .sized; reached = Run.start n d m room memory (a .answer) }
-spells (next a r apart) =
+spells (next a r apart o) =
     let p = spells r in
     record {
       state = after (p .state) (callIn a);
       is = ap (λ (x : EdgeState). entered x a) (p .is) ∙ entered-spelled (p .state) (p .sized) a apart;
       sized = after-sized (p .state) (callIn a) (p .sized);
-      reached = Run.next (callIn a) (p .reached) (entry-fits (a .entry));
+      reached = Run.next (callIn a) (p .reached) (entry-fits (a .entry) o);
     }
 
 said : {s : EdgeState} (p : Spells s) → stateOf s ≡ p .state
@@ -86,9 +86,9 @@ pub sized-at : {s : EdgeState} → ReachedAt s → Sized (stateOf s .table)
 sized-at r = let p = spells r in subst (λ (x : State). Sized (x .table)) (sym (said p)) (p .sized)
 
 -- an entry makes the step of its call
-pub entered-state : {s : EdgeState} → ReachedAt s → (a : Asked) → Apart (outWindow (callIn a)) (jobWindow (callIn a)) → stateOf (entered s a) ≡ after (stateOf s) (callIn a)
+pub entered-state : {s : EdgeState} → ReachedAt s → (a : Asked) → Apart (outWindow (callIn a)) (jobWindow (callIn a)) → InOctets (a .entry) → stateOf (entered s a) ≡ after (stateOf s) (callIn a)
 unfolding spells
-entered-state r a apart = let p = spells r in said (spells (next a r apart)) ∙ ap (λ (x : State). after x (callIn a)) (sym (said p))
+entered-state r a apart o = let p = spells r in said (spells (next a r apart o)) ∙ ap (λ (x : State). after x (callIn a)) (sym (said p))
 
 -- ---- the table that the octets spell is never one that 1 refuses; identifiers are 1 to 255; credits held plus received never pass 65,535
 
@@ -118,16 +118,16 @@ free-fresh-at r = free-fresh (reached r)
 
 -- ---- a slot that is given to a new connection was as it was made, and starts empty
 
-module _ {s : EdgeState} (r : ReachedAt s) (a : Asked) (apart : Apart (outWindow (callIn a)) (jobWindow (callIn a))) (i : ℕ) (h : i < stateOf s .table .n) where
+module _ {s : EdgeState} (r : ReachedAt s) (a : Asked) (apart : Apart (outWindow (callIn a)) (jobWindow (callIn a))) (o : InOctets (a .entry)) (i : ℕ) (h : i < stateOf s .table .n) where
   pub new-connection-at : isDisconnected (slotAt (stateOf s .table) i .state) ≡ true → isDisconnected (slotAt (stateOf (entered s a) .table) i .state) ≡ false
       → (slotAt (stateOf s .table) i ≡ fresh 0) × Empty (stateOf (entered s a)) i
   new-connection-at e =
-      subst (λ (x : State). isDisconnected (slotAt (x .table) i .state) ≡ false → (slotAt (stateOf s .table) i ≡ fresh 0) × Empty x i) (sym (entered-state r a apart))
-      (new-connection (reached r) (callIn a) (entry-fits (a .entry)) i h e)
+      subst (λ (x : State). isDisconnected (slotAt (x .table) i .state) ≡ false → (slotAt (stateOf s .table) i ≡ fresh 0) × Empty x i) (sym (entered-state r a apart o))
+      (new-connection (reached r) (callIn a) (entry-fits (a .entry) o) i h e)
 
   pub connection-begins-at : begun (slotAt (stateOf s .table) i .state) ≡ false → begun (slotAt (stateOf (entered s a) .table) i .state) ≡ true → Empty (stateOf (entered s a)) i
   connection-begins-at e =
-      subst (λ (x : State). begun (slotAt (x .table) i .state) ≡ true → Empty x i) (sym (entered-state r a apart)) (connection-begins (reached r) (callIn a) (entry-fits (a .entry)) i h e)
+      subst (λ (x : State). begun (slotAt (x .table) i .state) ≡ true → Empty x i) (sym (entered-state r a apart o)) (connection-begins (reached r) (callIn a) (entry-fits (a .entry) o) i h e)
 
 -- ---- exact rejoining, the sending side: an l2cap_send that returns 0 writes the frames of its SDU, for the peer's MPS, to the start of its output
 
@@ -136,15 +136,16 @@ record Answered (o : Outcome) : Type 0 where
   link : ℕ
   count : ℕ
   is : o .answer ≡ Frames link count
+  first : o .at ≡ 0
 
 plans : (t : Table) (j : ℕ) (x : Slot) (l : ℕ) (p : Plan) → answerNumber (planned t j x l p .answer) ≡ 0 → Answered (planned t j x l p)
 unfolding planned
 plans t j x l (Plan.Refused r) e = absurd (eqb-false _ 0 (refused-not-0 r) e)
-plans t j x l (Plan.Frames n octets) e = record { link = x .link; count = n; is = refl }
+plans t j x l (Plan.Frames n octets) e = record { link = x .link; count = n; is = refl; first = refl }
 
 send-answered : (s : State) (j : ℕ) (sdu : List ℕ) (w : Window) → answerNumber (outcome s (sends j sdu w) .answer) ≡ 0 → Answered (outcome s (sends j sdu w))
 unfolding decide bare jobs send
-send-answered s j sdu w = gate-cases P (s .table) _ _ _ _ (λ r. refused r) (λ _. if-cases P _ (λ _. refused _) (λ _. plans (s .table) j (slotAt (s .table) j) _ _))
+send-answered s j sdu w = gate-cases P (s .table) _ _ _ _ (λ r. refused r) (λ _. if-cases P _ (λ _. refused _) (λ _. if-cases P _ (λ _. refused _) (λ _. plans (s .table) j (slotAt (s .table) j) _ _)))
   where
     P : Outcome → Type 0
     P o = answerNumber (o .answer) ≡ 0 → Answered o
@@ -162,7 +163,7 @@ sending w slot sdu answer = record { entry = Entries.send w slot sdu; answer = a
 number-at : {s : EdgeState} → ReachedAt s → (a : Asked) → edgeOf s a .number ≡ answerNumber (outcome (stateOf s) (callIn a) .answer)
 number-at {s} r a = ap (λ (x : EdgeState). edgeOf x a .number) (spelling r) ∙ number-is (stateOf s) (sized-at r) a
 
-out-at : {s : EdgeState} → ReachedAt s → (a : Asked) → edgeOf s a .out ≡ sets (lent (outWindow (callIn a)) (s .memory)) 0 (fills itself (jobs (stateOf s .table) (callIn a)) (s .room) (outcome (stateOf s) (callIn a) .out))
+out-at : {s : EdgeState} → ReachedAt s → (a : Asked) → edgeOf s a .out ≡ sets (lent (outWindow (callIn a)) (s .memory)) (outcome (stateOf s) (callIn a) .at) (fills itself (jobs (stateOf s .table) (callIn a)) (s .room) (outcome (stateOf s) (callIn a) .out))
 out-at {s} r a = ap (λ (x : EdgeState). edgeOf x a .out) (spelling r) ∙ out-is (stateOf s) (sized-at r) a ∙ out-written (stateOf s) (callIn a)
 
 job-at : {s : EdgeState} → ReachedAt s → (a : Asked) → edgeOf s a .job ≡ sets (lent (jobWindow (callIn a)) (s .memory)) 0 (fills itself (jobs (stateOf s .table) (callIn a)) (s .room) (outcome (stateOf s) (callIn a) .job))
@@ -173,7 +174,7 @@ pub send-writes : {s : EdgeState} → ReachedAt s → (w : Window) (j : ℕ) (sd
 unfolding jobs
 send-writes {s} r w j sdu answer e =
     let a = send-answered (stateOf s) j sdu w (sym (number-at r (sending w j sdu answer)) ∙ e) in
-    out-at r (sending w j sdu answer) ∙ ap (sets (lent w (s .memory)) 0) (sends-frames (stateOf s) j sdu w (a .link) (a .count) (a .is) .octets)
+    out-at r (sending w j sdu answer) ∙ ap (λ (k : ℕ). sets (lent w (s .memory)) k (fills itself sdu (s .room) (outcome (stateOf s) (sends j sdu w) .out))) (a .first) ∙ ap (sets (lent w (s .memory)) 0) (sends-frames (stateOf s) j sdu w (a .link) (a .count) (a .is) .octets)
 
 -- ---- the receiving side
 
@@ -184,18 +185,18 @@ framing link i payload answer = record { entry = Entries.dispatch link (cidOf i)
 -- of the room unchanged.
 pub data ArrivesAt (i link : ℕ) : List (List ℕ) → EdgeState → EdgeState → Type 0 where
   all : {s : EdgeState} → ArrivesAt i link [] s s
-  between : {ps : List (List ℕ)} {s s′ : EdgeState} (a : Asked) → Apart (outWindow (callIn a)) (jobWindow (callIn a)) → Unchanged (stateOf s) (stateOf (entered s a)) i → ArrivesAt i link ps (entered s a) s′
+  between : {ps : List (List ℕ)} {s s′ : EdgeState} (a : Asked) → Apart (outWindow (callIn a)) (jobWindow (callIn a)) → InOctets (a .entry) → Unchanged (stateOf s) (stateOf (entered s a)) i → ArrivesAt i link ps (entered s a) s′
       → ArrivesAt i link ps s s′
   comes : {ps : List (List ℕ)} {s s′ : EdgeState} (p answer : List ℕ) → ArrivesAt i link ps (entered s (framing link i p answer)) s′ → ArrivesAt i link (p ∷ ps) s s′
 
 arrives : {i link : ℕ} {ps : List (List ℕ)} {s s′ : EdgeState} → ArrivesAt i link ps s s′ → ReachedAt s → Arrives i link ps (stateOf s) (stateOf s′)
 arrives all r = Rejoin.all
-arrives {i} {link} {ps} {s} {s′} (between a h u v) r =
-    let e = entered-state r a h in
-    Rejoin.between (callIn a) (entry-fits (a .entry)) (subst (λ (x : State). Unchanged (stateOf s) x i) e u) (subst (λ (x : State). Arrives i link ps x (stateOf s′)) e (arrives v (next a r h)))
+arrives {i} {link} {ps} {s} {s′} (between a h o u v) r =
+    let e = entered-state r a h o in
+    Rejoin.between (callIn a) (entry-fits (a .entry) o) (subst (λ (x : State). Unchanged (stateOf s) x i) e u) (subst (λ (x : State). Arrives i link ps x (stateOf s′)) e (arrives v (next a r h o)))
 arrives {i} {link} {s′ = s′} (comes {ps = ps} p answer v) r =
     let h : Apart (outWindow (callIn (framing link i p answer))) (jobWindow (callIn (framing link i p answer))) = inl (omega arith) in
-    Rejoin.comes p (subst (λ (x : State). Arrives i link ps x (stateOf s′)) (entered-state r (framing link i p answer) h) (arrives v (next (framing link i p answer) r h)))
+    Rejoin.comes p (subst (λ (x : State). Arrives i link ps x (stateOf s′)) (entered-state r (framing link i p answer) h tt) (arrives v (next (framing link i p answer) r h tt)))
 
 -- An l2cap_send returned 0, in any run. The receiver, in a run of its own, is Connected and idle with a credit for each frame, a free queue place and MTU ≥ L;
 -- the frames' payloads come in order on their own link. Then the job waits there, whole, behind those that waited before, which are unchanged.

@@ -7,13 +7,14 @@ use lib.ListN.{take}
 use lib.Seq.{sets}
 use Rattle.lists.specs.Choose.{choose}
 use Rattle.octets.specs.Octets.{u16At}
-use Rattle.definition.specs.Calls.{Window, Call, frame, sends, down, plain}
+use Rattle.definition.specs.Calls.{Window, Call, frame, sends, portions, down, plain}
 use Rattle.definition.specs.Run.{State, outWindow, jobWindow}
 use Rattle.definition.specs.Roomless.{roomless}
 use Rattle.edge_layout.specs.Layout.{read}
 use Rattle.edge.specs.Edge.{Edge}
 use Rattle.edge_asking.specs.Asking.{makeEdge}
-use Rattle.edge_runs.specs.Entries.{Entry, leaves, callOf}
+use Rattle.rules.specs.Run.{Octets}
+use Rattle.edge_runs.specs.Entries.{Entry, registerSpsm, spsm, mtu, mps, peerMtu, peerMps, attention, sendConnParamUpdateReq, sendConnParamUpdateRes, nextPending, acceptPending, rejectPending, rejectAllPending, dropPending, create, opened, giveUp, incRef, decRef, disconnect, disconnectByCid, disconnected, nextDisconnect, signal, dispatch, send, startJob, givePortion, cancelJob, receive, own, leaves, callOf}
 
 -- What stands between two calls.
 pub record EdgeState : Type 0 where
@@ -56,6 +57,44 @@ abbrev pub BuffersApart : List Asked → Type 0
 BuffersApart [] = Unit {0}
 BuffersApart (a ∷ es) = Apart (outWindow (callIn a)) (jobWindow (callIn a)) × BuffersApart es
 
+-- A PDU that an entry is given is octets, as C's are. (Of all else that is given no such word is needed.)
+abbrev pub InOctets : Entry → Type 0
+InOctets (registerSpsm number) = Unit {0}
+InOctets (spsm slot) = Unit {0}
+InOctets (mtu slot) = Unit {0}
+InOctets (mps slot) = Unit {0}
+InOctets (peerMtu slot) = Unit {0}
+InOctets (peerMps slot) = Unit {0}
+InOctets attention = Unit {0}
+InOctets (sendConnParamUpdateReq w link min max latency timeout) = Unit {0}
+InOctets (sendConnParamUpdateRes w link result) = Unit {0}
+InOctets (nextPending link up) = Unit {0}
+InOctets (acceptPending w slot ourMtu ourMps kind value credits) = Unit {0}
+InOctets (rejectPending w slot result) = Unit {0}
+InOctets (rejectAllPending w link) = Unit {0}
+InOctets (dropPending slot) = Unit {0}
+InOctets (create w link number ourMtu ourMps kind value credits) = Unit {0}
+InOctets (opened slot link up) = Unit {0}
+InOctets (giveUp slot) = Unit {0}
+InOctets (incRef slot) = Unit {0}
+InOctets (decRef slot) = Unit {0}
+InOctets (disconnect slot) = Unit {0}
+InOctets (disconnectByCid cid) = Unit {0}
+InOctets (disconnected link) = Unit {0}
+InOctets (nextDisconnect w) = Unit {0}
+InOctets (signal w link listening central pdu) = Octets pdu
+InOctets (dispatch link cid payload) = Unit {0}
+InOctets (send w slot sdu) = Unit {0}
+InOctets (startJob w slot length) = Unit {0}
+InOctets (givePortion w slot octets) = Unit {0}
+InOctets (cancelJob slot) = Unit {0}
+InOctets (receive w v slot) = Unit {0}
+InOctets (own w octets) = Unit {0}
+
+abbrev pub AllInOctets : List Asked → Type 0
+AllInOctets [] = Unit {0}
+AllInOctets (a ∷ es) = InOctets (a .entry) × AllInOctets es
+
 -- ---- a run
 
 unfoldable pub entries : EdgeState → List Asked → EdgeState
@@ -78,10 +117,11 @@ pub record Told : Type 0 where
 abbrev pub countIn : List ℕ → ℕ
 countIn answer = u16At answer 2 + 65536 * u16At answer 4
 
--- What a send writes are frames, and no signal.
+-- What a send and a portion write are frames, and no signal.
 abbrev pub signalIn : Call → List ℕ → List ℕ
 signalIn (frame link cid payload) xs = xs
 signalIn (sends s sdu out) xs = []
+signalIn (portions s octets out) xs = []
 signalIn (down link) xs = xs
 signalIn (plain r out job) xs = xs
 

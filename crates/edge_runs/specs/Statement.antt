@@ -1,7 +1,7 @@
 -- DEMAND 3 AT THE ENTRIES, the statement: over octets, as a caller in C sees it. Two callers make a table each, by an l2cap_make that returns 0, and then
 -- call the same entries in the same order. They may differ in the job octets that ONE link carries in ONE of its lives, and in nothing else. Then
 -- every entry returns the same number, and leaves the same table octets, answer octets and signal octets; room and memory differ only where that link's
--- own job octets or frames stand; and no entry returns 1 or 2. Entries.antt says what an entry leaves, Run.antt what a run of them is. Proved in
+-- own job octets or frames stand; and no entry returns 1 or 2, where the PDUs are octets. Entries.antt says what an entry leaves, Run.antt what a run of them is. Proved in
 -- Isolation.antt. The words for links, lives and marks are those of demand 3 (crate isolation, Statement.antt).
 use mathlib.Core.Path.{_≡_}
 use mathlib.Core.Bool.{_&&_}
@@ -14,7 +14,7 @@ use Rattle.definition.specs.Calls.{Call}
 use Rattle.isolation.specs.Statement.{isDown, Alike, Marks, marksOf, Isolated}
 use Rattle.edge.specs.Edge.{Edge}
 use Rattle.edge_asking.specs.Asking.{makeEdge}
-use Rattle.edge_runs.specs.Run.{EdgeState, stateOf, Asked, callIn, edgeOf, entered, BuffersApart, entries, started, Told, told}
+use Rattle.edge_runs.specs.Run.{EdgeState, stateOf, Asked, callIn, edgeOf, entered, BuffersApart, AllInOctets, entries, started, Told, told}
 
 -- ---- 1. What may differ.
 
@@ -23,7 +23,7 @@ abbrev pub overAt : (k over : ℕ) → Call → Edge → ℕ
 overAt k over c x = choose (isDown k c && eqb (x .number) 0) (suc over) over
 
 -- Two lists of entries, alike one by one. s are the octets in which the first list starts. Two entries are alike when they are the same call, or in life j the
--- same call but for link k's job octets (another SDU on its slot, another payload of its frame, as long, and with the same length octets where no assembly
+-- same call but for link k's job octets (another SDU or other octets of a portion on its slot, another payload of its frame, as long, and with the same length octets where no assembly
 -- is open); and their answer buffers start with the same octets. Whose a slot is, is read from the table's octets.
 abbrev pub AlikeEntries : (k j over : ℕ) → EdgeState → List Asked → List Asked → Type 0
 AlikeEntries k j over s [] [] = Unit {0}
@@ -49,7 +49,7 @@ Never1Nor2 (x ∷ xs) = ((x .number ≡ 1 → ⊥) × (x .number ≡ 2 → ⊥))
 -- s and t: what the two makings leave
 pub record Undistinguished (k j : ℕ) (s t : EdgeState) (es fs : List Asked) : Type 0 where
   pub tells : told s es ≡ told t fs
-  pub never : Never1Nor2 (told s es)
+  pub never : AllInOctets es → Never1Nor2 (told s es)
   -- after every number i of entries
   pub leaves : (i : ℕ) → IsolatedAt k j (marksOf k j (stateOf s) (map callIn (take i es))) (entries s (take i es)) (entries t (take i fs))
 

@@ -10,9 +10,9 @@ use lib.ListN.{length, take, drop, getD, length-take, length-drop}
 use lib.Seq.{sets, length-sets, take-nil}
 use Rattle.octets.specs.Sets.{sets-out, sets-append-right}
 use Rattle.channel.specs.declared.Served.{Served}
-use Rattle.definition.specs.Mem.{sizes, fills, written}
+use Rattle.definition.specs.Mem.{fills, written}
 use Rattle.definition.specs.Outcome.{Outcome}
-use Rattle.definition.specs.Calls.{Window, Call, frame, sends, down, plain, jobs}
+use Rattle.definition.specs.Calls.{Window, Call, frame, sends, portions, down, plain, jobs}
 use Rattle.definition.specs.Ending.{itself, servedOf, End, endOf}
 use Rattle.definition.specs.Numbers.{answerNumber}
 use Rattle.definition.specs.Run.{State, lent, outWindow, jobWindow, outcome, after, outcomes}
@@ -23,7 +23,7 @@ use Rattle.isolation.specs.Statement.{framesOut, Handed, handedBy, handed}
 use Rattle.lists.specs.Choose.{choose-false}
 use Rattle.isolation.specs.Words.{jobs-is}
 use Rattle.edge_sized.specs.Sized.{after-sized}
-use Rattle.edge_sized.specs.Said.{isSend, said-length}
+use Rattle.edge_sized.specs.Said.{isSend, said-length, said-first, said-told}
 use Rattle.edge_runs.specs.Run.{EdgeState, Asked, callIn, edgeOf, BuffersApart, Told, countIn, signalIn, toldBy, told}
 use Rattle.edge_runs.specs.Lift.{spelled, endIn, whole, number-is, answer-is, table-is, out-is, entered-spelled}
 
@@ -58,7 +58,7 @@ count-le a s =
 
 module _ (s : State) (c : Call) where
   -- what stands in the lent buffers, with the room that a run has
-  pub out-written : endIn s c .out ≡ sets (lent (outWindow c) (s .memory)) 0 (fills itself (jobs (s .table) c) (s .room) (outcome s c .out))
+  pub out-written : endIn s c .out ≡ sets (lent (outWindow c) (s .memory)) (outcome s c .at) (fills itself (jobs (s .table) c) (s .room) (outcome s c .out))
   unfolding endOf written
   out-written = ap (λ (e : End). e .out) (whole s c)
 
@@ -70,17 +70,25 @@ module _ (s : State) (c : Call) where
   said : (k : ℕ) → framesOut k (s .table) c ≡ false → handedBy k s c .out ≡ fills itself (jobs (s .table) c) (s .room) (outcome s c .out)
   said k e = choose-false _ _ _ e ∙ ap (λ (js : List ℕ). fills itself js (s .room) (outcome s c .out)) (jobs-is (s .table) c)
 
-  -- a call that is no send writes its signal, and no more
-  from-buffer : isSend c ≡ false → (n : ℕ) → n ≤ sizes (outcome s c .out) → take n (endIn s c .out) ≡ take n (take (length (lent (outWindow c) (s .memory))) (fills itself (jobs (s .table) c) (s .room) (outcome s c .out)))
+  -- a call that writes no frames writes its signal at the start of its buffer, and tells no more of it
+  from-buffer : isSend c ≡ false → (n : ℕ) → n ≤ outcome s c .octets → take n (endIn s c .out) ≡ take n (take (length (lent (outWindow c) (s .memory))) (fills itself (jobs (s .table) c) (s .room) (outcome s c .out)))
   from-buffer e n h =
-      let long = said-length (s .table) c e (length (jobs (s .table) c)) (length (s .room)) (length (lent (outWindow c) (s .memory))) (length (lent (jobWindow c) (s .memory))) (jobs (s .table) c) (s .room) in
-      ap (take n) out-written ∙ over-take n (lent (outWindow c) (s .memory)) (fills itself (jobs (s .table) c) (s .room) (outcome s c .out)) (omega (arith, long, h))
+      let xs : List ℕ = fills itself (jobs (s .table) c) (s .room) (outcome s c .out) in
+      let count = length (jobs (s .table) c) in
+      let out = length (lent (outWindow c) (s .memory)) in
+      let tray = length (lent (jobWindow c) (s .memory)) in
+      let long = said-length (s .table) c e count (length (s .room)) out tray (jobs (s .table) c) (s .room) in
+      let most = said-told (s .table) c e count (length (s .room)) out tray in
+      ap (take n) out-written
+      ∙ ap (λ (k : ℕ). take n (sets (lent (outWindow c) (s .memory)) k xs)) (said-first (s .table) c e count (length (s .room)) out tray)
+      ∙ over-take n (lent (outWindow c) (s .memory)) xs (omega (arith, long, most, h))
 
--- what demand 3 says is handed out, of a call that is no send, is its signal
+-- what demand 3 says is handed out, of a call that writes no frames, is its signal
 module _ (k : ℕ) (s : State) where
-  signal-is : (c : Call) (n : ℕ) → n ≤ sizes (outcome s c .out) → signalIn c (take n (endIn s c .out)) ≡ take n (take (length (lent (outWindow c) (s .memory))) (signalIn c (handedBy k s c .out)))
+  signal-is : (c : Call) (n : ℕ) → n ≤ outcome s c .octets → signalIn c (take n (endIn s c .out)) ≡ take n (take (length (lent (outWindow c) (s .memory))) (signalIn c (handedBy k s c .out)))
   signal-is (frame link cid payload) n h = from-buffer s (frame link cid payload) refl n h ∙ ap (λ (x : List ℕ). take n (take 0 x)) (sym (said s (frame link cid payload) k refl))
   signal-is (sends slot sdu out) n h = sym (ap (take n) (take-nil (length (lent out (s .memory)))) ∙ take-nil n)
+  signal-is (portions slot octets out) n h = sym (ap (take n) (take-nil (length (lent out (s .memory)))) ∙ take-nil n)
   signal-is (down link) n h = from-buffer s (down link) refl n h ∙ ap (λ (x : List ℕ). take n (take 0 x)) (sym (said s (down link) k refl))
   signal-is (plain r out tray) n h = from-buffer s (plain r out tray) refl n h ∙ ap (λ (x : List ℕ). take n (take (length (lent out (s .memory))) x)) (sym (said s (plain r out tray) k refl))
 
@@ -111,9 +119,9 @@ unfolding after
 after-length s c =
     let o = outcome s c in
     let js = jobs (s .table) c in
-    let x : List ℕ = written itself js (s .room) (o .job) (lent (jobWindow c) (s .memory)) in
+    let x : List ℕ = written itself js (s .room) 0 (o .job) (lent (jobWindow c) (s .memory)) in
     let m : List ℕ = sets (s .memory) (jobWindow c .from) x in
-    length-sets m (outWindow c .from) (written itself js (s .room) (o .out) (lent (outWindow c) m)) ∙ length-sets (s .memory) (jobWindow c .from) x
+    length-sets m (outWindow c .from) (written itself js (s .room) (o .at) (o .out) (lent (outWindow c) m)) ∙ length-sets (s .memory) (jobWindow c .from) x
 
 module _ (k : ℕ) where
   told-one : (s : State) → Sized (s .table) → (a : Asked)

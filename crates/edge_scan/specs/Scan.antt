@@ -1,7 +1,7 @@
 -- What the pass over a table's octets tests: of each row, by its octets, what refusal 1 asks of the slot that it says.
 use mathlib.Core.Bool.{Bool, _&&_, _||_}
 use mathlib.Core.List.{List}
-use Prim.Native.Nat.{ℕ, suc, _-_, _/_, _%_}
+use Prim.Native.Nat.{ℕ, suc, _+_, _-_, _/_, _%_}
 use lib.Dec.{eqb, leb, ltb}
 use lib.ListN.{getD}
 use Rattle.octets.specs.Octets.{u16At}
@@ -23,6 +23,26 @@ withinIn f c low high = mostOf (f c) (f (suc c)) low high
 abbrev pub sumFits : (ℕ → ℕ) → Bool
 sumFits f = mostOf (f 13) (f 14) (255 - f 15) (255 - f 16)
 
+-- the peer's credits are at most 65,535 less those set aside
+abbrev pub asideFits : (ℕ → ℕ) → Bool
+asideFits f = mostOf (f 24) (f 25) (255 - f 45) (255 - f 46)
+
+-- a number of two octets at most another and 2, told octet by octet: where the other's lower octet wraps, its higher is one more (one that is 0 is no one's next,
+-- and taken for its own it passes already)
+abbrev pub twoMore : (low high l h : ℕ) → Bool
+twoMore low high l h =
+    let carry = leb 254 l in
+    let under = leb low ((l + 2) % 256) in
+    ltb high h || ((eqb high h && (carry || under)) || (carry && (eqb (high - 1) h && under)))
+
+-- no job is open, or what was taken is within the length, and what is filled within the peer's MPS and what was taken with the length's octets
+abbrev pub jobFits : (ℕ → ℕ) → Bool
+jobFits f =
+    (eqb (f 45) 0 && eqb (f 46) 0)
+    || (mostOf (f 41) (f 42) (f 39) (f 40)
+    && (mostOf (f 43) (f 44) (f 20) (f 21)
+    && twoMore (f 43) (f 44) (f 41) (f 42)))
+
 -- the jobs that wait, of `count`
 abbrev pub lensFit : (ℕ → ℕ) → (count low high : ℕ) → Bool
 lensFit f count low high =
@@ -37,7 +57,9 @@ rowFits f d low high =
     && (lensFit f (f 30) low high
     && (withinIn f 26 low high
     && (withinIn f 28 low high
-    && (withinIn f 8 low high && sumFits f))))
+    && (withinIn f 8 low high
+    && (sumFits f
+    && (jobFits f && asideFits f))))))
 
 -- the row of slot k, if it is one of n
 abbrev pub rowPasses : List ℕ → (n d place k : ℕ) → Bool

@@ -1,13 +1,13 @@
 -- The pass answers what reading the whole table and testing it answers.
 use mathlib.Core.Path.{_≡_, refl, sym, ap, _∙_}
-use mathlib.Core.Bool.{Bool, true, false, false≢true, and-true, _&&_, _||_}
+use mathlib.Core.Bool.{Bool, true, false, false≢true, and-true, not, _&&_, _||_}
 use mathlib.Core.List.{List, [], _∷_}
 use Prim.Native.Nat.{ℕ, zero, suc, _+_, _-_, _*_, _/_, _%_, _≤_, _<_, min}
 use native.Mathlib.Omega.{arith}
 use lib.Dec.{eqb, leb, ltb}
 use lib.ListN.{length, getD, take, length-take}
 use lib.Seq.{getD-take, take-nil}
-use borrow.Author.Tests.{eqb-true, eqb-false, le-leb, lt-leb, ltb-true, ltb-false, leb-true, leb-false}
+use borrow.Author.Tests.{eqb-true, eqb-false, eq-eqb, ne-eqb, le-leb, lt-leb, le-ltb, lt-ltb, ltb-true, ltb-false, leb-true, leb-false}
 use Rattle.lists.specs.Both.{and-both}
 use Rattle.lists.specs.Every.{every, every-passes}
 use Rattle.octets.specs.Octets.{u16At}
@@ -19,7 +19,7 @@ use Rattle.edge_layout.specs.Spelled.{allBelow}
 use Rattle.edge_layout.specs.Columns.{tabulate-length, tabulate-at}
 use Rattle.edge_layout_decode.specs.Loops.{all-below, all-each}
 use Rattle.edge_layout_decode.specs.Whole.{spelled, read-passes, read-fails, read-other}
-use Rattle.edge_scan.specs.Scan.{mostOf, rowFits, rowPasses, scanned, validOctets}
+use Rattle.edge_scan.specs.Scan.{mostOf, twoMore, rowFits, rowPasses, scanned, validOctets}
 
 -- ---- a number told octet by octet
 
@@ -65,6 +65,61 @@ most-left low high rlow rhigh h j k =
     (λ e. let f = leb-true (low + 256 * high) (255 - rlow + 256 * (255 - rhigh)) e in le-leb (low + 256 * high + (rlow + 256 * rhigh)) 65535 (omega arith))
     (λ e. let f = leb-true (low + 256 * high + (rlow + 256 * rhigh)) 65535 e in le-leb (low + 256 * high) (255 - rlow + 256 * (255 - rhigh)) (omega arith))
 
+-- at most another and 2
+module _ (low high l h : ℕ) (lows : low < 256) (ls : l < 256) where
+  abbrev Told : Bool → Type 0
+  Told b = b ≡ leb (low + 256 * high) (l + 256 * h + 2)
+
+  yes : low + 256 * high ≤ l + 256 * h + 2 → Told true
+  yes f = sym (le-leb (low + 256 * high) (l + 256 * h + 2) f)
+
+  no : l + 256 * h + 2 < low + 256 * high → Told false
+  no f = sym (lt-leb (low + 256 * high) (l + 256 * h + 2) f)
+
+  -- the lower octet wraps
+  next : (a b : Bool) → 254 ≤ l → h < high → eqb (high - 1) h ≡ a → leb low ((l + 2) % 256) ≡ b → Told (a && b)
+  next false b f g e u = let d = eqb-false (high - 1) h e in no (past d)
+    where
+      past : (high - 1 ≡ h → ⊥) → l + 256 * h + 2 < low + 256 * high
+      past d = omega arith
+  next true true f g e u = let d = eqb-true (high - 1) h e in let k = leb-true low ((l + 2) % 256) u in yes (omega arith)
+  next true false f g e u = let d = eqb-true (high - 1) h e in let k = leb-false low ((l + 2) % 256) u in no (omega arith)
+
+  same-high : (a b : Bool) → high ≡ h → leb 254 l ≡ a → leb low ((l + 2) % 256) ≡ b → Told ((a || b) || (a && (eqb (high - 1) h && b)))
+  same-high true b e f u = let k = leb-true 254 l f in yes (omega arith)
+  same-high false true e f u = let k = leb-true low ((l + 2) % 256) u in let m = leb-false 254 l f in yes (omega arith)
+  same-high false false e f u = let k = leb-false low ((l + 2) % 256) u in let m = leb-false 254 l f in no (omega arith)
+
+  above : (a : Bool) → h < high → leb 254 l ≡ a → Told (a && (eqb (high - 1) h && leb low ((l + 2) % 256)))
+  above true g f = next (eqb (high - 1) h) (leb low ((l + 2) % 256)) (leb-true 254 l f) g refl refl
+  above false g f = let m = leb-false 254 l f in no (omega arith)
+
+  not-under : (b : Bool) → h ≤ high → eqb high h ≡ b → Told ((b && (leb 254 l || leb low ((l + 2) % 256))) || (leb 254 l && (eqb (high - 1) h && leb low ((l + 2) % 256))))
+  not-under true g e = same-high (leb 254 l) (leb low ((l + 2) % 256)) (eqb-true high h e) refl refl
+  not-under false g e = above (leb 254 l) (apart (eqb-false high h e)) refl
+    where
+      apart : (high ≡ h → ⊥) → h < high
+      apart d = omega arith
+
+  under : (b : Bool) → ltb high h ≡ b → Told (twoMore low high l h)
+  under true e = let k = ltb-true high h e in rw e (yes (omega arith))
+  under false e = rw e (not-under (eqb high h) (ltb-false high h e) refl)
+
+  pub two-more-is : twoMore low high l h ≡ leb (low + 256 * high) (l + 256 * h + 2)
+  two-more-is = under (ltb high h) refl
+
+-- nothing is set aside
+none-aside : (low high : ℕ) → (eqb low 0 && eqb high 0) ≡ not (ltb 0 (low + 256 * high))
+none-aside low high = go (eqb low 0) (eqb high 0) refl refl
+  where
+    go : (a b : Bool) → eqb low 0 ≡ a → eqb high 0 ≡ b → (eqb low 0 && eqb high 0) ≡ not (ltb 0 (low + 256 * high))
+    go true true e f =
+        let d = eqb-true low 0 e in
+        let g = eqb-true high 0 f in
+        rw (e, f, le-ltb 0 (low + 256 * high) (omega arith))
+    go true false e f = let g = eqb-false high 0 f in rw (e, f, lt-ltb 0 (low + 256 * high) (omega arith))
+    go false b e f = let d = eqb-false low 0 e in rw (e, lt-ltb 0 (low + 256 * high) (omega arith))
+
 -- ---- a row
 
 -- the first `count` of four pass
@@ -91,6 +146,11 @@ module _ (f : ℕ → ℕ) (octets : (c : ℕ) → f c < 256) where
         most-place (f 28) (f 29) place (octets 28),
         most-place (f 8) (f 9) place (octets 8),
         most-left (f 13) (f 14) (f 15) (f 16) (octets 13) (octets 15) (octets 16),
+        none-aside (f 45) (f 46),
+        most-is (f 41) (f 42) (f 39) (f 40) (octets 41) (octets 39),
+        most-is (f 43) (f 44) (f 20) (f 21) (octets 43) (octets 20),
+        two-more-is (f 43) (f 44) (f 41) (f 42) (octets 43) (octets 41),
+        most-left (f 24) (f 25) (f 45) (f 46) (octets 24) (octets 45) (octets 46),
         first-four (λ n. leb n place) (f 30) (f 31 + 256 * f 32) (f 33 + 256 * f 34) (f 35 + 256 * f 36) (f 37 + 256 * f 38),
       )
 

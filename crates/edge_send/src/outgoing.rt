@@ -37,6 +37,7 @@ fn row(t: &[u8], i: usize) -> Slot
     let peer = edge_layout_read::peer_at(t, i);
     let assembly = edge_layout_read::assembly_at(t, i);
     let queue = edge_layout_read::queue_at(t, i);
+    let job = edge_layout_read::job_at(t, i);
     Slot {
         state,
         link: number(t, i, LINK),
@@ -48,6 +49,7 @@ fn row(t: &[u8], i: usize) -> Slot
         peer,
         assembly,
         queue,
+        job,
     }
 }
 

@@ -22,7 +22,7 @@ use Rattle.channel.specs.declared.Verdict.{Verdict}
 use Rattle.channel.specs.declared.Verdict.the-variants.{Pass, Stop}
 use Rattle.definition.specs.Mem.{Fill, Move}
 use Rattle.definition.specs.Table.{freed, gap, slotAt, isRegistered, spent, registered}
-use Rattle.definition.specs.Outcome.{Outcome, still, change, sweep, verdict, passed, gate}
+use Rattle.definition.specs.Outcome.{Outcome, still, change, filling, sweep, verdict, passed, gate}
 use Rattle.definition.specs.Frames.{queued, shifted}
 use Rattle.definition.specs.Forms.{pass-slot}
 use Rattle.edge_layout.specs.Back.{Sized}
@@ -135,6 +135,11 @@ module _ {t : Table} (w : Sized t) where
         n = q .n;
         past = rw (q .slots) (drop-set (t .n) (t .slots) s y (leb-false (t .n) s h));
       }
+
+  pub filling-keeps : (y : Slot) (s : ℕ) {a : Answer} {at : ℕ} {out : List Fill} {octets : ℕ} → leb (t .n) s ≡ false → Long y → Kept t (filling t s y a at out octets)
+  filling-keeps y s {a} {at} {out} {octets} h l =
+      let c = change-keeps y [] s {a = a} {out = out} itself h l in
+      record { sized = c .sized; n = c .n; past = c .past }
 
   pub sweep-keeps : (p : Slot → Bool) {a : Answer} → Kept t (sweep t p a)
   sweep-keeps p =

@@ -49,15 +49,16 @@ use Rattle.definition.specs.Pending.{nextPending, rejectAllPending, acceptPendi
 use Rattle.definition.specs.Opening.{create, opened, giveUp}
 use Rattle.definition.specs.Closing.{incRef, decRef, disconnecting, disconnect, disconnectByCid, disconnected, nextDisconnect}
 use Rattle.definition.specs.Signals.{onReject, onDisconnectionReq, onDisconnectionRes, onParameters, onParameterResponse, onConnReq, onConnRes, onCredits, handled, checked, signalled}
+use Rattle.definition.specs.Portions.{startPlanned, startJob, givePortion, cancelJob}
 use Rattle.definition.specs.Frames.{joined, dispatch, planned, send, shifted, movingUp, handing, taken, receive}
 use Rattle.definition.specs.Asking.{Made, blank, make, registerSpsm, attention, query, sendSignal}
-use Rattle.definition.specs.Calls.{Call, frame, sends, down, plain, Request, register, signals, pends, rejectsAll, accepts, rejects, drops, creates, opens, gives, holds, releases, leaves, leavesCid, announces, takes, attends, asks, sendsSignal, writes, jobs, bare, serve, decide}
+use Rattle.definition.specs.Calls.{Call, frame, sends, portions, down, plain, Request, register, signals, pends, rejectsAll, accepts, rejects, drops, creates, opens, gives, holds, releases, leaves, leavesCid, announces, takes, starts, cancels, attends, asks, sendsSignal, writes, jobs, bare, serve, decide}
 use Rattle.definition.specs.Numbers.{answerNumber}
 use Rattle.definition.specs.Mem.{Fill}
 use Rattle.definition.specs.Tells.{cid-slot}
 use Rattle.definition.specs.Run.{State, lent, outWindow, jobWindow, after, run}
 use Rattle.edge_layout.specs.Back.{Sized}
-use Rattle.edge_sized.specs.Kept.{Long, queued-long, shifted-long, long-at, Kept, Like, itself, with-id, with-spsm, still-keeps, change-keeps, sweep-keeps, if-keeps, else-keeps, gate-keeps, gate-at}
+use Rattle.edge_sized.specs.Kept.{Long, queued-long, shifted-long, long-at, Kept, Like, itself, with-id, with-spsm, still-keeps, change-keeps, filling-keeps, sweep-keeps, if-keeps, else-keeps, gate-keeps, gate-at}
 
 module _ (t : Table) (w : Sized t) where
   old : (s : ℕ) → Long (slotAt t s)
@@ -254,7 +255,7 @@ module _ (t : Table) (w : Sized t) where
 
   sends-keeps : (s count out : ℕ) → Kept t (send t s count out)
   unfolding send
-  sends-keeps s count out = gate-at w Nothing Nothing Nothing s λ v. else-keeps w _ _ _ itself λ _. planned-keeps s count v _
+  sends-keeps s count out = gate-at w Nothing Nothing Nothing s λ v. else-keeps w _ _ _ itself λ _. else-keeps w _ _ _ itself λ _. planned-keeps s count v _
 
   handing-keeps : {t′ : Table} (s size : ℕ) (x : Slot) (signal : List Fill) → Like t t′ → leb (t .n) s ≡ false → Long x → Kept t (handing t′ s x size signal)
   handing-keeps {t′ = t′} s size x signal q a h =
@@ -271,6 +272,30 @@ module _ (t : Table) (w : Sized t) where
   takes-keeps room signal s size =
       gate-at w (Is room) (Is signal) Nothing s λ v.
       else-keeps w _ _ _ itself λ _. else-keeps w _ _ _ itself λ _. taken-keeps s size v _
+
+  -- ---- Portions.antt
+
+  startPlanned-keeps : (s l size : ℕ) → leb (t .n) s ≡ false → (p : Plan) → Kept t (startPlanned t s (slotAt t s) l size p)
+  unfolding startPlanned
+  startPlanned-keeps s l size a (Plan.Refused r) = still-keeps w itself
+  startPlanned-keeps s l size a (Plan.Frames n octets) = else-keeps w _ _ _ itself λ _. filling-keeps w _ s a (old s)
+
+  starts-keeps : (s l out : ℕ) → Kept t (startJob t s l out)
+  unfolding startJob
+  starts-keeps s l out = gate-at w Nothing Nothing Nothing s λ v. else-keeps w _ _ _ itself λ _. else-keeps w _ _ _ itself λ _. startPlanned-keeps s l out v _
+
+  portions-keeps : (s count out : ℕ) → Kept t (givePortion t s count out)
+  unfolding givePortion
+  portions-keeps s count out =
+      gate-at w Nothing Nothing Nothing s λ v.
+      else-keeps w _ _ _ itself λ _. else-keeps w _ _ _ itself λ _. else-keeps w _ _ _ itself λ _. else-keeps w _ _ _ itself λ _. filling-keeps w _ s v (old s)
+
+  cancels-keeps : (room s : ℕ) → Kept t (cancelJob t room s)
+  unfolding cancelJob
+  cancels-keeps room s =
+      gate-at w (Is room) Nothing Nothing s λ v.
+      else-keeps w _ _ _ itself λ _. else-keeps w _ _ _ itself λ _.
+      if-keeps w (λ _. change-keeps w _ _ s itself v (old s)) λ _. change-keeps w _ _ s itself v (old s)
 
   -- ---- Asking.antt
 
@@ -310,6 +335,8 @@ module _ (t : Table) (w : Sized t) where
   serve-keeps (leavesCid cid) room out tray = leavesCid-keeps room cid
   serve-keeps announces room out tray = announces-keeps room out
   serve-keeps (takes s) room out tray = takes-keeps room out s tray
+  serve-keeps (starts s l) room out tray = starts-keeps s l out
+  serve-keeps (cancels s) room out tray = cancels-keeps room s
   serve-keeps attends room out tray = attends-keeps
   serve-keeps (asks of s) room out tray = asks-keeps of s
   serve-keeps (sendsSignal link s) room out tray = sendsSignal-keeps out link s
@@ -319,6 +346,7 @@ module _ (t : Table) (w : Sized t) where
   unfolding decide bare
   keeps (frame link cid payload) count room out tray = frame-keeps room link cid _ count
   keeps (sends s sdu w) count room out tray = sends-keeps s count out
+  keeps (portions s octets w) count room out tray = portions-keeps s count out
   keeps (down link) count room out tray = down-keeps room link
   keeps (plain r w v) count room out tray = serve-keeps r room out tray
 

@@ -1,4 +1,4 @@
-// The calls for C and Rust, on numbers and octets: a static library. Each entry reads the table from its 672 octets, makes the call, writes table and
+// The calls for C and Rust, on numbers and octets: a static library. Each entry reads the table from its 800 octets, makes the call, writes table and
 // answer back, or for a question the answer alone, and returns 0 or the refusal's number; a frame in, a send, a take, a credit signal and the two runs read and write one row where it stands. It is the
 // function of that name in `edge_asking`, `edge_pending`, `edge_opening`, `edge_closing`, `edge_signals`, `edge_dispatch`, `edge_send`, `edge_receive`, `edge_dispatch_run` or `edge_send_run`, whose definition is
 // the entry's too. It is the call's own, lifted through the two layouts (Edge.antt of `edge`); of a run the calls', one after the other (Run.antt of `edge_run`).
@@ -12,7 +12,7 @@ ghost use Rattle.edge_opening.specs.Opening.{createEdge, openedEdge, giveUpEdge
 ghost use Rattle.edge_pending.specs.Pending.{nextPendingEdge, acceptPendingEdge, rejectPendingEdge, rejectAllPendingEdge, dropPendingEdge};
 ghost use Rattle.edge_closing.specs.Holding.{incRefEdge, decRefEdge};
 ghost use Rattle.edge_closing.specs.Closing.{disconnectEdge, disconnectByCidEdge, disconnectedEdge, nextDisconnectEdge};
-ghost use Rattle.edge_placed.specs.Frames.{dispatchEdge, sendEdge, receiveEdge};
+ghost use Rattle.edge_placed.specs.Frames.{dispatchEdge, sendEdge, receiveEdge, startEdge, portionEdge, cancelEdge};
 ghost use Rattle.edge_signals.specs.Signals.{signalEdge};
 ghost use Rattle.edge_run.specs.Run.{runEdge};
 ghost use Rattle.edge_dispatch_run.specs.Frames.{dispatchRunEdge};
@@ -365,6 +365,47 @@ pub extern "C" fn l2cap_send(
     edge_send::send(table, answer, out, slot, sdu)
 }
 
+// Begins a job of `length` octets, to be handed over in portions: credits are set aside for all its frames, and its first frame is begun in the lent buffer.
+#[no_mangle]
+pub extern "C" fn l2cap_start_job(
+    table: &mut [u8],
+    answer: &mut [u8],
+    buffer: &mut [u8],
+    slot: u8,
+    length: usize,
+) -> u32
+    ensures { λ r. ⌜ edge r (now (table .exit)) (now (answer .exit)) [] (now (buffer .exit)) [] ≡ startEdge (now (table .entry)) (now (answer .entry)) (now (buffer .entry)) slot length ⌝ }
+{
+    edge_start_job::start_job(table, answer, buffer, slot, length)
+}
+
+// Hands over a portion of that job, as far as its frame reaches, with the buffer as the job's last call left it. A frame that is full stands at the buffer's start.
+#[no_mangle]
+pub extern "C" fn l2cap_give_portion(
+    table: &mut [u8],
+    answer: &mut [u8],
+    buffer: &mut [u8],
+    slot: u8,
+    octets: &[u8],
+) -> u32
+    ensures { λ r. ⌜ edge r (now (table .exit)) (now (answer .exit)) [] (now (buffer .exit)) [] ≡ portionEdge (now (table .entry)) (now (answer .entry)) (now (buffer .entry)) slot (now (octets .entry)) ⌝ }
+{
+    edge_give_portion::give_portion(table, answer, buffer, slot, octets)
+}
+
+// Gives that job up: before its first frame its credits return; later the channel is left.
+#[no_mangle]
+pub extern "C" fn l2cap_cancel_job(
+    table: &mut [u8],
+    answer: &mut [u8],
+    room: &mut [u8],
+    slot: u8,
+) -> u32
+    ensures { λ r. ⌜ edge r (now (table .exit)) (now (answer .exit)) (now (room .exit)) [] [] ≡ cancelEdge (now (table .entry)) (now (answer .entry)) (now (room .entry)) slot ⌝ }
+{
+    edge_cancel_job::cancel_job(table, answer, room, slot)
+}
+
 // Frames that came in, one after the other: link, CID, length, payload.
 #[no_mangle]
 pub extern "C" fn l2cap_dispatch_run(
@@ -419,8 +460,8 @@ pub extern "C" fn l2cap_signal_rest(pdu: &[u8]) -> usize
 // The version of this edge, the header's L2CAP_CHANNELS_VERSION. The number is in the name too: it goes up when an entry's parameters, the table's layout or the answer's
 // change, so that a header and an archive of different versions are not linked.
 #[no_mangle]
-pub extern "C" fn l2cap_version_1() -> u32
-    ensures { λ r. ⌜ r ≡ 1 ⌝ }
+pub extern "C" fn l2cap_version_2() -> u32
+    ensures { λ r. ⌜ r ≡ 2 ⌝ }
 {
-    1
+    2
 }

@@ -1,5 +1,5 @@
--- How far the exception of memory goes, in any run: an octet is marked only in a window that was lent to a send on, or a take from, a
--- slot that was link k's. A law of the marks alone, whatever the calls come to.
+-- How far the exception of memory goes, in any run: an octet is marked only in a window that was lent to a send on, a portion on, or a take from,
+-- a slot that was link k's. A law of the marks alone, whatever the calls come to.
 use mathlib.Core.Path.{_≡_, refl, sym, _∙_, ap}
 use mathlib.Core.Bool.{Bool, true, false, _&&_, false≢true}
 use mathlib.Core.List.{List, [], _∷_, map}
@@ -72,21 +72,21 @@ data Wrote (own : Bool) (w : Window) (memory : List Bool) (i : ℕ) : Type 0 whe
   before : getD memory i false ≡ true → Wrote own w memory i
   here : own ≡ true → Within w i → Wrote own w memory i
 
-wrote : (own : Bool) (w : Window) (js room memory : List Bool) (fs : List Fill) (i : ℕ)
-    → getD (sets memory (w .from) (written unmarked (mask own js) (mask own room) fs (lent w memory))) i false ≡ true → Wrote own w memory i
+wrote : (own : Bool) (w : Window) (js room memory : List Bool) (at : ℕ) (fs : List Fill) (i : ℕ)
+    → getD (sets memory (w .from) (written unmarked (mask own js) (mask own room) at fs (lent w memory))) i false ≡ true → Wrote own w memory i
 unfolding written
-wrote own w js room memory fs i e = outer own (came _ memory (w .from) i e)
+wrote own w js room memory at fs i e = outer own (came _ memory (w .from) i e)
   where
-    inner : (b : Bool) (n : ℕ) → i ≡ w .from + n → n < length (sets (lent w memory) 0 (fills unmarked (mask b js) (mask b room) fs))
-        → Came (lent w memory) 0 (fills unmarked (mask b js) (mask b room) fs) n → Wrote b w memory i
+    inner : (b : Bool) (n : ℕ) → i ≡ w .from + n → n < length (sets (lent w memory) at (fills unmarked (mask b js) (mask b room) fs))
+        → Came (lent w memory) at (fills unmarked (mask b js) (mask b room) fs) n → Wrote b w memory i
     inner b n q lt (stood f) = before (ap (λ (x : ℕ). getD memory x false) q ∙ lent-at w memory n f)
     inner true n q lt (put p r lt′ f) =
-        here refl (record { low = omega arith; high = omega (arith, length-sets (lent w memory) 0 (fills unmarked (mask true js) (mask true room) fs), length-take (w .size) (drop (w .from) memory)) })
+        here refl (record { low = omega arith; high = omega (arith, length-sets (lent w memory) at (fills unmarked (mask true js) (mask true room) fs), length-take (w .size) (drop (w .from) memory)) })
     inner false n q lt (put p r lt′ f) = absurd (false≢true (sym (clean-at (clean-fills js room fs) p) ∙ f))
 
-    outer : (b : Bool) → Came memory (w .from) (sets (lent w memory) 0 (fills unmarked (mask b js) (mask b room) fs)) i → Wrote b w memory i
+    outer : (b : Bool) → Came memory (w .from) (sets (lent w memory) at (fills unmarked (mask b js) (mask b room) fs)) i → Wrote b w memory i
     outer b (stood f) = before f
-    outer b (put n q lt f) = inner b n q lt (came (fills unmarked (mask b js) (mask b room) fs) (lent w memory) 0 n f)
+    outer b (put n q lt f) = inner b n q lt (came (fills unmarked (mask b js) (mask b room) fs) (lent w memory) at n f)
 
 -- ---- one call, and a run
 
@@ -106,18 +106,18 @@ data Step (k : ℕ) (t : Table) (c : Call) (m : Marks) (i : ℕ) : Type 0 where
 
 module _ (k : ℕ) (t : Table) (o : Outcome) (m : Marks) (c : Call) (js : List Bool) (i : ℕ) where
   abbrev tray : List Bool
-  tray = sets (m .memory) (jobWindow c .from) (written unmarked (mask (jobOut k t c) js) (mask (jobOut k t c) (m .room)) (o .job) (lent (jobWindow c) (m .memory)))
+  tray = sets (m .memory) (jobWindow c .from) (written unmarked (mask (jobOut k t c) js) (mask (jobOut k t c) (m .room)) 0 (o .job) (lent (jobWindow c) (m .memory)))
 
   job-step : Wrote (jobOut k t c) (jobWindow c) (m .memory) i → Step k t c m i
   job-step (before f) = old f
   job-step (here f w) = new (job f w)
 
   out-step : Wrote (framesOut k t c) (outWindow c) tray i → Step k t c m i
-  out-step (before f) = job-step (wrote (jobOut k t c) (jobWindow c) js (m .room) (m .memory) (o .job) i f)
+  out-step (before f) = job-step (wrote (jobOut k t c) (jobWindow c) js (m .room) (m .memory) 0 (o .job) i f)
   out-step (here f w) = new (frames f w)
 
   memory-step : getD (memoryMarks o (outWindow c) (jobWindow c) (framesOut k t c) (jobOut k t c) js (m .room) (m .memory)) i false ≡ true → Step k t c m i
-  memory-step e = out-step (wrote (framesOut k t c) (outWindow c) js (m .room) tray (o .out) i e)
+  memory-step e = out-step (wrote (framesOut k t c) (outWindow c) js (m .room) tray (o .at) (o .out) i e)
 
 step : (k j : ℕ) (t : Table) (o : Outcome) (m : Marks) (c : Call) (i : ℕ) → getD (marked k j t o m c .memory) i false ≡ true → Step k t c m i
 unfolding marked
@@ -138,6 +138,6 @@ from-marks k j i (c ∷ cs) s m none e =
     split true q rest = found (step k j (s .table) (outcome s c) m c i q)
     split false q rest = later (rest (λ f. false≢true (sym q ∙ f)))
 
--- An octet of memory is excepted only where a send on, or a take from, link k's own slot was lent it.
+-- An octet of memory is excepted only where a send on, a portion on, or a take from, link k's own slot was lent it.
 pub excepted : (k j i : ℕ) (s : State) (cs : List Call) → getD (marksOf k j s cs .memory) i false ≡ true → HandedOut k i s cs
 excepted k j i s cs e = from-marks k j i cs s _ (λ f. false≢true (sym (clean-at (rel-map Off (λ _. false) (λ _. false) (λ _. false) (λ x. refl) (s .memory)) i) ∙ f)) e

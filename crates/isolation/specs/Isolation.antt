@@ -17,17 +17,17 @@ use Rattle.channel.specs.declared.Table.{Table}
 use Rattle.definition.specs.Table.{fresh, gap, live, width, roomSize}
 use Rattle.definition.specs.Outcome.{Outcome}
 use Rattle.definition.specs.Asking.{Made, blank, make}
-use Rattle.definition.specs.Calls.{Window, Call, frame, sends, down, plain, jobs, bare, carrier, framesOut, jobOut, decide, Holder, isBy}
+use Rattle.definition.specs.Calls.{Window, Call, frame, sends, portions, down, plain, jobs, bare, carrier, framesOut, jobOut, decide, Holder, isBy}
 use Rattle.definition.specs.Numbers.{answerNumber}
 use Rattle.definition.specs.Ending.{itself}
 use Rattle.definition.specs.Run.{State, lent, outWindow, jobWindow, outcome, roomLeft, memoryLeft, after, made, run, outcomes}
-use Rattle.definition.specs.Public.{framed-bare, framed-count, sent-bare, sent-count}
+use Rattle.definition.specs.Public.{framed-bare, framed-count, sent-bare, sent-count, portioned-bare, portioned-count}
 use Rattle.definition.specs.Forms.{Fit}
 use Rattle.definition.specs.Safe.{Safe, Without, safe, down-clears}
 use Rattle.definition.specs.Lengths.{length-parts}
 use Rattle.definition.specs.Mem.{Fill, fills}
 use Rattle.definition.specs.Handed.{OwnFills, hands}
-use Rattle.isolation.specs.Statement.{carries, isDown, overAfter, Exchanged, sent, framed, Alike, same, exchanged, AlikeRuns, Marks, unmarked, memoryMarks, marked, marksFrom, marksOf, Isolated, Handed, handedBy, handed, Demand3}
+use Rattle.isolation.specs.Statement.{carries, isDown, overAfter, Exchanged, sent, portioned, framed, Alike, same, exchanged, AlikeRuns, Marks, unmarked, memoryMarks, marked, marksFrom, marksOf, Isolated, Handed, handedBy, handed, Demand3}
 use Rattle.isolation.specs.Statement as Statement
 use Rattle.isolation.specs.Words.{owns-is, jobs-is, carries-is, framesOut-is, jobOut-is, not-assembling}
 use Rattle.isolation.specs.Same.{Rel, nil, cons, rel-take, rel-drop, rel-map, rel-lent, rel-length, rel-parts, rel-fills, rel-memory}
@@ -82,10 +82,12 @@ record Common (k : ℕ) (t : Table) (c d : Call) : Type 0 where
 
 exchanged-common : {k : ℕ} {t : Table} {c d : Call} → Exchanged k t c d → Common k t c d
 exchanged-common {t = t} (sent {s = s} {x = x} {y = y} {out = o} h e) = record { bare = sent-bare t s x y o; count = sent-count t s x y o e; out = refl; job = refl; frames = refl; tray = refl }
+exchanged-common {t = t} (portioned {s = s} {x = x} {y = y} {out = o} h e) = record { bare = portioned-bare t s x y o; count = portioned-count t s x y o e; out = refl; job = refl; frames = refl; tray = refl }
 exchanged-common {k} {t} (framed {cid = cid} {x = x} {y = y} e f) = record { bare = framed-bare t k cid x y (λ n. f (not-assembling t cid n)); count = framed-count t k cid x y e; out = refl; job = refl; frames = refl; tray = refl }
 
 exchanged-carries : {k : ℕ} {t : Table} {c d : Call} → Exchanged k t c d → carries k t c ≡ true
 exchanged-carries (sent h e) = h
+exchanged-carries (portioned h e) = h
 exchanged-carries {k} (framed e f) = eq-eqb k k refl
 
 -- does the call carry job octets of that life?
@@ -107,6 +109,7 @@ clears : (k : ℕ) (t : Table) (c : Call) (count room out job : ℕ) → isDown 
 unfolding decide bare
 clears k t (frame link cid payload) count room out job e = absurd (false≢true e)
 clears k t (sends s sdu w) count room out job e = absurd (false≢true e)
+clears k t (portions s octets w) count room out job e = absurd (false≢true e)
 clears k t (down link) count room out job e = rw (eqb-true k link e) (down-clears t link room)
 clears k t (plain r v w) count room out job e = absurd (false≢true e)
 

@@ -7,4 +7,6 @@ pub mod Isolation
 pub mod Example
 pub mod Lives
 pub mod Reading
+pub mod Portions
 pub mod Excepted
+pub mod Own

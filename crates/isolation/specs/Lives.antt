@@ -30,21 +30,21 @@ use Rattle.definition.specs.Closing.{decRef, disconnected}
 use Rattle.definition.specs.Signals.{onConnReq, handled, checked, signalled}
 use Rattle.definition.specs.Frames.{joined, dispatch, laterFrames, frames, planned, send, grantIn, taken, receive}
 use Rattle.definition.specs.Asking.{make, registerSpsm}
-use Rattle.definition.specs.Calls.{Window, Call, frame, sends, down, plain, register, signals, pends, accepts, releases, takes, bare, serve, decide}
+use Rattle.definition.specs.Calls.{Window, Call, frame, sends, portions, down, plain, register, signals, pends, accepts, releases, takes, starts, bare, serve, decide}
 use Rattle.definition.specs.Calls as Calls
 use Rattle.definition.specs.Run.{State, outcome, after, made, run, outcomes}
 use Rattle.isolation.specs.Statement.{owns, assembling, jobs, carries, framesOut, jobOut, overAfter, sent, framed, same, exchanged, AlikeRuns, Marks, unmarked, marked, Handed, handed}
 
 -- ---- the run
 
-abbrev window : (from size : ℕ) → Window
+abbrev pub window : (from size : ℕ) → Window
 window from size = record { from = from; size = size }
 
-abbrev unlent : Window
+abbrev pub unlent : Window
 unlent = window 0 0
 
 -- the signal buffer, at the memory's start
-abbrev buffer : Window
+abbrev pub buffer : Window
 buffer = window 0 18
 
 -- Two slots, one waiting job a slot, packets of 29 octets: places of 23, a room of 92 octets, in which any octet stands; 30 octets of memory.
@@ -55,7 +55,7 @@ abbrev config : L2capChannelConfig
 config = record { mtu = Setting.Default; mps = Setting.Default; policy = Every 1; credits = Setting.Is 5 }
 
 -- The link's phone asks for a channel (SPSM 0x80, its CID 0x50, MTU 64, MPS 23, 5 credits), and gets the slot.
-abbrev opening : (link slot : ℕ) → List Call
+abbrev pub opening : (link slot : ℕ) → List Call
 opening link s =
     plain (signals link true true (0x14 ∷ 7 ∷ 10 ∷ 0 ∷ 0x80 ∷ 0 ∷ 0x50 ∷ 0 ∷ 64 ∷ 0 ∷ 23 ∷ 0 ∷ 5 ∷ 0 ∷ [])) buffer unlent
     ∷ plain (pends link true) unlent unlent
@@ -85,32 +85,32 @@ calls a b c x y p e u v w =
 
 -- ---- where marks stand: how many lives are over, and which octets of room and memory are marked, after each call
 
-record Row : Type 0 where
-  over : ℕ
-  room : List ℕ
-  memory : List ℕ
+pub record Row : Type 0 where
+  pub over : ℕ
+  pub room : List ℕ
+  pub memory : List ℕ
 
-abbrev row : ℕ → List ℕ → List ℕ → Row
+abbrev pub row : ℕ → List ℕ → List ℕ → Row
 row n room memory = record { over = n; room = room; memory = memory }
 
-unfoldable standing : ℕ → List Bool → List ℕ
+unfoldable pub standing : ℕ → List Bool → List ℕ
 standing i [] = []
 standing i (false ∷ ms) = standing (suc i) ms
 standing i (true ∷ ms) = i ∷ standing (suc i) ms
 
-unfoldable rows : (k j : ℕ) → State → Marks → List Call → List Row
+unfoldable pub rows : (k j : ℕ) → State → Marks → List Call → List Row
 rows k j s m [] = []
 rows k j s m (c ∷ cs) =
     let n = marked k j (s .table) (outcome s c) m c in
     row (n .over) (standing 0 (n .room)) (standing 0 (n .memory)) ∷ rows k j (after s c) n cs
 
-abbrev trail : (k j z : ℕ) → List Call → List Row
-trail k j z cs = rows k j (start z) (record { over = 0; room = map unmarked (start z .room); memory = map unmarked (start z .memory) }) cs
+abbrev pub trail : (k j : ℕ) → State → List Call → List Row
+trail k j s cs = rows k j s (record { over = 0; room = map unmarked (s .room); memory = map unmarked (s .memory) }) cs
 
 module _ (z a b c x y p e u v w : ℕ) where
   record Marked : Type 0 where
     -- link 1, life 0
-    first-life : trail 1 0 z (calls a b c x y p e u v w)
+    first-life : trail 1 0 (start z) (calls a b c x y p e u v w)
         ≡ replicate 7 (row 0 [] [])  -- two channels are opened
         ++ (row 0 (0 ∷ 1 ∷ []) []  -- a and b, in the assembly place
         ∷ row 0 (0 ∷ 1 ∷ []) []  -- link 2's job is not marked
@@ -125,10 +125,10 @@ module _ (z a b c x y p e u v w : ℕ) where
         ∷ replicate 7 (row 1 [] (29 ∷ []))  -- the life is over: later jobs are not marked
         ++ (row 2 [] (29 ∷ []) ∷ []))
     -- link 1, life 1
-    second-life : trail 1 1 z (calls a b c x y p e u v w)
+    second-life : trail 1 1 (start z) (calls a b c x y p e u v w)
         ≡ replicate 17 (row 0 [] []) ++ (replicate 5 (row 1 [] []) ++ (row 1 (23 ∷ []) [] ∷ row 1 [] (28 ∷ []) ∷ row 2 [] (28 ∷ []) ∷ []))
     -- link 2, life 0, which lasts: link 1's jobs are written over its octets in turn
-    other-link : trail 2 0 z (calls a b c x y p e u v w)
+    other-link : trail 2 0 (start z) (calls a b c x y p e u v w)
         ≡ replicate 8 (row 0 [] [])
         ++ (replicate 4 (row 0 (69 ∷ []) [])
         ++ (row 0 [] (12 ∷ [])
@@ -136,7 +136,7 @@ module _ (z a b c x y p e u v w : ℕ) where
         ∷ replicate 7 (row 0 [] (12 ∷ 27 ∷ 28 ∷ []))
         ++ (row 0 [] (27 ∷ 28 ∷ []) ∷ row 0 [] (27 ∷ 28 ∷ []) ∷ row 0 [] (27 ∷ []) ∷ row 0 [] (27 ∷ []) ∷ [])))
     -- no link: nothing is marked, and its refused link-down counts for nothing
-    no-link : trail 0x0F00 0 z (calls a b c x y p e u v w) ≡ replicate 25 (row 0 [] [])
+    no-link : trail 0x0F00 0 (start z) (calls a b c x y p e u v w) ≡ replicate 25 (row 0 [] [])
 
   marks : Marked
   unfolding encodeOf standing rows marked overAfter after decide serve registerSpsm signalled checked headersOf whole handled onConnReq leCreditConnReq nextPending acceptPending dispatch joined joinStep firstStep reached assembled receive taken grantIn grantOf due send planned planSend frameCount ceil framesLength frames laterFrames disconnected decRef Calls.jobs bare verdict wellFormed slotFits every first only choose make parts moves move fill fills written
@@ -144,7 +144,7 @@ module _ (z a b c x y p e u v w : ℕ) where
 
 -- ---- whose is what, call by call: the numbers of the calls for which a word of the statement holds, in the table that the call finds
 
-unfoldable each : {A : Type 0} → (Table → Call → A) → State → List Call → List A
+unfoldable pub each : {A : Type 0} → (Table → Call → A) → State → List Call → List A
 each f s [] = []
 each f s (c ∷ cs) = f (s .table) c ∷ each f (after s c) cs
 
@@ -152,7 +152,7 @@ each f s (c ∷ cs) = f (s .table) c ∷ each f (after s c) cs
 abbrev response : (cid : ℕ) → List ℕ
 response cid = 14 ∷ 0 ∷ 5 ∷ 0 ∷ 0x15 ∷ 7 ∷ 10 ∷ 0 ∷ cid ∷ 0 ∷ 23 ∷ 0 ∷ 25 ∷ 0 ∷ 5 ∷ 0 ∷ 0 ∷ 0 ∷ []
 
-abbrev gives : (out job : List ℕ) → Handed
+abbrev pub gives : (out job : List ℕ) → Handed
 gives out job = record { out = out; job = job }
 
 abbrev grant : (id cid credits : ℕ) → List ℕ
@@ -224,7 +224,7 @@ module _ (z a b c x y p e u v w : ℕ) where
   -- the marks in memory that a call would leave, were this what it writes to its two buffers
   abbrev left : (out job : List Fill) → Call → List ℕ
   left out job c =
-      standing 0 (marked 1 0 waiting (record { answer = Done; table = waiting; parts = []; out = out; job = job })
+      standing 0 (marked 1 0 waiting (record { answer = Done; table = waiting; parts = []; at = 0; out = out; octets = 0; job = job })
       (record { over = 0; room = replicate 23 false ++ (true ∷ true ∷ true ∷ replicate 66 false); memory = replicate 30 false }) c .memory)
 
   record Unexcused : Type 0 where
@@ -233,12 +233,15 @@ module _ (z a b c x y p e u v w : ℕ) where
     -- a take from link 2's slot, and a send on it
     take-2 : left [] (held 23 3 ∷ []) (plain (takes 1) buffer (window 18 4)) ≡ []
     send-2 : left (held 23 3 ∷ []) [] (sends 1 (v ∷ w ∷ []) (window 20 8)) ≡ []
+    -- a portion on link 2's slot, and a start on link 1's own
+    portion-2 : left (held 23 3 ∷ []) [] (portions 1 (v ∷ w ∷ []) (window 20 8)) ≡ []
+    start-1 : left (held 23 3 ∷ []) [] (plain (starts 0 2) (window 20 8) unlent) ≡ []
     -- a call of another kind, on link 1's slot
     other : left (held 23 3 ∷ []) (held 23 3 ∷ []) (plain (releases 0) buffer (window 18 4)) ≡ []
 
   unexcused : Unexcused
   unfolding encodeOf standing run marked overAfter after decide serve registerSpsm signalled checked headersOf whole handled onConnReq leCreditConnReq nextPending acceptPending dispatch joined joinStep firstStep reached assembled receive taken grantIn grantOf due send planned planSend frameCount ceil framesLength frames laterFrames disconnected decRef Calls.jobs bare verdict wellFormed slotFits every first only choose make parts moves move fill fills written
-  unexcused = record { signal = refl; take-2 = refl; send-2 = refl; other = refl }
+  unexcused = record { signal = refl; take-2 = refl; send-2 = refl; portion-2 = refl; start-1 = refl; other = refl }
 
 -- ---- such runs are alike, whatever their job octets
 

@@ -1,5 +1,5 @@
--- Only a take from, or a send on, a slot of the link hands its marks out: what any other call writes to memory is the same, whether the
--- marks are masked or not. From what each call hands out (Handed.antt of crate definition) and where marks stand (Contained.antt).
+-- Only a take from, a send on, or a portion on a slot of the link hands its marks out: what any other call writes to memory is the same, whether
+-- the marks are masked or not. From what each call hands out (Handed.antt of crate definition) and where marks stand (Contained.antt).
 use mathlib.Core.Path.{_≡_, refl, sym, _∙_, ap, ap₂, subst}
 use mathlib.Core.Bool.{Bool, true, false, _&&_}
 use mathlib.Core.List.{List, [], _∷_, _++_}
@@ -70,11 +70,11 @@ module _ (t : Table) (c h : Holder) (js room : List Bool) (carried-clean : c ≡
   fills-masked none = refl
   fills-masked (more p ps) = ap₂ (λ (a b : List Bool). a ++ b) (fill-masked p) (fills-masked ps)
 
--- what is written to memory, by the two lists that are written
-abbrev written-two : (v w : Window) (memory a b : List Bool) → List Bool
-written-two v w memory a b =
+-- what is written to memory, by the two lists that are written, the first from octet `at` of its window on
+abbrev written-two : (at : ℕ) (v w : Window) (memory a b : List Bool) → List Bool
+written-two at v w memory a b =
     let m = sets memory (w .from) (sets (lent w memory) 0 b) in
-    sets m (v .from) (sets (lent v m) 0 a)
+    sets m (v .from) (sets (lent v m) at a)
 
 clean-mask : (ms : List Bool) → Clean (mask false ms)
 clean-mask ms = rel-map Off (λ b. false) (λ b. false) (λ b. false) (λ b. refl) ms
@@ -97,4 +97,4 @@ pub memory-masked : (t : Table) (k : ℕ) (c f h : Holder) (js room memory : Lis
     → memoryLeft unmarked js o v w room memory ≡ memoryMarks o v w (isBy k f) (isBy k h) js room memory
 unfolding written
 memory-masked t k c f h js room memory o v w p cj cr =
-    ap₂ (written-two v w memory) (fills-own t k c f js room (cj f) (cr f) (p .out) (isBy k f) refl) (fills-own t k c h js room (cj h) (cr h) (p .tray) (isBy k h) refl)
+    ap₂ (written-two (o .at) v w memory) (fills-own t k c f js room (cj f) (cr f) (p .out) (isBy k f) refl) (fills-own t k c h js room (cj h) (cr h) (p .tray) (isBy k h) refl)

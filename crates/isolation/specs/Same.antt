@@ -85,12 +85,13 @@ module _ {A B C : Type 0} (R : A → B → C → Type 0) where
     rel-fills r [] = nil
     rel-fills r (x ∷ xs) = rel-append (rel-fill r x) (rel-fills r xs)
 
-    pub rel-written : {la oa : List A} {lb ob : List B} {lc oc : List C} → Rel R la lb lc → (xs : List Fill) → Rel R oa ob oc → Rel R (written f ja la xs oa) (written g jb lb xs ob) (written h jc lc xs oc)
+    pub rel-written : {la oa : List A} {lb ob : List B} {lc oc : List C} → Rel R la lb lc → (at : ℕ) (xs : List Fill) → Rel R oa ob oc
+        → Rel R (written f ja la at xs oa) (written g jb lb at xs ob) (written h jc lc at xs oc)
     unfolding written
-    rel-written r xs o = rel-sets 0 o (rel-fills r xs)
+    rel-written r at xs o = rel-sets at o (rel-fills r xs)
 
     pub rel-memory : (o : Outcome) (v w : Window) {la ma : List A} {lb mb : List B} {lc mc : List C} → Rel R la lb lc → Rel R ma mb mc
         → Rel R (memoryLeft f ja o v w la ma) (memoryLeft g jb o v w lb mb) (memoryLeft h jc o v w lc mc)
     rel-memory o v w r m =
-        let first = rel-sets (w .from) m (rel-written r (o .job) (rel-lent w m)) in
-        rel-sets (v .from) first (rel-written r (o .out) (rel-lent v first))
+        let first = rel-sets (w .from) m (rel-written r 0 (o .job) (rel-lent w m)) in
+        rel-sets (v .from) first (rel-written r (o .at) (o .out) (rel-lent v first))

@@ -14,7 +14,7 @@ use Rattle.lists.specs.Choose.{choose}
 use Rattle.channel.specs.declared.Table.{Table}
 use Rattle.definition.specs.Table.{isDisconnected, slotAt, width, roomSize}
 use Rattle.definition.specs.Asking.{make}
-use Rattle.definition.specs.Calls.{Window, Call, frame, sends, down, plain, Request, register, signals, pends, rejectsAll, accepts, rejects, drops, creates, opens, gives, holds, releases, leaves, leavesCid, announces, takes, attends, asks, sendsSignal, writes}
+use Rattle.definition.specs.Calls.{Window, Call, frame, sends, portions, down, plain, Request, register, signals, pends, rejectsAll, accepts, rejects, drops, creates, opens, gives, holds, releases, leaves, leavesCid, announces, takes, starts, cancels, attends, asks, sendsSignal, writes}
 use Rattle.definition.specs.Mem.{fills, written}
 use Rattle.definition.specs.Outcome.{Outcome}
 use Rattle.definition.specs.Ending.{itself}
@@ -32,24 +32,28 @@ abbrev pub assembling : Table → (cid : ℕ) → Bool
 assembling t cid = (leb 0x40 cid && ltb (cid - 0x40) (t .n)) && not (eqb (slotAt t (cid - 0x40) .assembly .want) 0)
 
 -- "Job octets are the SDU octets handed to a send, and a frame's payload but for the two length octets of a frame that arrives with no
--- assembly open."
+-- assembly open." So are the octets of a portion (document 02 (i)); how many it has, and the length that was stated for its job, are public.
 abbrev pub jobs : Table → Call → List ℕ
 jobs t (frame link cid payload) = choose (assembling t cid) payload (drop 2 payload)
 jobs t (sends s sdu out) = sdu
+jobs t (portions s octets out) = octets
 jobs t (down link) = []
 jobs t (plain r out job) = []
 
--- Are they link k's? A frame's are the link's that it came on, whatever slot it names; a send's are the link's whose slot it is.
+-- Are they link k's? A frame's are the link's that it came on, whatever slot it names; a send's and a portion's are the link's whose slot it is.
 abbrev pub carries : (k : ℕ) → Table → Call → Bool
 carries k t (frame link cid payload) = eqb k link
 carries k t (sends s sdu out) = owns k t s
+carries k t (portions s octets out) = owns k t s
 carries k t (down link) = false
 carries k t (plain r out job) = false
 
--- Does the call write frames of link k to its output? A send on link k's slot does, no other call.
+-- Does the call write frames of link k to its output? A send on link k's slot does, and a portion, to the job's frame buffer, which "in demand 3 ..
+-- counts as that link's sent job"; no other call.
 abbrev pub framesOut : (k : ℕ) → Table → Call → Bool
 framesOut k t (frame link cid payload) = false
 framesOut k t (sends s sdu out) = owns k t s
+framesOut k t (portions s octets out) = owns k t s
 framesOut k t (down link) = false
 framesOut k t (plain r out job) = false
 
@@ -71,6 +75,8 @@ takenFrom k t (releases s) = false
 takenFrom k t (leaves s) = false
 takenFrom k t (leavesCid cid) = false
 takenFrom k t announces = false
+takenFrom k t (starts s l) = false
+takenFrom k t (cancels s) = false
 takenFrom k t attends = false
 takenFrom k t (asks of s) = false
 takenFrom k t (sendsSignal link s) = false
@@ -79,6 +85,7 @@ takenFrom k t (writes octets) = false
 abbrev pub jobOut : (k : ℕ) → Table → Call → Bool
 jobOut k t (frame link cid payload) = false
 jobOut k t (sends s sdu out) = false
+jobOut k t (portions s octets out) = false
 jobOut k t (down link) = false
 jobOut k t (plain r out job) = takenFrom k t r
 
@@ -88,6 +95,7 @@ jobOut k t (plain r out job) = takenFrom k t r
 abbrev pub isDown : (k : ℕ) → Call → Bool
 isDown k (frame link cid payload) = false
 isDown k (sends s sdu out) = false
+isDown k (portions s octets out) = false
 isDown k (down link) = eqb k link
 isDown k (plain r out job) = false
 
@@ -100,6 +108,8 @@ overAfter k over o c = choose (isDown k c && eqb (answerNumber (o .answer)) 0) (
 pub data Exchanged (k : ℕ) (t : Table) : Call → Call → Type 0 where
   sent : {s : ℕ} {x y : List ℕ} {out : Window}  -- another SDU, on a slot that is link k's
       → owns k t s ≡ true → length x ≡ length y → Exchanged k t (sends s x out) (sends s y out)
+  portioned : {s : ℕ} {x y : List ℕ} {out : Window}  -- other octets of a portion, on a slot that is link k's
+      → owns k t s ≡ true → length x ≡ length y → Exchanged k t (portions s x out) (portions s y out)
   framed : {cid : ℕ} {x y : List ℕ}  -- another payload of a frame that came on link k, the length octets apart
       → length x ≡ length y → (assembling t cid ≡ false → take 2 x ≡ take 2 y) → Exchanged k t (frame k cid x) (frame k cid y)
 
@@ -117,9 +127,11 @@ AlikeRuns k j over s (c ∷ cs) (d ∷ ds) = Alike k j over (s .table) c d × Al
 
 -- ---- 4. Where that life's octets stand: a mark for each octet of room and memory. It is the definition itself, run on marks in place of
 -- octets. A job octet of that life comes in marked, every other octet (headers, signals, zeros, other links' jobs) unmarked; a mark goes
--- where its octet is copied, and is gone where another octet is written over it. Marks get out to memory by two ways alone: a send on
--- link k's slot, to its output, and a take from link k's slot, to its job buffer. What any other call writes, and what these two write
--- elsewhere (a take, its signal buffer), counts as unmarked, and so has to be equal.
+-- where its octet is copied, and is gone where another octet is written over it. Marks get out to memory by three ways alone: a send on
+-- link k's slot, to its output, a portion on it, to the job's frame buffer, and a take from link k's slot, to its job buffer. What any other call
+-- writes, and what these write elsewhere (a take, its signal buffer), counts as unmarked, and so has to be equal. The header that a start or a
+-- portion puts into the frame buffer is unmarked too. Which buffer the caller lends a portion makes no difference to this: octets that a call does
+-- not write keep their marks, so no premise about buffers is needed.
 
 pub record Marks : Type 0 where
   pub over : ℕ
@@ -132,12 +144,12 @@ unmarked x = false
 abbrev pub mask : Bool → List Bool → List Bool
 mask own ms = map (λ b. own && b) ms
 
--- The marks that a call leaves in memory. The job buffer is written first, then the signal buffer or frame output. js are the marks of
--- the call's job octets; `frames` and `tray` say whether its output, and its job buffer, may take marks.
+-- The marks that a call leaves in memory. The job buffer is written first, then the signal buffer, frame output or a job's frame buffer, that from
+-- octet `o .at` on. js are the marks of the call's job octets; `frames` and `tray` say whether its output, and its job buffer, may take marks.
 abbrev pub memoryMarks : Outcome → (out job : Window) → (frames tray : Bool) → (js room memory : List Bool) → List Bool
 memoryMarks o out job frames tray js room memory =
-    let m = sets memory (job .from) (written unmarked (mask tray js) (mask tray room) (o .job) (lent job memory)) in
-    sets m (out .from) (written unmarked (mask frames js) (mask frames room) (o .out) (lent out m))
+    let m = sets memory (job .from) (written unmarked (mask tray js) (mask tray room) 0 (o .job) (lent job memory)) in
+    sets m (out .from) (written unmarked (mask frames js) (mask frames room) (o .at) (o .out) (lent out m))
 
 -- The marks that a call leaves. t is the table that it finds, o what it comes to.
 unfoldable pub marked : (k j : ℕ) → Table → Outcome → Marks → Call → Marks
@@ -178,8 +190,10 @@ pub record Isolated (k j : ℕ) (m : Marks) (a b : State) : Type 0 where
   -- and the whole room is equal once that life's link-down has answered 0
   pub down : j < m .over → a .room ≡ b .room
 
--- ---- 6. What a call hands out, octet by octet: to its output a signal or frames, to its job buffer a job; but for link k's own frames and
--- jobs. So every signal is in it, and every other link's frames and jobs.
+-- ---- 6. What a call hands out, octet by octet: to its output a signal, frames or a portion's part of a frame, to its job buffer a job; but for
+-- link k's own frames and jobs. So every signal is in it, and every other link's frames and jobs. Of a portion it is what the call itself writes;
+-- that a frame which a portion gives out has no octets but its own job's, where each open job has a buffer of its own, is a theorem of crate
+-- rules_portions. (A buffer that link k's own calls were never lent is equal as a whole: Own.antt.)
 
 pub record Handed : Type 0 where
   pub out : List ℕ

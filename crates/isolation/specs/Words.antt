@@ -8,7 +8,7 @@ use Rattle.channel.specs.declared.ChannelState.{ChannelState}
 use Rattle.channel.specs.declared.ChannelState.the-variants.{Disconnected, Connecting, PeerConnecting, Connected, ConnectFailed, PeerDisconnecting, Disconnecting}
 use Rattle.channel.specs.declared.Table.{Table}
 use Rattle.definition.specs.Table.{isDisconnected, slotAt}
-use Rattle.definition.specs.Calls.{Call, frame, sends, down, plain, Request, register, signals, pends, rejectsAll, accepts, rejects, drops, creates, opens, gives, holds, releases, leaves, leavesCid, announces, takes, attends, asks, sendsSignal, writes, joining, holderIn, holder, isBy}
+use Rattle.definition.specs.Calls.{Call, frame, sends, portions, down, plain, Request, register, signals, pends, rejectsAll, accepts, rejects, drops, creates, opens, gives, holds, releases, leaves, leavesCid, announces, takes, starts, cancels, attends, asks, sendsSignal, writes, joining, holderIn, holder, isBy}
 use Rattle.definition.specs.Calls as Calls
 use Rattle.definition.specs.Public.{Assembling, joins-assembling}
 use Rattle.isolation.specs.Statement.{owns, assembling, jobs, carries, framesOut, takenFrom, jobOut}
@@ -30,6 +30,7 @@ pub jobs-is : (t : Table) (c : Call) → jobs t c ≡ Calls.jobs t c
 unfolding Calls.jobs
 jobs-is t (frame link cid payload) = refl
 jobs-is t (sends s sdu out) = refl
+jobs-is t (portions s octets out) = refl
 jobs-is t (down link) = refl
 jobs-is t (plain r out job) = refl
 
@@ -38,12 +39,14 @@ module _ (k : ℕ) (t : Table) where
   unfolding Calls.carrier
   carries-is (frame link cid payload) = refl
   carries-is (sends s sdu out) = owns-is k t s
+  carries-is (portions s octets out) = owns-is k t s
   carries-is (down link) = refl
   carries-is (plain r out job) = refl
 
   pub framesOut-is : (c : Call) → framesOut k t c ≡ isBy k (Calls.framesOut t c)
   framesOut-is (frame link cid payload) = refl
   framesOut-is (sends s sdu out) = owns-is k t s
+  framesOut-is (portions s octets out) = owns-is k t s
   framesOut-is (down link) = refl
   framesOut-is (plain r out job) = refl
 
@@ -64,6 +67,8 @@ module _ (k : ℕ) (t : Table) where
   takenFrom-is (leavesCid cid) = refl
   takenFrom-is announces = refl
   takenFrom-is (takes s) = owns-is k t s
+  takenFrom-is (starts s l) = refl
+  takenFrom-is (cancels s) = refl
   takenFrom-is attends = refl
   takenFrom-is (asks of s) = refl
   takenFrom-is (sendsSignal link s) = refl
@@ -72,6 +77,7 @@ module _ (k : ℕ) (t : Table) where
   pub jobOut-is : (c : Call) → jobOut k t c ≡ isBy k (Calls.jobOut t c)
   jobOut-is (frame link cid payload) = refl
   jobOut-is (sends s sdu out) = refl
+  jobOut-is (portions s octets out) = refl
   jobOut-is (down link) = refl
   jobOut-is (plain r out job) = takenFrom-is r
 

@@ -27,6 +27,7 @@ fn asked(link: u16, id: u8, req: LeCreditConnReq) -> Slot
     let account = x.account;
     let assembly = x.assembly;
     let queue = x.queue;
+    let job = x.job;
     let peer = Peer {
         cid: req.scid,
         mps: req.mps,
@@ -44,6 +45,7 @@ fn asked(link: u16, id: u8, req: LeCreditConnReq) -> Slot
         peer,
         assembly,
         queue,
+        job,
     }
 }
 

@@ -21,7 +21,8 @@ columnsIn x =
     (choose (eqb (x .kind) Kind.attention) (x .first ∷ x .second ∷ x .third ∷ [])  -- "the set, the number of slots calling, the lowest"
     (choose (eqb (x .kind) Kind.number) (x .first ∷ [])
     (choose (eqb (x .kind) Kind.event) (x .first ∷ x .second ∷ x .third ∷ x .fourth ∷ [])  -- "min max latency timeout"
-    []))))))))
+    (choose (eqb (x .kind) Kind.portion) (x .second ∷ x .third ∷ [])  -- "octets taken; 1 where a frame filled, 0 where not"
+    [])))))))))
 
 -- numbers of columns, at most four, and zeros behind them
 pub record Tells (count : ℕ) (numbers : List ℕ) (l : List ℕ) : Type 0 where

@@ -8,6 +8,7 @@ use channel_answer::FRAMES;
 use channel_answer::JOB;
 use channel_answer::NUMBER;
 use channel_answer::OPENED;
+use channel_answer::PORTION;
 use channel_answer::Told;
 ghost use Rattle.row_answer.specs.Told.{columnsIn, Tells};
 
@@ -74,6 +75,13 @@ pub fn columns_of(x: Told) -> Columns
         return Columns {
             count: 4,
             numbers: [x.first, x.second, x.third, x.fourth],
+        };
+    }
+    if kind == PORTION {
+        let full = x.third;
+        return Columns {
+            count: 2,
+            numbers: [x.second, full, 0, 0],
         };
     }
     Columns {

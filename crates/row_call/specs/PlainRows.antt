@@ -15,5 +15,5 @@ abbrev pub rowText : Answer → (octets : List ℕ) → List ℕ
 rowText a octets = answerText a octets ++ text "\n"
 
 -- and numbers behind them
-abbrev pub moreText : Answer → (more : List ℕ) → List ℕ
-moreText a more = (answerText a [] ++ columnsText more) ++ text "\n"
+abbrev pub moreText : Answer → (octets more : List ℕ) → List ℕ
+moreText a octets more = (answerText a octets ++ columnsText more) ++ text "\n"

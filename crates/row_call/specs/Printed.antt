@@ -1,20 +1,23 @@
 -- The rows of docs/CHANRUN.md, each with its newline: "for each call ANSWER OCTETS and the columns listed".
 pub use Rattle.row_call.specs.PlainRows.{badText, rowText, moreText}
 use mathlib.Core.List.{List, [], _∷_, _++_}
-use Prim.Native.Nat.{ℕ}
+use Prim.Native.Nat.{ℕ, _+_}
 use lib.Dec.{eqb}
 use lib.ListN.{take}
 use Rattle.text_write.specs.Text.{text}
 use Rattle.lists.specs.Choose.{choose}
 use Rattle.text_hex_write.specs.HexText.{hexText}
 use Rattle.row_answer.specs.Answers.{answerText}
+use Rattle.channel.specs.Limits.{frameHead}
 use Rattle.channel.specs.declared.Answer.{Answer}
+use Rattle.channel.specs.declared.Answer.the-variants.{Done}
+use Rattle.channel.specs.declared.OpenJob.{OpenJob}
 use Rattle.channel_answer.specs.Kinds as Kind
 use Rattle.channel_answer.specs.Tells.{tells}
 
 -- `O`: "1 where a hold was taken, 0 where nothing yet"
 unfoldable pub openedText : Answer → List ℕ
-openedText a = choose (eqb (tells a .kind) Kind.done) (moreText a (0 ∷ [])) (rowText a [])
+openedText a = choose (eqb (tells a .kind) Kind.done) (moreText a [] (0 ∷ [])) (rowText a [])
 
 -- `B`: "copied, job length, the credit signal's octets or `-`; none of these where no job waits"
 abbrev jobText : Answer → (job signal : List ℕ) → List ℕ
@@ -27,5 +30,13 @@ takenText a job signal = choose (eqb (tells a .kind) Kind.job) (jobText a (take 
 unfoldable pub queriesText : (spsm mtu mps peerMtu peerMps : Answer) → List ℕ
 queriesText spsm mtu mps peerMtu peerMps =
     choose (eqb (tells spsm .kind) Kind.number)
-    (moreText spsm (tells mtu .first ∷ tells mps .first ∷ tells peerMtu .first ∷ tells peerMps .first ∷ []))
+    (moreText spsm [] (tells mtu .first ∷ tells mps .first ∷ tells peerMtu .first ∷ tells peerMps .first ∷ []))
     (rowText spsm [])
+
+-- `n`: "the frame being filled as it stands in the buffer: its first 4 + FILLED octets; `-` where FILLED is 0"
+unfoldable pub standing : OpenJob → ℕ
+standing j = choose (eqb (j .filled) 0) 0 (frameHead + j .filled)
+
+-- "LENGTH TAKEN FILLED ASIDE"
+unfoldable pub fillingText : OpenJob → (buffer : List ℕ) → List ℕ
+fillingText j buffer = moreText Done (take (standing j) buffer) (j .length ∷ j .taken ∷ j .filled ∷ j .aside ∷ [])

@@ -4,11 +4,14 @@
 mod plain;
 
 use channel::Answer;
+use channel::FRAME_HEAD;
+use channel::OpenJob;
 use channel_answer::DONE;
 use channel_answer::JOB;
 use channel_answer::NUMBER;
 use channel_answer::tells;
 pub use plain::answered;
+use plain::answered_more;
 pub use plain::bad;
 pub use plain::first;
 pub use plain::told;
@@ -16,8 +19,9 @@ use plain::told_more;
 use row_answer::write_answer;
 use text_hex_write::write_hex;
 use text_write::write_character;
+ghost use mathlib.Core.Path.{_≡_};
 ghost use Rattle.text_write.specs.Rows.{Writes};
-ghost use Rattle.row_call.specs.Printed.{openedText, takenText, queriesText};
+ghost use Rattle.row_call.specs.Printed.{openedText, takenText, queriesText, standing, fillingText};
 
 // `O`: where nothing is to be told yet, 0 is.
 pub fn opened(row: &mut [u8], a: Answer) -> usize
@@ -72,4 +76,28 @@ pub fn queried(
     } else {
         told(row, spsm)
     }
+}
+
+// The octets that stand in an open job's buffer: the header and what the frame has of its payload.
+fn standing(j: OpenJob) -> usize
+    ensures { λ r. ⌜ r ≡ standing j ⌝ }
+{
+    if j.filled == 0 {
+        0
+    } else {
+        FRAME_HEAD + j.filled as usize
+    }
+}
+
+// `n`: the frame that is being filled, and the four numbers of the open job.
+pub fn filling(row: &mut [u8], j: OpenJob, buffer: &[u8]) -> usize
+    ensures { λ r. ⌜ Writes (now (row .entry)) 0 (fillingText j (now (buffer .entry))) r (now (row .exit)) ⌝ }
+{
+    let n = standing(j);
+    answered_more(
+        row,
+        Answer::Done,
+        first(buffer, n),
+        &[j.length, j.taken, j.filled, j.aside],
+    )
 }

@@ -4,16 +4,19 @@ use mathlib.Core.Bool.{Bool, true, false, _&&_, not, false≢true, and-false}
 use mathlib.Core.List.{List, []}
 use Prim.Native.Nat.{ℕ, _+_, _-_, _≤_, _<_, min}
 use native.Mathlib.Omega.{arith}
-use lib.Dec.{eqb}
-use lib.ListN.{length, take, drop, length-take, length-drop}
-use borrow.Author.Tests.{ltb-false, leb-false, eqb-true, eqb-false, not-true, not-false, eq-eqb, ne-eqb}
+use lib.Dec.{eqb, ltb}
+use lib.ListN.{length, getD, take, drop, length-take, length-drop, List·getD-eq-default}
+use lib.Seq.{getD-take, getD-drop}
+use borrow.Author.Tests.{ltb-true, ltb-false, leb-false, eqb-true, eqb-false, not-true, not-false, eq-eqb, ne-eqb}
 use Rattle.lists.specs.Choose.{choose, choose-true, choose-false, if-cases}
 use Rattle.octets.specs.Octets.{u16At}
+use Rattle.codes.specs.Codes.{resultOf}
 use Rattle.codes.specs.declared.ResultRead.{ResultRead}
 use Rattle.codes.specs.declared.ResultRead.the-variants.{Known, Unknown}
 use Rattle.credit.specs.declared.Grant.{Grant}
 use Rattle.credit.specs.declared.Grant.the-variants as Grant
 use Rattle.credit.specs.Account.{grantOf}
+use Rattle.signal_headers.specs.Headers.{bodyIn}
 use Rattle.signal_headers.specs.declared.Checked.{Checked}
 use Rattle.signal_headers.specs.declared.Checked.the-variants.{Good, Cut, Past}
 use Rattle.signal_bodies.specs.declared.CommandRejectResRead.{CommandRejectResRead}
@@ -32,6 +35,7 @@ use Rattle.signal_bodies.specs.declared.le_credit.LeCreditConnResRead.{LeCredit
 use Rattle.signal_bodies.specs.declared.le_credit.LeCreditConnResRead.the-variants as LeCreditConnRes
 use Rattle.signal_bodies.specs.declared.le_credit.LeCreditFlowIndRead.{LeCreditFlowIndRead}
 use Rattle.signal_bodies.specs.declared.le_credit.LeCreditFlowIndRead.the-variants as LeCreditFlowInd
+use Rattle.signal_bodies.specs.LeCreditBodies.{leCreditConnReq, resIf, leCreditConnRes}
 use Rattle.signal_forms.specs.declared.Signal.{Signal}
 use Rattle.signal_forms.specs.declared.Signal.the-variants as Signal
 use Rattle.channel.specs.Limits.{creditsMost}
@@ -49,16 +53,17 @@ use Rattle.definition.specs.Opening.{create, opened, giveUp}
 use Rattle.definition.specs.Closing.{incRef, decRef, disconnecting, disconnect, disconnectByCid, disconnected, nextDisconnect}
 use Rattle.definition.specs.Signals.{signalled, checked, handled, onReject, onDisconnectionReq, onDisconnectionRes, onParameters, onParameterResponse, onConnReq, onConnRes, onCredits}
 use Rattle.definition.specs.Frames.{dispatch, send, receive, taken, grantIn}
+use Rattle.definition.specs.Portions.{startJob, givePortion, cancelJob}
 use Rattle.definition.specs.Asking.{registerSpsm, attention, query, sendSignal}
-use Rattle.definition.specs.Calls.{Call, frame, sends, down, plain, Request, register, signals, pends, rejectsAll, accepts, rejects, drops, creates, opens, gives, holds, releases, leaves, leavesCid, announces, takes, attends, asks, sendsSignal, writes, jobs, bare, joining, decide, serve}
+use Rattle.definition.specs.Calls.{Call, frame, sends, portions, down, plain, Request, register, signals, pends, rejectsAll, accepts, rejects, drops, creates, opens, gives, holds, releases, leaves, leavesCid, announces, takes, starts, cancels, attends, asks, sendsSignal, writes, jobs, bare, joining, decide, serve}
 use Rattle.definition.specs.Tells.{cid-within}
-use Rattle.rules.specs.Run.{offers, SettingFits, Fits}
+use Rattle.rules.specs.Run.{SettingFits, Octets, RequestFits, Fits}
 use Rattle.lists.specs.Both.{and-left, and-right, and-both}
-use Rattle.rules.specs.Tests.{begun, begun-live, connected-begun, due-begun, attempt-live, attempt-unbegun, takes-begun}
-use Rattle.rules.specs.Step.{same, grant, keep, leave, hand, hold, go, accept, free, allocate, kept, refused, told, rest, passes, Stepped}
-use Rattle.rules.specs.Forms.{goes-on, found-passes, stepped-still, stepped-spent, stepped-change, stepped-change-spent, stepped-sweep, stepped-gate}
+use Rattle.rules.specs.Tests.{begun, begun-live, connected-begun, due-begun, attempt-live, attempt-unbegun, takes-begun, unbegun-off, due-off}
+use Rattle.rules.specs.Step.{same, grant, keep, leave, hand, stay, off, meet, shut, gain, portion, cancel, hold, go, accept, free, allocate, kept, refused, told, rest, passes, Stepped}
+use Rattle.rules.specs.Forms.{goes-on, found-passes, stepped-still, stepped-spent, stepped-change, stepped-change-spent, stepped-filling, stepped-sweep, stepped-gate}
 use Rattle.rules.specs.Sound.{Sound}
-use Rattle.rules.specs.Join.{Headed, step-joins, plan-passes, stepped-joined, stepped-planned}
+use Rattle.rules.specs.Join.{Headed, step-joins, plan-passes, stepped-joined, stepped-planned, stepped-started}
 
 -- the credits that a call offers, or D of them
 credits-fit : (usual : ℕ) (c : Setting) → usual ≤ creditsMost → SettingFits c → settled usual c + 0 ≤ creditsMost
@@ -73,6 +78,40 @@ granted-in x n = by-state (isConnected (x .state))
     by-state : (b : Bool) → choose b (grantOf (x .account)) Grant.Nothing ≡ Grant.Credits n → grantOf (x .account) ≡ Grant.Credits n
     by-state true e = sym (choose-true true _ _ refl) ∙ e
     by-state false e = let z : Grant.Nothing ≡ Grant.Credits n = sym (choose-false false _ _ refl) ∙ e in cc
+
+-- ---- what a PDU gives: numbers of two octets
+
+two-octets : (xs : List ℕ) → Octets xs → (k : ℕ) → u16At xs k ≤ creditsMost
+two-octets xs o k = omega (arith, o k, o (k + 1))
+
+body-octets : (pdu : List ℕ) → Octets pdu → Octets (bodyIn pdu)
+body-octets pdu o k = by (ltb k (u16At pdu 2)) refl
+  where
+    by : (b : Bool) → ltb k (u16At pdu 2) ≡ b → getD (bodyIn pdu) k 0 < 256
+    by true e = rw (getD-take (u16At pdu 2) (drop 4 pdu) k 0 (ltb-true _ _ e), getD-drop 4 pdu k 0) (o (4 + k))
+    by false e =
+        let past : length (bodyIn pdu) ≤ k = omega (arith, length-take (u16At pdu 2) (drop 4 pdu), ltb-false k (u16At pdu 2) e) in
+        rw (List·getD-eq-default (bodyIn pdu) 0 past) (omega arith)
+
+abbrev RequestGives : LeCreditConnReqRead → Type 0
+RequestGives LeCreditConnReq.Decode = Unit {0}
+RequestGives (LeCreditConnReq.Is req) = req .credits ≤ creditsMost
+
+abbrev ResponseGives : LeCreditConnResRead → Type 0
+ResponseGives LeCreditConnRes.Decode = Unit {0}
+ResponseGives (LeCreditConnRes.Is res) = res .credits ≤ creditsMost
+
+request-gives : (body : List ℕ) → Octets body → RequestGives (leCreditConnReq body)
+unfolding leCreditConnReq
+request-gives body o = if-cases RequestGives _ (λ _. two-octets body o 8) (λ _. tt)
+
+response-gives : (body : List ℕ) → Octets body → ResponseGives (leCreditConnRes body)
+unfolding leCreditConnRes
+response-gives body o = if-cases ResponseGives _ (λ _. by (resultOf (u16At body 8))) (λ _. tt)
+  where
+    by : (r : ResultRead) → ResponseGives (resIf r body)
+    by (Known c) = two-octets body o 6
+    by Unknown = tt
 
 -- ---- what a slot's tests tell
 
@@ -133,6 +172,8 @@ module _ (t : Table) (k room : ℕ) (l : t .n ≤ length (t .slots)) (well : wel
         sum = credits-fit (t .d) (c .credits) hd f;
         assembly = refl;
         queue = refl;
+        peer = refl;
+        job = refl;
       })) _ _ refl)))))
 
   reject-pending : (signal s : ℕ) (result : ResultRead) → Stepped t k (rejectRead t room signal s result)
@@ -171,6 +212,8 @@ module _ (t : Table) (k room : ℕ) (l : t .n ≤ length (t .slots)) (well : wel
         sum = credits-fit (t .d) (c .credits) hd f;
         assembly = refl;
         queue = refl;
+        peer = omega arith;
+        job = refl;
       })) _ _ refl (told (Signal.LeCreditConnReq (record { spsm = spsm; scid = cidOf (found isFree t); mtu = mtuOf t c; mps = mpsOf t c; credits = creditsOf t c })))))))
 
   opened-steps : (s link : ℕ) (up : Bool) → Stepped t k (opened t room s link up)
@@ -203,12 +246,12 @@ module _ (t : Table) (k room : ℕ) (l : t .n ≤ length (t .slots)) (well : wel
       stepped-gate t k _ _ _ _ well sized
       (λ h. if-cases P _ (λ _. stays refl)
       (λ _. if-cases P _
-      (λ e. stepped-change t k s _ _ h l (go (goes-on (connected-live (slotAt t s) (and-left (isConnected (slotAt t s .state)) (eqb (slotAt t s .hold) 1) e)) refl refl) same leave) _ _ refl)
+      (λ e. stepped-change t k s _ _ h l (go (goes-on (connected-live (slotAt t s) (and-left (isConnected (slotAt t s .state)) (eqb (slotAt t s .hold) 1) e)) refl refl) same leave shut) _ _ refl)
       (λ _. stepped-change t k s _ _ h l (hold _) _ _ refl)))
 
   leaves-steps : (s : ℕ) → s < t .n → Stepped t k (disconnecting t s)
   unfolding disconnecting
-  leaves-steps s h = if-cases P _ (λ e. stepped-change t k s _ _ h l (go (goes-on (connected-live (slotAt t s) e) refl refl) same leave) _ _ refl) (λ _. stays refl)
+  leaves-steps s h = if-cases P _ (λ e. stepped-change t k s _ _ h l (go (goes-on (connected-live (slotAt t s) e) refl refl) same leave shut) _ _ refl) (λ _. stays refl)
 
   disconnect-steps : (s : ℕ) → Stepped t k (disconnect t room s)
   unfolding disconnect
@@ -232,14 +275,14 @@ module _ (t : Table) (k room : ℕ) (l : t .n ≤ length (t .slots)) (well : wel
       let h = leb-false (t .n) s e in
       let b = due-begun (slotAt t s .state) (found-passes dueSlot t l h) in
       if-cases P _ (λ _. stepped-change t k s _ _ h l (free _) _ _ refl)
-      (λ _. stepped-change-spent t k s _ _ h l (go (goes-on (begun-live (slotAt t s .state) b) refl refl) same keep) _ _ refl (told (Signal.DisconnectionReq (record { dcid = slotAt t s .peer .cid; scid = cidOf s }))))))
+      (λ _. stepped-change-spent t k s _ _ h l (go (goes-on (begun-live (slotAt t s .state) b) refl refl) same keep (off (due-off (slotAt t s .state) (found-passes dueSlot t l h)))) _ _ refl (told (Signal.DisconnectionReq (record { dcid = slotAt t s .peer .cid; scid = cidOf s }))))))
 
   -- ---- signals
 
-  on-conn-req : (link : ℕ) (listening : Bool) (id : ℕ) (r : LeCreditConnReqRead) → Stepped t k (onConnReq t link listening id r)
+  on-conn-req : (link : ℕ) (listening : Bool) (id : ℕ) (r : LeCreditConnReqRead) → RequestGives r → Stepped t k (onConnReq t link listening id r)
   unfolding onConnReq
-  on-conn-req link listening id LeCreditConnReq.Decode = stays refl
-  on-conn-req link listening id (LeCreditConnReq.Is req) =
+  on-conn-req link listening id LeCreditConnReq.Decode few = stays refl
+  on-conn-req link listening id (LeCreditConnReq.Is req) few =
       if-cases P _ (λ _. stays refl)
       (λ _. if-cases P _ (λ _. stays refl)
       (λ _. if-cases P _ (λ _. stays refl)
@@ -257,21 +300,23 @@ module _ (t : Table) (k room : ℕ) (l : t .n ≤ length (t .slots)) (well : wel
         sum = omega arith;
         assembly = refl;
         queue = refl;
+        peer = few;
+        job = refl;
       })) _ _ refl))))
 
-  on-conn-res : (link id : ℕ) (r : LeCreditConnResRead) → Stepped t k (onConnRes t link id r)
+  on-conn-res : (link id : ℕ) (r : LeCreditConnResRead) → ResponseGives r → Stepped t k (onConnRes t link id r)
   unfolding onConnRes
-  on-conn-res link id LeCreditConnRes.Decode = stays refl
-  on-conn-res link id (LeCreditConnRes.Is res) =
+  on-conn-res link id LeCreditConnRes.Decode few = stays refl
+  on-conn-res link id (LeCreditConnRes.Is res) few =
       if-cases P _ (λ _. stepped-sweep t k (attemptOf link) _ refl)
       (λ e.
       let s = found (attemptBy link id) t in
       let h = leb-false (t .n) s e in
       let c = attempt-slot link id (slotAt t s) (found-passes (attemptBy link id) t l h) in
       if-cases P _
-      (λ _. stepped-change t k s _ _ h l (go (goes-on (attempt-live (slotAt t s .state) c) refl refl) same keep) _ _ refl)
+      (λ _. stepped-change t k s _ _ h l (go (goes-on (attempt-live (slotAt t s .state) c) refl refl) same keep (meet (unbegun-off (slotAt t s .state) (attempt-unbegun (slotAt t s .state) c)) few)) _ _ refl)
       (λ _. stepped-change t k s _ _ h l
-      (go (record { was = attempt-live (slotAt t s .state) c; is = refl; stays = λ b. absurd (false≢true (sym (attempt-unbegun (slotAt t s .state) c) ∙ b)); mtu = refl }) same keep) _ _ refl))
+      (go (record { was = attempt-live (slotAt t s .state) c; is = refl; stays = λ b. absurd (false≢true (sym (attempt-unbegun (slotAt t s .state) c) ∙ b)); mtu = refl }) same keep (off (unbegun-off (slotAt t s .state) (attempt-unbegun (slotAt t s .state) c)))) _ _ refl))
 
   on-credits : (link id : ℕ) (r : LeCreditFlowIndRead) → Stepped t k (onCredits t link id r)
   unfolding onCredits
@@ -283,8 +328,9 @@ module _ (t : Table) (k room : ℕ) (l : t .n ≤ length (t .slots)) (well : wel
       let h = leb-false (t .n) s e in
       let c = connected-slot link (ind .cid) (slotAt t s) (found-passes (connectedTo link (ind .cid)) t l h) in
       if-cases P _
-      (λ _. stepped-change t k s _ _ h l (go (goes-on (connected-live (slotAt t s) c) refl refl) same leave) _ _ refl)
-      (λ _. stepped-change t k s _ _ h l (go (goes-on (connected-live (slotAt t s) c) (connected-begun (slotAt t s .state) c) refl) same keep) _ _ refl))
+      (λ _. stepped-change t k s _ _ h l (go (goes-on (connected-live (slotAt t s) c) refl refl) same leave shut) _ _ refl)
+      (λ f. stepped-change t k s _ _ h l
+      (go (goes-on (connected-live (slotAt t s) c) (connected-begun (slotAt t s .state) c) refl) same keep (gain (ind .credits) (ltb-false _ _ f))) _ _ refl))
 
   on-disconnection-req : (link id : ℕ) (r : DisconnectionReqRead) → Stepped t k (onDisconnectionReq t link id r)
   unfolding onDisconnectionReq
@@ -293,7 +339,7 @@ module _ (t : Table) (k room : ℕ) (l : t .n ≤ length (t .slots)) (well : wel
       if-cases P _ (λ _. stays refl)
       (λ e. if-cases P _ (λ _. stays refl)
       (λ f. stepped-change t k (slotOf (req .dcid)) _ _ (cid-within t (req .dcid) (not-false _ e)) l
-      (go (goes-on (link-slot link (slotAt t (slotOf (req .dcid))) (not-false _ f)) refl refl) same leave) _ _ refl))
+      (go (goes-on (link-slot link (slotAt t (slotOf (req .dcid))) (not-false _ f)) refl refl) same leave shut) _ _ refl))
 
   on-disconnection-res : (link id : ℕ) (r : DisconnectionResRead) → Stepped t k (onDisconnectionRes t link id r)
   unfolding onDisconnectionRes
@@ -318,40 +364,40 @@ module _ (t : Table) (k room : ℕ) (l : t .n ≤ length (t .slots)) (well : wel
   on-parameter-response id ConnParamUpdateRes.Decode = stays refl
   on-parameter-response id (ConnParamUpdateRes.Is res) = stays refl
 
-  handled-steps : (link : ℕ) (listening central : Bool) (code id : ℕ) (body : List ℕ) → Stepped t k (handled t link listening central code id body)
+  handled-steps : (link : ℕ) (listening central : Bool) (code id : ℕ) (body : List ℕ) → Octets body → Stepped t k (handled t link listening central code id body)
   unfolding handled
-  handled-steps link listening central code id body =
+  handled-steps link listening central code id body octets =
       if-cases P _ (λ _. on-reject id _)
       (λ _. if-cases P _ (λ _. on-disconnection-req link id _)
       (λ _. if-cases P _ (λ _. on-disconnection-res link id _)
       (λ _. if-cases P _ (λ _. if-cases P _ (λ _. on-parameters id _) (λ _. stays refl))
       (λ _. if-cases P _ (λ _. on-parameter-response id _)
-      (λ _. if-cases P _ (λ _. on-conn-req link listening id _)
-      (λ _. if-cases P _ (λ _. on-conn-res link id _)
+      (λ _. if-cases P _ (λ _. on-conn-req link listening id _ (request-gives body octets))
+      (λ _. if-cases P _ (λ _. on-conn-res link id _ (response-gives body octets))
       (λ _. if-cases P _ (λ _. on-credits link id _) (λ _. stays refl))))))))
 
-  checked-steps : (link : ℕ) (listening central : Bool) (pdu : List ℕ) (c : Checked) → Stepped t k (checked t link listening central pdu c)
+  checked-steps : (link : ℕ) (listening central : Bool) (pdu : List ℕ) → Octets pdu → (c : Checked) → Stepped t k (checked t link listening central pdu c)
   unfolding checked
-  checked-steps link listening central pdu Cut = stays refl
-  checked-steps link listening central pdu (Past id) = stays refl
-  checked-steps link listening central pdu Good = if-cases P _ (λ _. stays refl) (λ _. handled-steps link listening central _ _ _)
+  checked-steps link listening central pdu octets Cut = stays refl
+  checked-steps link listening central pdu octets (Past id) = stays refl
+  checked-steps link listening central pdu octets Good = if-cases P _ (λ _. stays refl) (λ _. handled-steps link listening central _ _ _ (body-octets pdu octets))
 
-  signalled-steps : (signal link : ℕ) (listening central : Bool) (pdu : List ℕ) → Stepped t k (signalled t room signal link listening central pdu)
+  signalled-steps : (signal link : ℕ) (listening central : Bool) (pdu : List ℕ) → Octets pdu → Stepped t k (signalled t room signal link listening central pdu)
   unfolding signalled
-  signalled-steps signal link listening central pdu = stepped-gate t k _ _ _ _ well sized (λ _. checked-steps link listening central pdu _)
+  signalled-steps signal link listening central pdu octets = stepped-gate t k _ _ _ _ well sized (λ _. checked-steps link listening central pdu octets _)
 
   -- ---- frames and jobs
 
   -- a take's outcome is that of the change, but for what is copied out
-  with-job : {o : Outcome} (j : List Fill) → Stepped t k o → Stepped t k (record { answer = o .answer; table = o .table; parts = o .parts; out = o .out; job = j })
+  with-job : {o : Outcome} (j : List Fill) → Stepped t k o → Stepped t k (record { answer = o .answer; table = o .table; parts = o .parts; at = o .at; out = o .out; octets = o .octets; job = j })
   with-job j p = record { answer = p .answer; n = p .n; d = p .d; m = p .m; long = p .long; identifier = p .identifier; slots = p .slots }
 
   taken-steps : (s size : ℕ) → s < t .n → begun (slotAt t s .state) ≡ true → 0 < slotAt t s .queue .count → (g : Grant)
       → ((n : ℕ) → g ≡ Grant.Credits n → grantOf (slotAt t s .account) ≡ Grant.Credits n) → Stepped t k (taken t s (slotAt t s) size g)
   unfolding taken
-  taken-steps s size h b c Grant.Nothing f = with-job _ (stepped-change t k s _ _ h l (go (goes-on (begun-live (slotAt t s .state) b) b refl) same (hand b c)) _ _ refl)
+  taken-steps s size h b c Grant.Nothing f = with-job _ (stepped-change t k s _ _ h l (go (goes-on (begun-live (slotAt t s .state) b) b refl) same (hand b c) stay) _ _ refl)
   taken-steps s size h b c (Grant.Credits n) f =
-      with-job _ (stepped-change-spent t k s _ _ h l (go (goes-on (begun-live (slotAt t s .state) b) b refl) (grant (f n refl)) (hand b c)) _ _ refl (told (Signal.LeCreditFlowInd (record { cid = cidOf s; credits = n }))))
+      with-job _ (stepped-change-spent t k s _ _ h l (go (goes-on (begun-live (slotAt t s .state) b) b refl) (grant (f n refl)) (hand b c) stay) _ _ refl (told (Signal.LeCreditFlowInd (record { cid = cidOf s; credits = n }))))
 
   receive-steps : (signal s size : ℕ) → Stepped t k (receive t room signal s size)
   unfolding receive
@@ -383,7 +429,44 @@ module _ (t : Table) (k room : ℕ) (l : t .n ≤ length (t .slots)) (well : wel
   send-steps : (s size out : ℕ) → Stepped t k (send t s size out)
   unfolding send
   send-steps s size out =
-      stepped-gate t k _ _ _ _ well refl (λ h. if-cases P _ (λ _. stays refl) (λ c. stepped-planned t k s h l (not-false (isConnected (slotAt t s .state)) c) size _ (plan-passes size _ _ _ _)))
+      stepped-gate t k _ _ _ _ well refl
+      (λ h. if-cases P _ (λ _. stays refl)
+      (λ c. if-cases P _ (λ _. stays refl) (λ _. stepped-planned t k s h l (not-false (isConnected (slotAt t s .state)) c) size _ (plan-passes size _ _ _ _))))
+
+  -- ---- jobs handed over in portions
+
+  start-steps : (s size out : ℕ) → Stepped t k (startJob t s size out)
+  unfolding startJob
+  start-steps s size out =
+      stepped-gate t k _ _ _ _ well refl
+      (λ h. if-cases P _ (λ _. stays refl)
+      (λ c. if-cases P _ (λ _. stays refl)
+      (λ _. stepped-started t k s h l (not-false (isConnected (slotAt t s .state)) c) size out _ (plan-passes size _ _ _ _) refl)))
+
+  portion-steps : (s count out : ℕ) → Stepped t k (givePortion t s count out)
+  unfolding givePortion
+  portion-steps s count out =
+      stepped-gate t k _ _ _ _ well refl
+      (λ h. if-cases P _ (λ _. stays refl)
+      (λ c. if-cases P _ (λ _. stays refl)
+      (λ o. if-cases P _ (λ _. stays refl)
+      (λ _. if-cases P _ (λ _. stays refl)
+      (λ f.
+      let x = slotAt t s in
+      let on = not-false (isConnected (x .state)) c in
+      stepped-filling t k s _ [] h l
+      (go (goes-on (connected-live x on) (connected-begun (x .state) on) refl) same keep (portion count on (ltb-true 0 (x .job .aside) (not-false _ o)) (ltb-false _ _ f))) _ _ _ _ refl refl)))))
+
+  cancel-steps : (s : ℕ) → Stepped t k (cancelJob t room s)
+  unfolding cancelJob
+  cancel-steps s =
+      stepped-gate t k _ _ _ _ well sized
+      (λ h. if-cases P _ (λ _. stays refl)
+      (λ c. if-cases P _ (λ _. stays refl)
+      (λ _.
+      let on = not-false (isConnected (slotAt t s .state)) c in
+      if-cases P _ (λ _. stepped-change t k s _ _ h l (go (goes-on (connected-live (slotAt t s) on) (connected-begun (slotAt t s .state) on) refl) same keep cancel) _ _ refl)
+      (λ _. stepped-change t k s _ _ h l (go (goes-on (connected-live (slotAt t s) on) refl refl) same leave shut) _ _ refl))))
 
   -- ---- calls that change no slot
 
@@ -407,10 +490,10 @@ module _ (t : Table) (k room : ℕ) (l : t .n ≤ length (t .slots)) (well : wel
 
   -- ---- all of them
 
-  serve-steps : (r : Request) → t .d ≤ creditsMost → SettingFits (offers r) → (out job : ℕ) → Stepped t k (serve t r room out job)
+  serve-steps : (r : Request) → t .d ≤ creditsMost → RequestFits r → (out job : ℕ) → Stepped t k (serve t r room out job)
   unfolding serve
   serve-steps (register spsm) hd f out job = register-steps spsm
-  serve-steps (signals link listening central pdu) hd f out job = signalled-steps out link listening central pdu
+  serve-steps (signals link listening central pdu) hd f out job = signalled-steps out link listening central pdu f
   serve-steps (pends link up) hd f out job = next-pending link up
   serve-steps (rejectsAll link) hd f out job = reject-all out link
   serve-steps (accepts s c) hd f out job = accept-pending out s c hd f
@@ -425,6 +508,8 @@ module _ (t : Table) (k room : ℕ) (l : t .n ≤ length (t .slots)) (well : wel
   serve-steps (leavesCid cid) hd f out job = disconnect-by-cid cid
   serve-steps announces hd f out job = next-disconnect out
   serve-steps (takes s) hd f out job = receive-steps out s job
+  serve-steps (starts s size) hd f out job = start-steps s size out
+  serve-steps (cancels s) hd f out job = cancel-steps s
   serve-steps attends hd f out job = attention-steps
   serve-steps (asks of s) hd f out job = query-steps of s
   serve-steps (sendsSignal link s) hd f out job = send-signal out link s
@@ -456,5 +541,6 @@ pub decide-steps : (t : Table) (c : Call) (room : ℕ) → t .n ≤ length (t .s
 unfolding decide bare jobs
 decide-steps t (frame link cid payload) room l well size hd sound f out job = dispatch-steps t _ room l well size link cid _ sound (headed t cid payload)
 decide-steps t (sends s sdu w) room l well size hd sound f out job = send-steps t _ room l well size s (length sdu) out
+decide-steps t (portions s octets w) room l well size hd sound f out job = portion-steps t _ room l well size s (length octets) out
 decide-steps t (down link) room l well size hd sound f out job = link-down t _ room l well size link
 decide-steps t (plain r w v) room l well size hd sound f out job = serve-steps t _ room l well size r hd f out job

@@ -1,4 +1,4 @@
--- The three forms of an outcome and the gate before them, as steps: what a call's proof cites. Each is a law of lists.
+-- The forms of an outcome and the gate before them, as steps: what a call's proof cites. Each is a law of lists.
 use mathlib.Core.Path.{_≡_, refl, sym, ap, _∙_, subst}
 use mathlib.Core.Bool.{Bool, true, false, not, false≢true}
 use mathlib.Core.List.{List, [], _∷_, map}
@@ -19,7 +19,7 @@ use Rattle.channel.specs.declared.Table.{Table}
 use Rattle.channel.specs.declared.Verdict.{Verdict}
 use Rattle.definition.specs.Mem.{Fill, Move, wipe}
 use Rattle.definition.specs.Table.{gap, slotAt, live, found, isDisconnected, freed, spent, roomSize, wellFormed}
-use Rattle.definition.specs.Outcome.{Outcome, still, change, sweep, only, refuse, fails, verdict, passed, gate}
+use Rattle.definition.specs.Outcome.{Outcome, still, change, filling, sweep, only, refuse, fails, verdict, passed, gate}
 use Rattle.definition.specs.Tells.{InUse, given-in-use}
 use Rattle.rules.specs.Tests.{begun, begun-live}
 use Rattle.rules.specs.Step.{Goes, Step, hold, free, Steps, rest, next, Numbered, kept, passes, Stepped}
@@ -68,6 +68,11 @@ module _ (t : Table) (k s : ℕ) (y : Slot) (ms : List Move) (h : s < t .n) (l :
 
   pub stepped-change-spent : (a : Answer) (out : List Fill) → passes a ≡ true → Numbered t (spent t .identifier) out → Stepped t k (change (spent t) s y ms a out)
   stepped-change-spent a out ok i = record { answer = ok; n = refl; d = refl; m = refl; long = length-set (t .slots) s y; identifier = i; slots = one }
+
+  -- a job's frame buffer is filled
+  pub stepped-filling : (a : Answer) (at : ℕ) (out : List Fill) (octets : ℕ) → passes a ≡ true → ms ≡ [] → Stepped t k (filling t s y a at out octets)
+  stepped-filling a at out octets ok e =
+      record { answer = ok; n = refl; d = refl; m = refl; long = length-set (t .slots) s y; identifier = kept; slots = rw e at one }
 
 -- a connection that has begun, or begins, goes on
 pub goes-on : {x y : Slot} → isDisconnected (x .state) ≡ false → begun (y .state) ≡ true → y .mtu ≡ x .mtu → Goes x y

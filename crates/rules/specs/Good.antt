@@ -1,21 +1,23 @@
 -- What is true of every state that a run reaches, the octets of the room apart: a made table has it, and every call keeps it.
 use mathlib.Core.Path.{_≡_, refl, _∙_, subst}
-use mathlib.Core.Bool.{true, not}
+use mathlib.Core.Bool.{Bool, true, false, _&&_, _||_, not}
 use mathlib.Core.List.{List, [], _∷_}
-use Prim.Native.Nat.{ℕ, zero, suc, _-_, _≤_, _<_}
+use Prim.Native.Nat.{ℕ, zero, suc, _+_, _-_, _≤_, _<_}
 use native.Mathlib.Nat.{not-suc-le-zero, le-of-suc-le-suc}
 use native.Mathlib.Omega.{arith}
 use lib.Dec.{eqb, leb}
 use lib.ListN.{length, getD, take, replicate, length-map}
-use borrow.Author.Tests.{leb-true, le-leb, eqb-true, eqb-false, not-false}
+use borrow.Author.Tests.{leb-true, ltb-true, le-leb, eqb-true, eqb-false, not-false}
 use Rattle.lists.specs.Choose.{if-cases}
 use Rattle.lists.specs.Every.{every}
 use Rattle.channel.specs.Limits.{slotsMost, depthMost, packetLeast, packetMost, creditsMost, identifierMost, jobHead}
 use Rattle.channel.specs.declared.Answer.the-variants.{Done}
+use Rattle.channel.specs.declared.OpenJob.{OpenJob}
+use Rattle.channel.specs.declared.Peer.{Peer}
 use Rattle.channel.specs.declared.Slot.{Slot}
 use Rattle.channel.specs.declared.Table.{Table}
 use Rattle.definition.specs.Mem.{Fill, parts}
-use Rattle.definition.specs.Table.{placeOf, width, roomSize, gap, fresh, slotAt, live, sizesFit, slotFits, wellFormed, nextId, spent}
+use Rattle.definition.specs.Table.{placeOf, width, roomSize, gap, fresh, slotAt, live, sizesFit, isOpen, jobFits, slotFits, wellFormed, nextId, spent}
 use Rattle.definition.specs.Outcome.{Outcome}
 use Rattle.definition.specs.Asking.{Made, make, blank}
 use Rattle.definition.specs.Calls.{Call, jobs, bare, decide}
@@ -25,7 +27,7 @@ use Rattle.rules.specs.Run.{Fits, Reached, start, next}
 use Rattle.lists.specs.Both.{and-left, and-right, and-both}
 use Rattle.rules.specs.Step.{Numbered, kept, refused, told, Stepped}
 use Rattle.rules.specs.Forms.{live-at, live-length}
-use Rattle.rules.specs.Sound.{Sound, AllSound}
+use Rattle.rules.specs.Sound.{Owing, Sound, AllSound}
 use Rattle.rules.specs.Every.{decide-steps}
 use Rattle.rules.specs.Keep.{sound-fresh, steps-sound}
 
@@ -80,13 +82,23 @@ module _ {t : Table} {room : List ℕ} (g : Good t room) where
 
 -- ---- refusal 1 finds nothing
 
+owing-fits : {connected : Bool} {p : Peer} {j : OpenJob} → Owing connected p j → jobFits (p .mps) j ≡ true
+owing-fits {p = p} {j} o = by (isOpen j) refl
+  where
+    by : (b : Bool) → isOpen j ≡ b → (not b || (leb (j .taken) (j .length) && (leb (j .filled) (p .mps) && leb (j .filled) (j .taken + 2)))) ≡ true
+    by false e = refl
+    by true e =
+        let some = ltb-true 0 (j .aside) e in
+        and-both _ _ (le-leb _ _ (o .taken some)) (and-both _ _ (le-leb _ _ (o .filled some .0)) (le-leb _ _ (o .filled some .1)))
+
 sound-fits : (d p : ℕ) (x : Slot) → Sound d p x → slotFits d p x ≡ true
 unfolding slotFits
 sound-fits d p x s =
     and-both _ _ (le-leb _ _ (s .holding .count))
     (and-both _ _ (s .holding .lens)
     (and-both _ _ (le-leb _ _ (s .holding .have))
-    (and-both _ _ (le-leb _ _ (s .holding .want)) (and-both _ _ (le-leb _ _ (s .mtu)) (le-leb _ _ (s .sum))))))
+    (and-both _ _ (le-leb _ _ (s .holding .want)) (and-both _ _ (le-leb _ _ (s .mtu))
+    (and-both _ _ (le-leb _ _ (s .sum)) (and-both _ _ (owing-fits (s .owing)) (le-leb _ _ (s .owing .sum))))))))
 
 all-fit : (d p : ℕ) (xs : List Slot) → AllSound d p xs → every (slotFits d p) xs ≡ true
 unfolding every

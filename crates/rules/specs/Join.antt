@@ -24,9 +24,10 @@ use Rattle.definition.specs.Mem.{job, put}
 use Rattle.definition.specs.Table.{placeOf, slotAt, isDisconnected, isConnected, withAccount, withAssembly, withQueue}
 use Rattle.definition.specs.Outcome.{Outcome, change}
 use Rattle.definition.specs.Frames.{queued, finishing, frames, joined, planned}
+use Rattle.definition.specs.Portions.{startPlanned}
 use Rattle.rules.specs.Tests.{begun, begun-live, connected-begun}
-use Rattle.rules.specs.Step.{same, use-one, keep, leave, grow, finish, go, passes, Stepped}
-use Rattle.rules.specs.Forms.{goes-on, stepped-still, stepped-change}
+use Rattle.rules.specs.Step.{same, use-one, keep, leave, grow, finish, stay, shut, pay, begin, go, passes, Stepped}
+use Rattle.rules.specs.Forms.{goes-on, stepped-still, stepped-change, stepped-filling}
 
 -- How a frame comes to a slot: with no length octets where an assembly is open, with both of them otherwise. k is the number of its job octets.
 pub record Headed (a : Assembly) (head : List ℕ) (k : ℕ) : Type 0 where
@@ -84,7 +85,7 @@ plan-passes size mtu mps credits out =
     (λ _. if-cases Plans _ (λ _. refl)
     (λ _. if-cases Plans _ (λ _. refl) (λ _. if-cases Plans _ (λ _. refl) (λ _. if-cases Plans _ (λ _. refl) (λ _. tt)))))
 
--- ---- the two calls that ask them
+-- ---- the calls that ask them
 
 module _ (t : Table) (k s : ℕ) (h : s < t .n) (l : t .n ≤ length (t .slots)) (on : isConnected (slotAt t s .state) ≡ true) where
   has-begun : begun (slotAt t s .state) ≡ true
@@ -96,17 +97,31 @@ module _ (t : Table) (k s : ℕ) (h : s < t .n) (l : t .n ≤ length (t .slots))
   pub stepped-joined : (slotAt t s .account .credits ≡ 0 → ⊥) → (j : Joined) → Joins (placeOf t) (t .d) (slotAt t s .assembly) (slotAt t s .queue .count) k j
       → Stepped t k (joined t s (withAccount (received (slotAt t s .account) 1) (slotAt t s)) k j)
   unfolding joined
-  stepped-joined some (Joined.Refused r) f = stepped-change t k s _ _ h l (go (goes-on was-live refl refl) (use-one some) leave) _ _ f
+  stepped-joined some (Joined.Refused r) f = stepped-change t k s _ _ h l (go (goes-on was-live refl refl) (use-one some) leave shut) _ _ f
   stepped-joined some (Joined.Assembling a) f =
-      rw (f .3) (stepped-change t k s _ _ h l (go (goes-on was-live has-begun refl) (use-one some) (grow has-begun (f .0) (f .1) (f .2))) _ _ refl)
+      rw (f .3) (stepped-change t k s _ _ h l (go (goes-on was-live has-begun refl) (use-one some) (grow has-begun (f .0) (f .1) (f .2)) stay) _ _ refl)
   stepped-joined some (Joined.Finished len) f =
-      stepped-change t k s _ _ h l (go (goes-on was-live has-begun refl) (use-one some) (finish has-begun (f .0) (f .1) (f .2))) _ _ refl
-  stepped-joined some Joined.Dropped f = stepped-change t k s _ _ h l (go (goes-on was-live has-begun refl) (use-one some) leave) _ _ refl
+      stepped-change t k s _ _ h l (go (goes-on was-live has-begun refl) (use-one some) (finish has-begun (f .0) (f .1) (f .2)) stay) _ _ refl
+  stepped-joined some Joined.Dropped f = stepped-change t k s _ _ h l (go (goes-on was-live has-begun refl) (use-one some) leave stay) _ _ refl
 
   pub stepped-planned : (size : ℕ) (p : Plan) → Plans p → Stepped t k (planned t s (slotAt t s) size p)
   unfolding planned
   stepped-planned size (Plan.Refused r) f = stepped-still t k _ _ f
-  stepped-planned size (Plan.Frames n octets) f = stepped-change t k s _ _ h l (go (goes-on was-live has-begun refl) same keep) _ _ refl
+  stepped-planned size (Plan.Frames n octets) f = stepped-change t k s _ _ h l (go (goes-on was-live has-begun refl) same keep (pay n)) _ _ refl
+
+  -- a start sets aside what the plan counts
+  pub stepped-started : (size room : ℕ) (p : Plan) → Plans p
+      → planSend size (slotAt t s .peer .mtu) (slotAt t s .peer .mps) (slotAt t s .peer .credits) (framesLength size (slotAt t s .peer .mps)) ≡ p
+      → Stepped t k (startPlanned t s (slotAt t s) size room p)
+  unfolding startPlanned
+  stepped-started size room (Plan.Refused r) f e = stepped-still t k _ _ f
+  stepped-started size room (Plan.Frames n octets) f e =
+      let a = plan-allowed size (slotAt t s .peer .mtu) (slotAt t s .peer .mps) (slotAt t s .peer .credits) (framesLength size (slotAt t s .peer .mps)) n octets e in
+      let q = a .frames in
+      let w = a .wide in
+      let p = a .paid in
+      if-cases (Stepped t k) _ (λ _. stepped-still t k _ _ refl)
+      (λ _. stepped-filling t k s _ [] h l (go (goes-on was-live has-begun refl) same keep (begin size n on (omega arith) q (omega arith))) _ _ _ _ refl refl)
 
 -- ---- what a frame that fits comes to
 

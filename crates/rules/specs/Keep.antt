@@ -1,5 +1,5 @@
 -- Every kind of step keeps a slot sound. The credit account's own laws carry the sum; the rest is arithmetic and two laws of lists.
-use mathlib.Core.Path.{_≡_, refl, sym, ap, _∙_, subst₂}
+use mathlib.Core.Path.{_≡_, refl, sym, ap, _∙_, subst, subst₂}
 use mathlib.Core.Bool.{Bool, true, false, false≢true}
 use mathlib.Core.List.{List, [], _∷_, _++_}
 use Prim.Native.Nat.{ℕ, zero, suc, _-_, _≤_}
@@ -16,15 +16,18 @@ use Rattle.credit_laws.specs.AccountLaws.{received-sum, grant-settles}
 use Rattle.sar_join.specs.declared.Assembly.{Assembly}
 use Rattle.sar_join.specs.Joining.{idle}
 use Rattle.channel.specs.Limits.{creditsMost}
+use Rattle.channel.specs.declared.OpenJob.{OpenJob}
+use Rattle.channel.specs.declared.Peer.{Peer}
 use Rattle.channel.specs.declared.Queue.{Queue}
 use Rattle.channel.specs.declared.Slot.{Slot}
 use Rattle.channel.specs.declared.Table.{Table}
 use Rattle.definition.specs.Mem.{Move}
-use Rattle.definition.specs.Table.{placeOf, fresh, withHold}
+use Rattle.definition.specs.Table.{placeOf, fresh, isConnected, withHold}
 use Rattle.lists.specs.Both.{and-left, and-right, and-both}
-use Rattle.rules.specs.Tests.{begun, begun-live}
-use Rattle.rules.specs.Step.{Accounting, same, use-one, grant, Jobs, keep, leave, grow, finish, hand, Goes, Step, hold, go, accept, free, allocate, Steps, rest, next}
-use Rattle.rules.specs.Sound.{Holding, Sound, AllSound}
+use Rattle.rules.specs.Tests.{begun, begun-live, pending-off}
+use Rattle.rules.specs.Step.{Accounting, same, use-one, grant, Jobs, keep, leave, grow, finish, hand, Sending, off, Goes, Step, hold, go, accept, free, allocate, Steps, rest, next}
+use Rattle.rules.specs.Aside.{none-owing, sending-owing}
+use Rattle.rules.specs.Sound.{Holding, Owing, Sound, AllSound}
 
 -- ---- two laws of lists: one more element that passes; one fewer at the front
 
@@ -107,18 +110,20 @@ sound-fresh d p h =
       holding = record { count = omega arith; lens = refl; long = refl; have = omega arith; want = omega arith; closed = λ _. refl };
       mtu = omega arith;
       sum = omega arith;
+      owing = none-owing false _ (omega arith);
       free = λ _. refl;
       quiet = λ _. (refl, refl);
     }
 
 pub step-sound : {t : Table} {k : ℕ} {x y : Slot} {ms : List Move} → Step t k x y ms → Sound (t .d) (placeOf t) x → Sound (t .d) (placeOf t) y
 step-sound {x = x} (hold h) s =
-    record { holding = s .holding; mtu = s .mtu; sum = s .sum; free = λ e. ap (λ (z : Slot). withHold h z) (s .free e); quiet = s .quiet }
-step-sound {t} {k} {x} {y} (go g a j) s =
+    record { holding = s .holding; mtu = s .mtu; sum = s .sum; owing = s .owing; free = λ e. ap (λ (z : Slot). withHold h z) (s .free e); quiet = s .quiet }
+step-sound {t} {k} {x} {y} (go g a j o) s =
     record {
       holding = jobs-holding t k x j (s .holding);
       mtu = rw (g .mtu) (s .mtu);
       sum = rw (accounting-sum a (s .sum)) (s .sum);
+      owing = sending-owing x o (s .owing);
       free = λ e. absurd (false≢true (sym (g .is) ∙ e));
       quiet = λ f. let b = not-begun x y g f in jobs-quiet t k x j b (s .quiet b);
     }
@@ -127,15 +132,17 @@ step-sound {t} {k} {x} {y} (accept c) s =
       holding = subst₂ (λ (a : Assembly) (q : Queue). Holding (t .d) (placeOf t) a q) (sym (c .assembly)) (sym (c .queue)) (s .holding);
       mtu = c .mtu;
       sum = c .sum;
+      owing = sending-owing x (subst₂ (λ (p : Peer) (j : OpenJob). Sending x (isConnected (y .state)) p j) (sym (c .peer)) (sym (c .job)) (off (pending-off (x .state) (c .was)))) (s .owing);
       free = λ e. absurd (false≢true (sym (begun-live (y .state) (c .is)) ∙ e));
       quiet = λ f. absurd (false≢true (sym f ∙ c .is));
     }
 step-sound {t} (free h) s = sound-fresh (t .d) (placeOf t) h
-step-sound {t} (allocate c) s =
+step-sound {t} {y = y} (allocate c) s =
     record {
       holding = subst₂ (λ (a : Assembly) (q : Queue). Holding (t .d) (placeOf t) a q) (sym (c .assembly)) (sym (c .queue)) (sound-fresh (t .d) (placeOf t) 0 .holding);
       mtu = c .mtu;
       sum = c .sum;
+      owing = subst (λ (j : OpenJob). Owing (isConnected (y .state)) (y .peer) j) (sym (c .job)) (none-owing (isConnected (y .state)) (y .peer) (c .peer));
       free = λ e. absurd (false≢true (sym (c .is) ∙ e));
       quiet = λ _. (c .assembly, ap (λ (q : Queue). q .count) (c .queue));
     }

@@ -6,6 +6,7 @@ pub mod Forms
 pub mod Sound
 pub mod Join
 pub mod Every
+pub mod Aside
 pub mod Keep
 pub mod Good
 pub mod Rules

@@ -19,17 +19,18 @@ use Rattle.channel.specs.declared.Queue.{Queue}
 use Rattle.channel.specs.declared.Slot.{Slot}
 use Rattle.channel.specs.declared.Table.{Table}
 use Rattle.definition.specs.Mem.{Move, move, moves, parts}
-use Rattle.definition.specs.Table.{placeOf, width, roomSize, gap, fresh, slotAt, live, isDisconnected, sizesFit}
+use Rattle.definition.specs.Table.{placeOf, width, roomSize, gap, fresh, slotAt, live, isDisconnected, noJob, sizesFit}
 use Rattle.definition.specs.Asking.{Made, make, blank}
 use Rattle.definition.specs.Calls.{Call, jobs}
 use Rattle.definition.specs.Run.{State, after}
 use Rattle.definition.specs.Lengths.{length-moves}
 use Rattle.rules.specs.Run.{Fits, Reached, start}
 use Rattle.rules.specs.Run as Run
-use Rattle.rules.specs.Tests.{begun, pending-live}
+use Rattle.rules.specs.Tests.{begun, pending-live, unbegun-off}
 use Rattle.rules.specs.Step.{Step, hold, go, accept, free, allocate, Steps, rest, next}
 use Rattle.rules.specs.Forms.{live-at, live-length}
 use Rattle.rules.specs.Sound.{Sound, AllSound}
+use Rattle.rules.specs.Aside.{sending-none}
 use Rattle.rules.specs.Keep.{jobs-quiet}
 use Rattle.rules.specs.Good.{Good, sizes-read, within, slot-sound, call-steps, same-sizes, reached-good}
 use Rattle.rules.specs.Rules.{call-change}
@@ -44,7 +45,7 @@ step-clean : (t : Table) (k : ℕ) (js : List ℕ) {x y : Slot} {ms : List Move}
     → Clean (placeOf t) (x .assembly) (x .queue) part → Clean (placeOf t) (y .assembly) (y .queue) (moves (λ x. x) js part ms)
 unfolding moves move
 step-clean t k js part (hold h) s l d c = c
-step-clean t k js {x} part (go g a j) s l d c = clean-jobs t k x js part (s .holding) l d c j
+step-clean t k js {x} part (go g a j o) s l d c = clean-jobs t k x js part (s .holding) l d c j
 step-clean t k js part (accept g) s l d c = subst₂ (λ (a : Assembly) (q : Queue). Clean (placeOf t) a q part) (sym (g .assembly)) (sym (g .queue)) c
 step-clean t k js part (free h) s l d c = wiped (placeOf t) (fresh h .assembly) (fresh h .queue) part
 step-clean t k js {x} part (allocate g) s l d c =
@@ -133,15 +134,17 @@ room-rule {s} r i k j h f g e =
     part-clean (width t) (placeOf t) (live t) (s .room) i (rw (live-length t (within good)) h) (reached-clean r) k j
     (omega (arith, mul-le-mul-right (placeOf t) f, suc-mul (t .d) (placeOf t), suc-mul k (placeOf t))) g (rw (live-at t i h) e)
 
--- ---- E. no assembly, no waiting job, and the whole part of the room zero
+-- ---- E. no assembly, no waiting job, no job handed over in portions, and the whole part of the room zero
 
 pub record Empty (s : State) (i : ℕ) : Type 0 where
   pub assembly : slotAt (s .table) i .assembly ≡ idle
   pub jobs : slotAt (s .table) i .queue .count ≡ 0
+  pub portions : slotAt (s .table) i .job ≡ noJob
   pub room : (o : ℕ) → o < width (s .table) → getD (s .room) (i * width (s .table) + o) 0 ≡ 0
 
-empty-part : {s : State} → Reached s → (i : ℕ) → i < s .table .n → slotAt (s .table) i .assembly ≡ idle → slotAt (s .table) i .queue .count ≡ 0 → Empty s i
-empty-part {s} r i h a q = record { assembly = a; jobs = q; room = zero-at }
+empty-part : {s : State} → Reached s → (i : ℕ) → i < s .table .n → slotAt (s .table) i .assembly ≡ idle → slotAt (s .table) i .queue .count ≡ 0
+    → slotAt (s .table) i .job ≡ noJob → Empty s i
+empty-part {s} r i h a q b = record { assembly = a; jobs = q; portions = b; room = zero-at }
   where
     p : ℕ
     p = placeOf (s .table)
@@ -158,7 +161,10 @@ empty-part {s} r i h a q = record { assembly = a; jobs = q; room = zero-at }
 
 -- In every state of a run: a slot whose connection has not begun holds nothing. A free slot is as it was made, but for its holds.
 pub unbegun-empty : {s : State} → Reached s → (i : ℕ) → i < s .table .n → begun (slotAt (s .table) i .state) ≡ false → Empty s i
-unbegun-empty r i h f = let z = slot-sound (reached-good r) i h .quiet f in empty-part r i h (z .0) (z .1)
+unbegun-empty {s} r i h f =
+    let x = slot-sound (reached-good r) i h in
+    let z = x .quiet f in
+    empty-part r i h (z .0) (z .1) (x .owing .shut (unbegun-off (slotAt (s .table) i .state) f))
 
 pub free-fresh : {s : State} → Reached s → (i : ℕ) → i < s .table .n → isDisconnected (slotAt (s .table) i .state) ≡ true → slotAt (s .table) i ≡ fresh (slotAt (s .table) i .hold)
 free-fresh r i h f = slot-sound (reached-good r) i h .free f
@@ -167,25 +173,25 @@ free-fresh r i h f = slot-sound (reached-good r) i h .free f
 newcomer : {t : Table} {k : ℕ} {x y : Slot} {ms : List Move} → Step t k x y ms → isDisconnected (x .state) ≡ true → isDisconnected (y .state) ≡ false
     → (x .hold ≡ 0) × (begun (y .state) ≡ false)
 newcomer (hold h) e f = absurd (false≢true (sym f ∙ e))
-newcomer (go g a j) e f = absurd (false≢true (sym (g .was) ∙ e))
+newcomer (go g a j o) e f = absurd (false≢true (sym (g .was) ∙ e))
 newcomer {x = x} (accept c) e f = absurd (false≢true (sym (pending-live (x .state) (c .was)) ∙ e))
 newcomer (free h) e f = absurd (false≢true (sym f))
 newcomer (allocate c) e f = (c .unheld, c .unbegun)
 
 beginner : {t : Table} {k : ℕ} {x y : Slot} {ms : List Move} → Step t k x y ms → begun (x .state) ≡ false → begun (y .state) ≡ true
-    → (x .assembly ≡ idle) × (x .queue .count ≡ 0) → (y .assembly ≡ idle) × (y .queue .count ≡ 0)
-beginner (hold h) e f q = q
-beginner {t} {k} {x} (go g a j) e f q = jobs-quiet t k x j e q
-beginner (accept c) e f q = (c .assembly ∙ q .0, ap (λ (z : Queue). z .count) (c .queue) ∙ q .1)
-beginner (free h) e f q = (refl, refl)
-beginner (allocate c) e f q = (c .assembly, ap (λ (z : Queue). z .count) (c .queue))
+    → (x .assembly ≡ idle) × (x .queue .count ≡ 0) → x .job ≡ noJob → (y .assembly ≡ idle) × (y .queue .count ≡ 0) × (y .job ≡ noJob)
+beginner (hold h) e f q b = (q .0, q .1, b)
+beginner {t} {k} {x} (go g a j o) e f q b = let z = jobs-quiet t k x j e q in (z .0, z .1, sending-none x o (unbegun-off (x .state) e) b)
+beginner (accept c) e f q b = (c .assembly ∙ q .0, ap (λ (z : Queue). z .count) (c .queue) ∙ q .1, c .job ∙ b)
+beginner (free h) e f q b = (refl, refl, refl)
+beginner (allocate c) e f q b = (c .assembly, ap (λ (z : Queue). z .count) (c .queue), c .job)
 
 module _ {s : State} (r : Reached s) (a : Call) (f : Fits a) (i : ℕ) (h : i < s .table .n) where
   still-in : i < after s a .table .n
   still-in = subst (λ (n : ℕ). i < n) (sym (same-sizes s a (reached-good r) f .n)) h
 
   -- The client's accident, excluded: a free slot that a call gives to a new connection (create, connect request) was as it was made,
-  -- holds and all, and starts with no assembly, no waiting job and its whole part of the room zero.
+  -- holds and all, and starts with no assembly, no waiting job, no open job and its whole part of the room zero.
   pub new-connection : isDisconnected (slotAt (s .table) i .state) ≡ true → isDisconnected (slotAt (after s a .table) i .state) ≡ false
       → (slotAt (s .table) i ≡ fresh 0) × Empty (after s a) i
   new-connection e e′ =
@@ -196,5 +202,6 @@ module _ {s : State} (r : Reached s) (a : Call) (f : Fits a) (i : ℕ) (h : i < 
   pub connection-begins : begun (slotAt (s .table) i .state) ≡ false → begun (slotAt (after s a .table) i .state) ≡ true → Empty (after s a) i
   connection-begins e e′ =
       let g = reached-good r in
-      let q = beginner (call-change s a g f i h .step) e e′ (slot-sound g i h .quiet e) in
-      empty-part (Run.next a r f) i still-in (q .0) (q .1)
+      let x = slot-sound g i h in
+      let q = beginner (call-change s a g f i h .step) e e′ (x .quiet e) (x .owing .shut (unbegun-off (slotAt (s .table) i .state) e)) in
+      empty-part (Run.next a r f) i still-in (q .0) (q .1) (q .2)

@@ -1,23 +1,25 @@
 -- The rules of every run from a made table that speak of the table: refusal 1 never comes (A), identifiers are 1 to 255 (B), credits
--- held plus received stay what they were when the connection began (C). They follow from what every reached state has (Good.antt).
+-- held plus received stay what they were when the connection began (C); a job handed over in portions stands only in a Connected slot, with
+-- a credit set aside for each frame to come (G). They follow from what every reached state has (Good.antt).
 use mathlib.Core.Path.{_≡_, refl, sym, ap, _∙_, subst, subst₂}
 use mathlib.Core.Bool.{Bool, true, false, _&&_, not, false≢true}
 use mathlib.Core.List.{List, [], _∷_}
-use Prim.Native.Nat.{ℕ, zero, suc, _+_, _≤_, _<_}
+use Prim.Native.Nat.{ℕ, zero, suc, _+_, _-_, _≤_, _<_}
 use native.Mathlib.Nat.{add-zero}
 use native.Mathlib.Omega.{arith}
 use lib.Dec.{eqb}
 use lib.ListN.{length, getD}
 use lib.Seq.{getD-set-same}
-use borrow.Author.Tests.{eq-eqb, ne-eqb, eqb-false, not-true, leb-false}
-use Rattle.lists.specs.Choose.{choose-true, choose-false, if-cases}
+use borrow.Author.Tests.{eq-eqb, ne-eqb, eqb-false, not-true, not-false, ltb-true, ltb-false, leb-false}
+use Rattle.lists.specs.Choose.{choose, choose-true, choose-false, if-cases}
 use Rattle.codes.specs.declared.Refusal.{Refusal}
 use Rattle.codes.specs.declared.LeCreditConnResultCode.the-variants.{Success}
 use Rattle.credit.specs.Account.{creditSum}
+use Rattle.sar_cut.specs.Cutting.{ceil}
 use Rattle.signal_write.specs.Writer.{encodeOf}
 use Rattle.signal_forms.specs.declared.Signal.the-variants.{LeCreditConnReq, LeCreditConnRes}
 use Rattle.channel.specs.Limits.{creditsMost, identifierMost}
-use Rattle.channel.specs.declared.Answer.the-variants.{At, Link}
+use Rattle.channel.specs.declared.Answer.the-variants.{At, Link, Portion}
 use Rattle.channel.specs.declared.ChannelIndex.{ChannelIndex}
 use Rattle.channel.specs.declared.ChannelState.{ChannelState}
 use Rattle.channel.specs.declared.ChannelState.the-variants.{Disconnected, Connecting, PeerConnecting, Connected, ConnectFailed, PeerDisconnecting, Disconnecting}
@@ -26,17 +28,19 @@ use Rattle.channel.specs.declared.Slot.{Slot}
 use Rattle.channel.specs.declared.Table.{Table}
 use Rattle.definition.specs.Numbers.{answerNumber}
 use Rattle.definition.specs.Mem.{given, Move}
-use Rattle.definition.specs.Table.{gap, slotAt, found, isFree, isDisconnected, isPeerConnecting, identifierOf, index, cidOf, nextId, spent, wellFormed}
+use Rattle.definition.specs.Table.{gap, slotAt, found, isFree, isDisconnected, isPeerConnecting, isConnected, isOpen, noJob, withJob, identifierOf, index, cidOf, nextId, spent, wellFormed}
 use Rattle.definition.specs.Outcome.{Outcome, refuse}
 use Rattle.definition.specs.Calls.{Call, jobs}
 use Rattle.definition.specs.Run.{State, outcome, after, run}
 use Rattle.definition.specs.Pending.{acceptPending, mtuOf, mpsOf, creditsOf}
 use Rattle.definition.specs.Opening.{create}
+use Rattle.definition.specs.Portions.{givenOut, fullWith, filledBy, givePortion}
 use Rattle.rules.specs.Run.{Fits, AllFit, Reached, next}
 use Rattle.lists.specs.Both.{and-left, and-right}
 use Rattle.rules.specs.Step.{Step, hold, go, accept, free, allocate, Steps, Numbered}
 use Rattle.rules.specs.Step as Step
 use Rattle.rules.specs.Forms.{live-at, gate-cases}
+use Rattle.rules.specs.Aside.{portion-aside}
 use Rattle.rules.specs.Keep.{accounting-sum}
 use Rattle.rules.specs.Good.{Good, within, slot-sound, good-formed, call-steps, same-sizes, next-id, reached-good}
 
@@ -55,6 +59,10 @@ never-1-nor-2 {s} r a f =
 -- "a credit sum never passes 65,535"
 pub credit-sum : {s : State} → Reached s → (i : ℕ) → i < s .table .n → creditSum (slotAt (s .table) i .account) ≤ creditsMost
 credit-sum r i h = slot-sound (reached-good r) i h .sum
+
+-- "0x16's sum counts credits set aside" (document 02): what the peer gave us, with what is set aside for an open job, never passes 65,535
+pub peer-credit-sum : {s : State} → Reached s → (i : ℕ) → i < s .table .n → slotAt (s .table) i .peer .credits + slotAt (s .table) i .job .aside ≤ creditsMost
+peer-credit-sum r i h = slot-sound (reached-good r) i h .owing .sum
 
 -- ---- B. "Identifiers run 1 to 255, then 1."
 
@@ -104,7 +112,7 @@ not-pending (Disconnecting a) e f = false≢true f
 step-sum : {t : Table} {k : ℕ} {x y : Slot} {ms : List Move} → Step t k x y ms → creditSum (x .account) ≤ creditsMost → lasts (x .state) ≡ true → lasts (y .state) ≡ true
     → creditSum (y .account) ≡ creditSum (x .account)
 step-sum (hold h) s e f = refl
-step-sum (go g a j) s e f = accounting-sum a s
+step-sum (go g a j o) s e f = accounting-sum a s
 step-sum {x = x} (accept c) s e f = absurd (not-pending (x .state) e (c .was))
 step-sum (free h) s e f = absurd (false≢true f)
 step-sum {x = x} (allocate c) s e f = absurd (not-free (x .state) e (c .was))
@@ -198,4 +206,50 @@ create-credits {t} g signal link spsm c i =
     P o = o .answer ≡ At (index i) → Begins o i (creditsOf t c) (encodeOf (nextId t) (LeCreditConnReq (record { spsm = spsm; scid = cidOf i; mtu = mtuOf t c; mps = mpsOf t c; credits = creditsOf t c })))
 
     never : {u : Table} {r : Refusal} → P (refuse u r)
+    never e = let z : _≡_ {A = ℕ} 0 1 = cc in absurd (omega arith)
+
+-- ---- G. jobs handed over in portions (document 02): where one stands, and the credits set aside
+
+-- "leaving Connected [closes the job]": an open job stands only in a Connected slot, and what is not Connected, as a free slot, has none
+pub no-job-elsewhere : {s : State} → Reached s → (i : ℕ) → i < s .table .n → isConnected (slotAt (s .table) i .state) ≡ false → slotAt (s .table) i .job ≡ noJob
+no-job-elsewhere r i h e = slot-sound (reached-good r) i h .owing .shut e
+
+-- A job is open while credits are set aside for it; else nothing is left of it.
+pub no-job-unpaid : {s : State} → Reached s → (i : ℕ) → i < s .table .n → isOpen (slotAt (s .table) i .job) ≡ false → slotAt (s .table) i .job ≡ noJob
+no-job-unpaid {s} r i h e = slot-sound (reached-good r) i h .owing .closed (let z = ltb-false 0 (slotAt (s .table) i .job .aside) e in omega arith)
+
+-- "gets n credits set aside": one for each frame to come. (Of the stream of L+2 octets, those that are given out are in frames that have used theirs.)
+pub credits-set-aside : {s : State} → Reached s → (i : ℕ) → i < s .table .n → isOpen (slotAt (s .table) i .job) ≡ true
+    → slotAt (s .table) i .job .aside ≡ ceil (slotAt (s .table) i .job .length + 2 - givenOut (slotAt (s .table) i .job)) (slotAt (s .table) i .peer .mps)
+credits-set-aside {s} r i h e = slot-sound (reached-good r) i h .owing .owed (ltb-true 0 (slotAt (s .table) i .job .aside) e)
+
+-- A portion that gives out a frame uses one of them, the last frame the last one; any other uses none. The peer's credits stay.
+pub record Uses (x y : Slot) (n : ℕ) : Type 0 where
+  pub aside : y .job .aside + n ≡ x .job .aside
+  pub credits : y .peer .credits ≡ x .peer .credits
+
+pub portion-credits : {t : Table} {room : List ℕ} → Good t room → (i count size link k : ℕ) (full : Bool) → givePortion t i count size .answer ≡ Portion link k full
+    → Uses (slotAt t i) (slotAt (givePortion t i count size .table) i) (choose full 1 0)
+unfolding givePortion
+portion-credits {t} g i count size link k full =
+    gate-cases P t _ _ _ _ (λ r. never)
+    (λ h. if-cases P _ (λ _. never)
+    (λ _. if-cases P _ (λ _. never)
+    (λ e. if-cases P _ (λ _. never)
+    (λ _. if-cases P _ (λ _. never)
+    (λ f a.
+    let q : fullWith (x .peer .mps) (x .job) count ≡ full = cc in
+    let some = ltb-true 0 (x .job .aside) (not-false _ e) in
+    rw (getD-set-same (t .slots) i (withJob (filledBy (x .peer .mps) (x .job) count) x) gap (let l = within g in omega arith)) (record {
+      aside = rw (← q) (portion-aside (isConnected (x .state)) (x .peer) (x .job) count some (ltb-false _ _ f) (slot-sound g i h .owing));
+      credits = refl;
+    }))))))
+  where
+    x : Slot
+    x = slotAt t i
+
+    P : Outcome → Type 0
+    P o = o .answer ≡ Portion link k full → Uses x (slotAt (o .table) i) (choose full 1 0)
+
+    never : {r : Refusal} → P (refuse t r)
     never e = let z : _≡_ {A = ℕ} 0 1 = cc in absurd (omega arith)

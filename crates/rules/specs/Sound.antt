@@ -1,18 +1,22 @@
 -- What is true of every slot of a table that a run reached, its part of the room apart.
 use mathlib.Core.Path.{_≡_}
-use mathlib.Core.Bool.{true, false}
+use mathlib.Core.Bool.{Bool, true, false}
 use mathlib.Core.List.{List, [], _∷_}
-use Prim.Native.Nat.{ℕ, _≤_}
+use Prim.Native.Nat.{ℕ, _+_, _-_, _≤_, _<_}
 use lib.Dec.{leb}
 use lib.ListN.{length, take}
 use Rattle.lists.specs.Every.{every}
 use Rattle.credit.specs.Account.{creditSum}
 use Rattle.sar_join.specs.declared.Assembly.{Assembly}
 use Rattle.sar_join.specs.Joining.{idle}
+use Rattle.sar_cut.specs.Cutting.{ceil}
 use Rattle.channel.specs.Limits.{depthMost, creditsMost}
+use Rattle.channel.specs.declared.OpenJob.{OpenJob}
+use Rattle.channel.specs.declared.Peer.{Peer}
 use Rattle.channel.specs.declared.Queue.{Queue}
 use Rattle.channel.specs.declared.Slot.{Slot}
-use Rattle.definition.specs.Table.{fresh, isDisconnected}
+use Rattle.definition.specs.Table.{fresh, isDisconnected, isConnected, noJob}
+use Rattle.definition.specs.Portions.{givenOut}
 use Rattle.rules.specs.Tests.{begun}
 
 -- An assembly and a queue of at most d jobs, in places of p octets.
@@ -25,10 +29,25 @@ pub record Holding (d p : ℕ) (a : Assembly) (q : Queue) : Type 0 where
   -- where no assembly is open, no octet of one is there
   pub closed : a .want ≡ 0 → a .have ≡ 0
 
+-- What we may send: the job that is handed over in portions, with the peer's numbers, in a slot that is Connected or not.
+pub record Owing (connected : Bool) (p : Peer) (j : OpenJob) : Type 0 where
+  -- "leaving Connected [closes the job]": only a Connected slot has one
+  pub shut : connected ≡ false → j ≡ noJob
+  -- where no credits are set aside nothing is left of a job
+  pub closed : j .aside ≡ 0 → j ≡ noJob
+  -- an open job's counts are within its length and its frame
+  pub taken : 0 < j .aside → j .taken ≤ j .length
+  pub filled : 0 < j .aside → (j .filled ≤ p .mps) × (j .filled ≤ j .taken + 2)
+  -- a credit is set aside for each of its frames to come
+  pub wide : 0 < j .aside → 0 < p .mps
+  pub owed : 0 < j .aside → j .aside ≡ ceil (j .length + 2 - givenOut j) (p .mps)
+  pub sum : p .credits + j .aside ≤ creditsMost
+
 pub record Sound (d p : ℕ) (x : Slot) : Type 0 where
   pub holding : Holding d p (x .assembly) (x .queue)
   pub mtu : x .mtu ≤ p
   pub sum : creditSum (x .account) ≤ creditsMost
+  pub owing : Owing (isConnected (x .state)) (x .peer) (x .job)
   -- a Disconnected slot is as it was made, but for its holds
   pub free : isDisconnected (x .state) ≡ true → x ≡ fresh (x .hold)
   -- before a connection has begun there is no assembly and no job

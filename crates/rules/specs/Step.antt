@@ -3,7 +3,7 @@
 use mathlib.Core.Path.{_≡_}
 use mathlib.Core.Bool.{Bool, true, false, _&&_, not}
 use mathlib.Core.List.{List, [], _∷_}
-use Prim.Native.Nat.{ℕ, _+_, _≤_, _<_}
+use Prim.Native.Nat.{ℕ, _+_, _-_, _≤_, _<_}
 use lib.Dec.{eqb}
 use lib.ListN.{length}
 use Rattle.credit.specs.declared.CreditFlowControl.{CreditFlowControl}
@@ -11,18 +11,23 @@ use Rattle.credit.specs.declared.Grant.the-variants.{Credits}
 use Rattle.credit.specs.Account.{received, granted, grantOf, creditSum}
 use Rattle.sar_join.specs.declared.Assembly.{Assembly}
 use Rattle.sar_join.specs.Joining.{idle}
+use Rattle.sar_cut.specs.Cutting.{frameCount}
 use Rattle.signal_write.specs.Writer.{encodeOf}
 use Rattle.signal_forms.specs.declared.Signal.{Signal}
 use Rattle.channel.specs.Limits.{creditsMost}
 use Rattle.channel.specs.declared.Answer.{Answer}
+use Rattle.channel.specs.declared.OpenJob.{OpenJob}
+use Rattle.channel.specs.declared.Peer.{Peer}
 use Rattle.channel.specs.declared.Queue.{Queue}
 use Rattle.channel.specs.declared.Slot.{Slot}
 use Rattle.channel.specs.declared.Table.{Table}
 use Rattle.definition.specs.Mem.{Fill, given, zeros, job, Move, put, wipe}
-use Rattle.definition.specs.Table.{placeOf, fresh, live, isDisconnected, isPeerConnecting, withHold, nextId, spent}
+use Rattle.definition.specs.Table.{placeOf, fresh, live, isDisconnected, isPeerConnecting, isConnected, withHold, noJob, nextId, spent}
 use Rattle.definition.specs.Outcome.{Outcome}
 use Rattle.definition.specs.Numbers.{answerNumber}
 use Rattle.definition.specs.Frames.{queued, finishing, shifted, movingUp}
+use Rattle.definition.specs.Portions.{filledBy}
+use Rattle.definition.specs.Portions as Portions
 use Rattle.rules.specs.Tests.{begun}
 
 -- ---- the credit account: untouched, one credit used by a frame, or a grant of what the policy says
@@ -43,6 +48,25 @@ pub data Jobs (t : Table) (k : ℕ) (x : Slot) : Assembly → Queue → List Mov
       → Jobs t k x idle (queued len (x .queue)) (finishing t x k)
   hand : begun (x .state) ≡ true → 0 < x .queue .count → Jobs t k x (x .assembly) (shifted (x .queue)) (movingUp t x)
 
+-- ---- what we may send: the peer's numbers and the job that is handed over in portions, of a slot that is Connected or not
+
+-- The peer's numbers, with so many credits.
+abbrev pub withCredits : ℕ → Peer → Peer
+withCredits n p = record { cid = p .cid; mps = p .mps; mtu = p .mtu; credits = n }
+
+pub data Sending (x : Slot) : Bool → Peer → OpenJob → Type 0 where
+  stay : Sending x (isConnected (x .state)) (x .peer) (x .job)
+  off : {connected : Bool} → isConnected (x .state) ≡ false → Sending x connected (x .peer) (x .job)  -- nothing is open
+  meet : {connected : Bool} {p : Peer} → isConnected (x .state) ≡ false → p .credits ≤ creditsMost → Sending x connected p (x .job)  -- the peer answers
+  shut : Sending x false (x .peer) noJob  -- Connected is left
+  pay : (n : ℕ) → Sending x (isConnected (x .state)) (withCredits (x .peer .credits - n) (x .peer)) (x .job)
+  gain : (n : ℕ) → x .peer .credits + x .job .aside + n ≤ creditsMost → Sending x (isConnected (x .state)) (withCredits (x .peer .credits + n) (x .peer)) (x .job)
+  begin : (l n : ℕ) → isConnected (x .state) ≡ true → 2 ≤ x .peer .mps → n ≡ frameCount l (x .peer .mps) → n ≤ x .peer .credits
+      → Sending x (isConnected (x .state)) (withCredits (x .peer .credits - n) (x .peer)) (Portions.begun l n)
+  portion : (count : ℕ) → isConnected (x .state) ≡ true → 0 < x .job .aside → count ≤ x .job .length - x .job .taken
+      → Sending x (isConnected (x .state)) (x .peer) (filledBy (x .peer .mps) (x .job) count)
+  cancel : Sending x (isConnected (x .state)) (withCredits (x .peer .credits + x .job .aside) (x .peer)) noJob
+
 -- ---- one slot: x becomes y
 
 -- The connection goes on: not freed, our MTU the same, and once begun it stays so.
@@ -60,6 +84,8 @@ pub record Accepts (t : Table) (x y : Slot) : Type 0 where
   pub sum : creditSum (y .account) ≤ creditsMost
   pub assembly : y .assembly ≡ x .assembly
   pub queue : y .queue ≡ x .queue
+  pub peer : y .peer ≡ x .peer
+  pub job : y .job ≡ x .job
 
 -- A free slot is given to a new connection.
 pub record Allocates (t : Table) (x y : Slot) : Type 0 where
@@ -71,10 +97,13 @@ pub record Allocates (t : Table) (x y : Slot) : Type 0 where
   pub sum : creditSum (y .account) ≤ creditsMost
   pub assembly : y .assembly ≡ idle
   pub queue : y .queue ≡ fresh 0 .queue
+  pub peer : y .peer .credits ≤ creditsMost
+  pub job : y .job ≡ noJob
 
 pub data Step (t : Table) (k : ℕ) (x : Slot) : Slot → List Move → Type 0 where
   hold : (h : ℕ) → Step t k x (withHold h x) []
-  go : {y : Slot} {ms : List Move} → Goes x y → Accounting (x .account) (y .account) → Jobs t k x (y .assembly) (y .queue) ms → Step t k x y ms
+  go : {y : Slot} {ms : List Move} → Goes x y → Accounting (x .account) (y .account) → Jobs t k x (y .assembly) (y .queue) ms
+      → Sending x (isConnected (y .state)) (y .peer) (y .job) → Step t k x y ms
   accept : {y : Slot} → Accepts t x y → Step t k x y []
   free : (h : ℕ) → Step t k x (fresh h) (wipe ∷ [])
   allocate : {y : Slot} → Allocates t x y → Step t k x y []

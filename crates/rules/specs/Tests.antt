@@ -95,3 +95,31 @@ begun-takes Connected e = refl
 begun-takes (ConnectFailed c) e = sym e
 begun-takes (PeerDisconnecting i) e = refl
 begun-takes (Disconnecting a) e = refl
+
+-- no state but Connected passes the test for it
+pub unbegun-off : (k : ChannelState) → begun k ≡ false → isConnected k ≡ false
+unbegun-off Disconnected e = refl
+unbegun-off (Connecting i) e = refl
+unbegun-off (PeerConnecting i) e = refl
+unbegun-off Connected e = e
+unbegun-off (ConnectFailed c) e = refl
+unbegun-off (PeerDisconnecting i) e = refl
+unbegun-off (Disconnecting a) e = refl
+
+pub pending-off : (k : ChannelState) → isPeerConnecting k ≡ true → isConnected k ≡ false
+pending-off Disconnected e = refl
+pending-off (Connecting i) e = refl
+pending-off (PeerConnecting i) e = refl
+pending-off Connected e = sym e
+pending-off (ConnectFailed c) e = refl
+pending-off (PeerDisconnecting i) e = refl
+pending-off (Disconnecting a) e = refl
+
+pub due-off : (k : ChannelState) → isDue k ≡ true → isConnected k ≡ false
+due-off Disconnected e = refl
+due-off (Connecting i) e = refl
+due-off (PeerConnecting i) e = refl
+due-off Connected e = sym e
+due-off (ConnectFailed c) e = refl
+due-off (PeerDisconnecting i) e = refl
+due-off (Disconnecting a) e = refl

@@ -69,22 +69,22 @@ turned : {w v : Window} → Apart w v → Apart v w
 turned (before h) = behind h
 turned (behind h) = before h
 
-written-long : (js room out : List ℕ) (fs : List Fill) → length (written itself js room fs out) ≡ length out
+written-long : (js room out : List ℕ) (at : ℕ) (fs : List Fill) → length (written itself js room at fs out) ≡ length out
 unfolding written
-written-long js room out fs = length-sets out 0 (fills itself js room fs)
+written-long js room out at fs = length-sets out at (fills itself js room fs)
 
 module _ {s s′ : State} {c : Call} {r : Served} (p : Called s c r s′) where
   -- what the function left in its two buffers, and that they keep their sizes
-  pub called-written : (p .out ≡ written itself (jobs (s .table) c) (s .room) (outcome s c .out) (lent (outWindow c) (s .memory)))
-      × (p .tray ≡ written itself (jobs (s .table) c) (s .room) (outcome s c .job) (lent (jobWindow c) (s .memory)))
+  pub called-written : (p .out ≡ written itself (jobs (s .table) c) (s .room) (outcome s c .at) (outcome s c .out) (lent (outWindow c) (s .memory)))
+      × (p .tray ≡ written itself (jobs (s .table) c) (s .room) 0 (outcome s c .job) (lent (jobWindow c) (s .memory)))
   unfolding endOf
   called-written = (ap (λ (x : End). x .out) (ended (p .ends)), ap (λ (x : End). x .job) (ended (p .ends)))
 
   out-size : length (p .out) ≡ outWindow c .size
-  out-size = ap length (called-written .0) ∙ written-long _ _ _ _ ∙ part-length (s .memory) (outWindow c .from) (outWindow c .size) (p .lends .out)
+  out-size = ap length (called-written .0) ∙ written-long _ _ _ _ _ ∙ part-length (s .memory) (outWindow c .from) (outWindow c .size) (p .lends .out)
 
   tray-size : length (p .tray) ≡ jobWindow c .size
-  tray-size = ap length (called-written .1) ∙ written-long _ _ _ _ ∙ part-length (s .memory) (jobWindow c .from) (jobWindow c .size) (p .lends .tray)
+  tray-size = ap length (called-written .1) ∙ written-long _ _ _ _ _ ∙ part-length (s .memory) (jobWindow c .from) (jobWindow c .size) (p .lends .tray)
 
   abbrev trayed : List ℕ
   trayed = sets (s .memory) (jobWindow c .from) (p .tray)
@@ -98,7 +98,7 @@ module _ {s s′ : State} {c : Call} {r : Served} (p : Called s c r s′) where
       let f : s′ ≡ record { table = r .table; room = s′ .room; memory = sets trayed (outWindow c .from) (p .out) } = rw (← p .table, ← p .memory) refl in
       f ∙ sym e
 
-  -- and what it gives back is what the run has for it: answer, table, and how many octets were written
+  -- and what it gives back is what the run has for it: answer, table, and how many octets are given out
   pub called-served : r ≡ servedOf (outcome s c)
   unfolding endOf
   called-served = ap (λ (x : End). x .served) (ended (p .ends))
@@ -129,14 +129,14 @@ unfolding after endOf
 meets s c l =
     let js = jobs (s .table) c in
     let o = outcome s c in
-    let tray = written itself js (s .room) (o .job) (lent (jobWindow c) (s .memory)) in
-    let n : length tray ≤ jobWindow c .size = omega (arith, written-long js (s .room) (lent (jobWindow c) (s .memory)) (o .job), part-length (s .memory) (jobWindow c .from) (jobWindow c .size) (l .tray)) in
+    let tray = written itself js (s .room) 0 (o .job) (lent (jobWindow c) (s .memory)) in
+    let n : length tray ≤ jobWindow c .size = omega (arith, written-long js (s .room) (lent (jobWindow c) (s .memory)) 0 (o .job), part-length (s .memory) (jobWindow c .from) (jobWindow c .size) (l .tray)) in
     let e = lent-apart (outWindow c) (jobWindow c) (s .memory) tray (l .apart) (l .out) n in
     record {
       lends = l;
-      out = written itself js (s .room) (o .out) (lent (outWindow c) (s .memory));
+      out = written itself js (s .room) (o .at) (o .out) (lent (outWindow c) (s .memory));
       tray = tray;
       ends = with-room refl;
       table = refl;
-      memory = ap (λ (ys : List ℕ). sets (sets (s .memory) (jobWindow c .from) tray) (outWindow c .from) (written itself js (s .room) (o .out) ys)) e;
+      memory = ap (λ (ys : List ℕ). sets (sets (s .memory) (jobWindow c .from) tray) (outWindow c .from) (written itself js (s .room) (o .at) (o .out) ys)) e;
     }

@@ -23,8 +23,9 @@ use Rattle.definition.specs.Opening.{create, opened, giveUp}
 use Rattle.definition.specs.Closing.{incRef, decRef, disconnect, disconnectByCid, disconnected, nextDisconnect}
 use Rattle.definition.specs.Signals.{signalled}
 use Rattle.definition.specs.Frames.{send, receive}
+use Rattle.definition.specs.Portions.{startJob, givePortion, cancelJob}
 use Rattle.definition.specs.Asking.{registerSpsm, attention, spsm, mtu, mps, peerMtu, peerMps, sendConnParamUpdateReq, sendConnParamUpdateRes}
-use Rattle.definition.specs.Calls.{Window, frame, sends, down, plain, Request, register, signals, pends, rejectsAll, accepts, rejects, drops, creates, opens, gives, holds, releases, leaves, leavesCid, announces, takes, attends, asks, sendsSignal, writes, jobs, bare, frameIn, serve, decide}
+use Rattle.definition.specs.Calls.{Window, frame, sends, portions, down, plain, Request, register, signals, pends, rejectsAll, accepts, rejects, drops, creates, opens, gives, holds, releases, leaves, leavesCid, announces, takes, starts, cancels, attends, asks, sendsSignal, writes, jobs, bare, frameIn, serve, decide}
 use Rattle.definition.specs.Ending.{itself, end, endOf, servedOf, gave, end-given, roomAfter}
 use Rattle.definition.specs.Run.{State, lent, nowhere}
 use Rattle.definition.specs.Roomless.{roomlessRequest, roomless-call}
@@ -36,16 +37,16 @@ use Rattle.rules_code.specs.Called.{Within, Apart, before, behind, Lends
 abbrev pub left : Served → (room memory : List ℕ) → State
 left r room memory = record { table = r .table; room = room; memory = memory }
 
--- no buffer at all, or the signal buffer or frame output alone
+-- no buffer at all, or the signal buffer, frame output or a job's frame buffer alone
 nothing : (s : State) (r : Request) → Lends s (plain r nowhere nowhere)
 nothing s r = record { out = omega arith; tray = omega arith; apart = before (omega arith) }
 
 one : (s : State) (r : Request) (w : Window) → Within w (s .memory) → Lends s (plain r w nowhere)
 one s r w h = record { out = h; tray = omega arith; apart = behind (omega arith) }
 
-nothing-lent : (js room : List ℕ) (fs : List Fill) → written itself js room fs [] ≡ []
+nothing-lent : (js room : List ℕ) (at : ℕ) (fs : List Fill) → written itself js room at fs [] ≡ []
 unfolding written
-nothing-lent js room fs = sets-out [] 0 (fills itself js room fs) (omega arith)
+nothing-lent js room at fs = sets-out [] at (fills itself js room fs) (omega arith)
 
 module _ (s : State) (q : Request) (r : Served) where
   -- nothing is lent
@@ -54,7 +55,7 @@ module _ (s : State) (q : Request) (r : Served) where
   asked e h =
       let o = serve (s .table) q (length (s .room)) 0 0 in
       let p : roomAfter (s .table) [] [] o ≡ [] = roomless-call (s .table) (plain q nowhere nowhere) e 0 (length (s .room)) 0 0 .room [] [] in
-      let f : end r [] [] [] ≡ endOf (s .table) [] [] [] [] o = rw (h, p, nothing-lent [] [] (o .out), nothing-lent [] [] (o .job)) in
+      let f : end r [] [] [] ≡ endOf (s .table) [] [] [] [] o = rw (h, p, nothing-lent [] [] (o .at) (o .out), nothing-lent [] [] 0 (o .job)) in
       record { lends = nothing s q; out = []; tray = []; ends = without-room e f; table = refl; memory = refl }
 
   -- the signal buffer
@@ -115,7 +116,8 @@ module _ (s : State) (r : Served) where
   unfolding serve
   inc-ref-called slot h = asked s (holds slot) r refl h
 
-  -- ---- lent the room: a dropped pending connection, an opening that is polled or given up, a hold released, the closings, a link that is down
+  -- ---- lent the room: a dropped pending connection, an opening that is polled or given up, a hold released, the closings, an open job cancelled,
+  -- a link that is down
 
   pub drop-pending-called : (slot : ℕ) (room′ : List ℕ) → end r room′ [] [] ≡ endOf (s .table) [] (s .room) [] [] (dropPending (s .table) (length (s .room)) slot)
       → Called s (plain (drops slot) nowhere nowhere) r (left r room′ (s .memory))
@@ -146,6 +148,11 @@ module _ (s : State) (r : Served) where
       → Called s (plain (leavesCid cid) nowhere nowhere) r (left r room′ (s .memory))
   unfolding serve
   disconnect-by-cid-called cid room′ h = roomed s (leavesCid cid) r room′ h
+
+  pub cancel-job-called : (slot : ℕ) (room′ : List ℕ) → end r room′ [] [] ≡ endOf (s .table) [] (s .room) [] [] (cancelJob (s .table) (length (s .room)) slot)
+      → Called s (plain (cancels slot) nowhere nowhere) r (left r room′ (s .memory))
+  unfolding serve
+  cancel-job-called slot room′ h = roomed s (cancels slot) r room′ h
 
   pub disconnected-called : (link : ℕ) (room′ : List ℕ) → end r room′ [] [] ≡ endOf (s .table) [] (s .room) [] [] (disconnected (s .table) (length (s .room)) link)
       → Called s (down link) r (left r room′ (s .memory))
@@ -218,6 +225,18 @@ module _ (s : State) (r : Served) where
         → Called s (sends slot sdu w) r (left r (s .room) (sets (s .memory) (w .from) signal′))
     unfolding jobs bare decide
     send-called slot sdu h = record { lends = record { out = l; tray = omega arith; apart = behind (omega arith) }; out = signal′; tray = []; ends = without-room refl h; table = refl; memory = refl }
+
+    -- jobs handed over in portions: the job's frame buffer alone, and for a portion its octets to read
+
+    pub start-job-called : (slot stated : ℕ) → end r [] signal′ [] ≡ endOf (s .table) [] [] (lent w (s .memory)) [] (startJob (s .table) slot stated (length (lent w (s .memory))))
+        → Called s (plain (starts slot stated) w nowhere) r (left r (s .room) (sets (s .memory) (w .from) signal′))
+    unfolding serve
+    start-job-called slot stated h = signalling s (starts slot stated) r w l refl signal′ h
+
+    pub give-portion-called : (slot : ℕ) (octets : List ℕ) → end r [] signal′ [] ≡ endOf (s .table) octets [] (lent w (s .memory)) [] (givePortion (s .table) slot (length octets) (length (lent w (s .memory))))
+        → Called s (portions slot octets w) r (left r (s .room) (sets (s .memory) (w .from) signal′))
+    unfolding jobs bare decide
+    give-portion-called slot octets h = record { lends = record { out = l; tray = omega arith; apart = behind (omega arith) }; out = signal′; tray = []; ends = without-room refl h; table = refl; memory = refl }
 
     -- a take: the room, the signal buffer and, apart from it, the job buffer
     pub receive-called : (v : Window) → Within v (s .memory) → Apart w v → (slot : ℕ) (room′ job′ : List ℕ)

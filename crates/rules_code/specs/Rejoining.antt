@@ -1,23 +1,31 @@
 -- Exact rejoining of runs of the code, from the frames that a send leaves in the caller's memory to the SDU that a take leaves there. Rests on
 -- exact rejoining over the definition's runs (crate rules_jobs) and on the law for one call (Called.antt).
-use mathlib.Core.Path.{_≡_, sym, ap, _∙_, subst}
+use mathlib.Core.Path.{_≡_, refl, sym, ap, _∙_, subst}
 use mathlib.Core.List.{List, [], _∷_}
 use Prim.Native.Nat.{ℕ, _≤_}
 use native.Mathlib.Omega.{arith}
 use lib.ListN.{length, take}
 use lib.Seq.{sets}
+use Rattle.lists.specs.Choose.{if-cases}
 use Rattle.lists.specs.Sets.{part-length, part-same}
 use Rattle.sar_cut.specs.Cutting.{payloads, framesOf}
+use Rattle.sar_cut.specs.declared.Plan.{Plan}
+use Rattle.sar_cut.specs.declared.Plan.the-variants as Plan
 use Rattle.channel.specs.Limits.{handleMost, signalMost}
 use Rattle.channel.specs.declared.Answer.{Answer}
 use Rattle.channel.specs.declared.Answer.the-variants.{Frames, Job}
 use Rattle.channel.specs.declared.Served.{Served}
+use Rattle.channel.specs.declared.Slot.{Slot}
+use Rattle.channel.specs.declared.Table.{Table}
 use Rattle.definition.specs.Mem.{fills, written}
 use Rattle.definition.specs.Table.{slotAt}
-use Rattle.definition.specs.Calls.{Window, Call, sends, jobs}
+use Rattle.definition.specs.Outcome.{Outcome}
+use Rattle.definition.specs.Frames.{planned, send}
+use Rattle.definition.specs.Calls.{Window, Call, sends, jobs, bare, decide}
 use Rattle.definition.specs.Ending.{itself}
 use Rattle.definition.specs.Run.{State, lent, outcome}
 use Rattle.rules.specs.Run.{Fits}
+use Rattle.rules.specs.Forms.{gate-cases}
 use Rattle.rules_jobs.specs.Rejoin.{framing, Unchanged, Arrives, Receiver, Rejoined, jobAt}
 use Rattle.rules_jobs.specs.Rejoin as Rejoin
 use Rattle.rules_jobs.specs.Taking.{taking, sized}
@@ -30,12 +38,25 @@ window-size : (w : Window) (s : State) → Within w (s .memory) → sized w s �
 window-size w s h = part-length (s .memory) (w .from) (w .size) h
 
 -- octets written from a buffer's start, and that fit, stand there
-stands : (js room out : List ℕ) (fs : List _) (xs : List ℕ) → fills itself js room fs ≡ xs → length xs ≤ length out → take (length xs) (written itself js room fs out) ≡ xs
+stands : (js room out : List ℕ) (fs : List _) (xs : List ℕ) → fills itself js room fs ≡ xs → length xs ≤ length out → take (length xs) (written itself js room 0 fs out) ≡ xs
 unfolding written
 stands js room out fs xs e l = ap (λ (ys : List ℕ). take (length xs) (sets out 0 ys)) e ∙ part-same 0 out 0 xs (omega arith)
 
 answered : {s s′ : State} {c : Call} {r : Served} {a : Answer} → Called s c r s′ → r .answer ≡ a → outcome s c .answer ≡ a
 answered p e = ap (λ (x : Served). x .answer) (sym (called-served p)) ∙ e
+
+-- a send writes from its output's start on
+planned-at : (t : Table) (j : ℕ) (x : Slot) (l : ℕ) (q : Plan) → planned t j x l q .at ≡ 0
+unfolding planned
+planned-at t j x l (Plan.Refused r) = refl
+planned-at t j x l (Plan.Frames n octets) = refl
+
+sends-at : (s : State) (j : ℕ) (sdu : List ℕ) (w : Window) → outcome s (sends j sdu w) .at ≡ 0
+unfolding decide bare jobs send
+sends-at s j sdu w = gate-cases P (s .table) _ _ _ _ (λ r. refl) λ _. if-cases P _ (λ _. refl) λ _. if-cases P _ (λ _. refl) λ _. planned-at (s .table) j _ _ _
+  where
+    P : Outcome → Type 0
+    P o = o .at ≡ 0
 
 -- ---- a send that is answered 0 leaves the frames of the SDU, for the peer's MPS, at the start of its output
 
@@ -45,8 +66,10 @@ unfolding jobs
 code-sends {s} j sdu w link n p e =
     let f = sends-frames s j sdu w link n (answered p e) in
     let x = slotAt (s .table) j in
-    ap (take (length (framesOf (x .peer .cid) (x .peer .mps) sdu))) (called-out p ∙ called-written p .0)
-    ∙ stands sdu (s .room) (lent w (s .memory)) (outcome s (sends j sdu w) .out) (framesOf (x .peer .cid) (x .peer .mps) sdu) (f .octets) (f .fits)
+    let o = outcome s (sends j sdu w) in
+    let n = length (framesOf (x .peer .cid) (x .peer .mps) sdu) in
+    ap (take n) (called-out p ∙ called-written p .0) ∙ ap (λ (at : ℕ). take n (written itself sdu (s .room) at (o .out) (lent w (s .memory)))) (sends-at s j sdu w)
+    ∙ stands sdu (s .room) (lent w (s .memory)) (o .out) (framesOf (x .peer .cid) (x .peer .mps) sdu) (f .octets) (f .fits)
 
 -- ---- the frames, as they come to the code
 

@@ -1,23 +1,27 @@
 -- The rules of runs of the code: what rules/specs says of every state that a run reaches, of every state that the code leaves and of what it
 -- gives back. Rests on those rules and on the law of runs (CodeRun.antt).
 use mathlib.Core.Path.{_≡_, sym, ap, _∙_, subst}
-use mathlib.Core.Bool.{true, false}
+use mathlib.Core.Bool.{Bool, true, false}
 use mathlib.Core.List.{List}
-use Prim.Native.Nat.{ℕ, _+_, _*_, _≤_, _<_}
-use lib.ListN.{getD}
+use Prim.Native.Nat.{ℕ, _+_, _-_, _*_, _≤_, _<_}
+use lib.ListN.{length, getD}
+use Rattle.lists.specs.Choose.{choose}
 use Rattle.credit.specs.Account.{creditSum}
+use Rattle.sar_cut.specs.Cutting.{ceil}
 use Rattle.channel.specs.Limits.{creditsMost, identifierMost}
-use Rattle.channel.specs.declared.Answer.the-variants.{Done}
+use Rattle.channel.specs.declared.Answer.the-variants.{Done, Portion}
 use Rattle.channel.specs.declared.Served.{Served}
-use Rattle.definition.specs.Table.{placeOf, width, fresh, slotAt, isDisconnected, nextId, wellFormed}
-use Rattle.definition.specs.Calls.{Call}
+use Rattle.definition.specs.Table.{placeOf, width, fresh, slotAt, isDisconnected, isConnected, isOpen, noJob, nextId, wellFormed}
+use Rattle.definition.specs.Portions.{givenOut}
+use Rattle.definition.specs.Calls.{Window, Call, portions, jobs, bare, decide}
 use Rattle.definition.specs.Numbers.{answerNumber}
-use Rattle.definition.specs.Run.{State, outcome}
+use Rattle.definition.specs.Run.{State, lent, outcome, after}
 use Rattle.rules.specs.Run.{Fits, AllFit, Reached, start, run-reached}
 use Rattle.rules.specs.Tests.{begun}
 use Rattle.rules.specs.Step.{Numbered}
 use Rattle.rules.specs.Places.{jobIn}
-use Rattle.rules.specs.Rules.{well-formed, never-1-nor-2, credit-sum, identifiers, identifier-used, lasts, Lasts, credits-last}
+use Rattle.rules.specs.Rules.{well-formed, never-1-nor-2, credit-sum, peer-credit-sum, no-job-elsewhere, no-job-unpaid, credits-set-aside, identifiers, identifier-used, lasts, Lasts, credits-last, Uses, portion-credits}
+use Rattle.rules.specs.Good.{reached-good}
 use Rattle.rules.specs.RoomRule.{room-rule, Empty, unbegun-empty, free-fresh, new-connection, connection-begins}
 use Rattle.rules_code.specs.Called.{Called, called-after, called-served}
 use Rattle.rules_code.specs.CodeRun.{Makes, makes-made, makes-answer, CodeRun, none, call, code-run}
@@ -42,6 +46,21 @@ module _ {s : State} (g : CodeReached s) where
   -- "a credit sum never passes 65,535"
   pub code-credit-sum : (i : ℕ) → i < s .table .n → creditSum (slotAt (s .table) i .account) ≤ creditsMost
   code-credit-sum = credit-sum (code-reached g)
+
+  -- and of the peer's credits, those set aside for an open job counted (document 02)
+  pub code-peer-credit-sum : (i : ℕ) → i < s .table .n → slotAt (s .table) i .peer .credits + slotAt (s .table) i .job .aside ≤ creditsMost
+  code-peer-credit-sum = peer-credit-sum (code-reached g)
+
+  -- a job is open in Connected slots alone; where none is, nothing is left of one; and a credit is set aside for each frame to come
+  pub code-no-job-elsewhere : (i : ℕ) → i < s .table .n → isConnected (slotAt (s .table) i .state) ≡ false → slotAt (s .table) i .job ≡ noJob
+  code-no-job-elsewhere = no-job-elsewhere (code-reached g)
+
+  pub code-no-job-unpaid : (i : ℕ) → i < s .table .n → isOpen (slotAt (s .table) i .job) ≡ false → slotAt (s .table) i .job ≡ noJob
+  code-no-job-unpaid = no-job-unpaid (code-reached g)
+
+  pub code-credits-set-aside : (i : ℕ) → i < s .table .n → isOpen (slotAt (s .table) i .job) ≡ true
+      → slotAt (s .table) i .job .aside ≡ ceil (slotAt (s .table) i .job .length + 2 - givenOut (slotAt (s .table) i .job)) (slotAt (s .table) i .peer .mps)
+  code-credits-set-aside = credits-set-aside (code-reached g)
 
   -- "Identifiers run 1 to 255"
   pub code-identifiers : (1 ≤ nextId (s .table)) × (nextId (s .table) ≤ identifierMost)
@@ -97,3 +116,12 @@ pub code-credits-last : (i : ℕ) {s s′ : State} {cs : List Call} {rs : List S
     → creditSum (slotAt (s′ .table) i .account) ≡ creditSum (slotAt (s .table) i .account)
 code-credits-last i {s} {cs = cs} g q f h l =
     ap (λ (u : State). creditSum (slotAt (u .table) i .account)) (code-run q) ∙ credits-last i s cs (code-reached g) f h (code-lasts i q l)
+
+-- ---- a portion that gives out a frame uses one of the credits set aside, any other none; the peer's credits stay
+
+pub code-portion-credits : {s s′ : State} {r : Served} → CodeReached s → (i : ℕ) (octets : List ℕ) (w : Window) (link k : ℕ) (full : Bool)
+    → Called s (portions i octets w) r s′ → r .answer ≡ Portion link k full → Uses (slotAt (s .table) i) (slotAt (s′ .table) i) (choose full 1 0)
+unfolding decide bare jobs after
+code-portion-credits {s} g i octets w link k full p e =
+    subst (λ (u : State). Uses (slotAt (s .table) i) (slotAt (u .table) i) (choose full 1 0)) (sym (called-after p))
+    (portion-credits (reached-good (code-reached g)) i (length octets) (length (lent w (s .memory))) link k full (ap (λ (x : Served). x .answer) (sym (called-served p)) ∙ e))

@@ -3,3 +3,5 @@ pub mod Waiting
 pub mod Rejoin
 pub mod Taking
 pub mod Sending
+-- A Connected slot's peer keeps its CID and MPS.
+pub mod Peer

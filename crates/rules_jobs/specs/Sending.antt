@@ -1,32 +1,31 @@
 -- Exact rejoining at the table (F), from the sender's SDU to the job taken: what a send that is answered 0 writes, and that its frames, as they come to
 -- the receiver, are that SDU again. Rests on the frames of a job (crate sar_cut) and on the receiving side (Rejoin.antt, Taking.antt).
-use mathlib.Core.Path.{_≡_, refl, sym, ap, _∙_, subst}
+use mathlib.Core.Path.{_≡_, sym, ap, _∙_, subst}
 use mathlib.Core.List.{List, [], _∷_, _++_}
-use Prim.Native.Nat.{ℕ, zero, suc, _+_, _-_, _*_, _≤_, _<_, min}
-use native.Mathlib.Nat.{zero-mul}
+use Prim.Native.Nat.{ℕ, zero, suc, _+_, _-_, _≤_, _<_}
 use native.Mathlib.Omega.{arith}
 use lib.ListN.{length, take, drop, length-drop, take-append-drop}
-use lib.Seq.{take-all, length-take-le}
+use lib.Seq.{take-all}
 use Rattle.lists.specs.Choose.{if-cases}
 use Rattle.codes.specs.declared.Refusal.{Refusal}
-use Rattle.octets.specs.Octets.{part, le16}
-use Rattle.octets.specs.Sets.{part-length}
-use Rattle.sar_cut.specs.Cutting.{ceil, frameCount, stream, pieces, payloads, frame, framesOf}
-use Rattle.sar_cut.specs.CutLaws.{split, ceil-zero, ceil-more, ceil-holds}
-use Rattle.sar_frames.specs.FrameLaws.{pieces-nil, pieces-more, framed, framed-nil, framed-start, framed-turn, count-first}
+use Rattle.octets.specs.Octets.{le16}
+use Rattle.sar_cut.specs.Cutting.{stream, pieces, payloads, framesOf}
+use Rattle.sar_cut.specs.CutLaws.{split}
+use Rattle.sar_frames.specs.FrameLaws.{pieces-nil, pieces-more}
 use Rattle.sar_frames.specs.Theorems.{cut}
 use Rattle.channel.specs.Limits.{handleMost, signalMost}
 use Rattle.channel.specs.declared.Answer.the-variants.{Frames, Job}
 use Rattle.channel.specs.declared.Slot.{Slot}
-use Rattle.definition.specs.Mem.{fill, fills}
+use Rattle.definition.specs.Mem.{fills}
 use Rattle.definition.specs.Table.{slotAt}
 use Rattle.definition.specs.Outcome.{Outcome, refuse}
-use Rattle.definition.specs.Frames.{frames, laterFrames, send}
+use Rattle.definition.specs.Frames.{frames, send}
 use Rattle.definition.specs.Calls.{Window, sends, jobs, bare, decide}
 use Rattle.definition.specs.Run.{State, outcome}
 use Rattle.rules.specs.Run.{Reached}
 use Rattle.rules.specs.Forms.{gate-cases}
 use Rattle.rules.specs.Join.{planned-frames}
+use Rattle.rules_portions.specs.Sent.{frames-octets}
 use Rattle.rules_jobs.specs.Rejoin.{Rest, last, more, Arrives, Receiver, Rejoined, jobAt, rejoins}
 use Rattle.rules_jobs.specs.Taking.{taking, sized, rejoined-taken}
 
@@ -56,38 +55,6 @@ payloads-is m sdu h =
     let e : m ≡ suc (suc (m - 2)) = omega arith in
     pieces-more m (le16 (length sdu) ++ sdu) (omega arith) (omega arith) ∙ ap (λ (k : ℕ). take k (le16 (length sdu) ++ sdu) ∷ pieces m (drop k (le16 (length sdu) ++ sdu))) e
 
--- ---- what a send writes is the frames of those payloads
-
-module _ (sdu room : List ℕ) (cid m : ℕ) (wide : 2 ≤ m) where
-  abbrev l : ℕ
-  l = length sdu
-
-  later-written : (n from : ℕ) → n ≡ ceil (l - from) m → fills (λ x. x) sdu room (laterFrames cid m l n from) ≡ framed m cid (drop from sdu)
-  unfolding fills fill laterFrames frame
-  later-written zero from e =
-      let c = ceil-holds (l - from) m (omega arith) .enough in
-      let none : l - from ≡ 0 = omega (arith, zero-mul m, ap (λ (k : ℕ). k * m) e) in
-      sym (framed-nil m cid (drop from sdu) (omega arith) (length-drop from sdu ∙ none))
-  later-written (suc n) from e =
-      let some : 0 < l - from = split 1 (l - from) (λ h. h) (λ h. absurd (let z : l - from ≡ 0 = omega arith in let c = rw z at e in omega (arith, ceil-zero m (omega arith)))) in
-      let p = min m (l - from) in
-      let rest = ceil-more (l - from) m (omega arith) some in
-      let count : n ≡ ceil (l - (from + p)) m = (let z : l - (from + p) ≡ l - from - m = omega arith in rw z (omega arith)) in
-      let long : p ≡ length (part sdu from p) = sym (part-length sdu from p (omega arith)) in
-      ap (λ (k : ℕ). le16 k ++ (le16 cid ++ (part sdu from p ++ fills (λ x. x) sdu room (laterFrames cid m l n (from + p))))) long
-      ∙ ap (λ (ys : List ℕ). le16 (length (part sdu from p)) ++ (le16 cid ++ (part sdu from p ++ ys))) (later-written n (from + p) count)
-      ∙ sym (framed-turn m cid sdu from p (omega arith) (omega arith) (omega arith))
-
-  frames-written : (n : ℕ) → n ≡ frameCount l m → fills (λ x. x) sdu room (frames cid m l n) ≡ framesOf cid m sdu
-  unfolding fills fill frames frame
-  frames-written n e =
-      let p = min l (m - 2) in
-      let count : n - 1 ≡ ceil (l - p) m = (let c = count-first m l p wide refl in omega arith) in
-      let long : p + 2 ≡ suc (suc (length (take p sdu))) = (let q = length-take-le p sdu (omega arith) in omega arith) in
-      ap (λ (k : ℕ). le16 k ++ (le16 cid ++ (le16 l ++ (take p sdu ++ fills (λ x. x) sdu room (laterFrames cid m l (n - 1) p))))) long
-      ∙ ap (λ (ys : List ℕ). le16 (suc (suc (length (take p sdu)))) ++ (le16 cid ++ (le16 l ++ (take p sdu ++ ys)))) (later-written (n - 1) p count)
-      ∙ sym (framed-start m cid sdu p wide refl)
-
 -- ---- a send that is answered 0
 
 -- It writes the n frames of the SDU for the peer's MPS, and they fit. x is the slot that is sent on, o what the call comes to, `size` how many
@@ -104,16 +71,17 @@ unfolding decide bare jobs send
 sends-frames s j sdu w link n =
     gate-cases P (s .table) _ _ _ _ (λ r. never)
     (λ _. if-cases P _ (λ _. never)
+    (λ _. if-cases P _ (λ _. never)
     (λ _ e.
     let x = slotAt (s .table) j in
     let z = planned-frames (s .table) j x (length sdu) (sized w s) link n e in
     let wide : 2 ≤ x .peer .mps = (let y = z .wide in omega arith) in
     record {
-      octets = ap (fills (λ x. x) sdu (s .room)) (z .out) ∙ frames-written sdu (s .room) (x .peer .cid) (x .peer .mps) wide n (z .count);
+      octets = ap (fills (λ x. x) sdu (s .room)) (z .out) ∙ frames-octets (x .peer .cid) (x .peer .mps) sdu (s .room) wide n (z .count);
       count = cut (x .peer .mps) (x .peer .cid) sdu (omega arith) .count ∙ sym (z .count);
       wide = wide;
       fits = rw (cut (x .peer .mps) (x .peer .cid) sdu (omega arith) .octets) (z .holds);
-    }))
+    })))
   where
     P : Outcome → Type 0
     P o = o .answer ≡ Frames link n → Sends (slotAt (s .table) j) sdu (s .room) (sized w s) n o

@@ -16,7 +16,7 @@ use Rattle.channel.specs.declared.Slot.{Slot}
 use Rattle.channel.specs.declared.Table.{Table}
 use Rattle.definition.specs.Table.{slotAt, wellFormed}
 use Rattle.definition.specs.Outcome.{Outcome}
-use Rattle.definition.specs.Calls.{Window, Call, frame, sends, plain, accepts, rejects, drops, opens, gives, holds, releases, leaves, leavesCid, takes, asks, by, jobs, bare, decide}
+use Rattle.definition.specs.Calls.{Window, Call, frame, sends, portions, plain, accepts, rejects, drops, opens, gives, holds, releases, leaves, leavesCid, takes, starts, cancels, asks, by, jobs, bare, decide}
 use Rattle.definition.specs.Apart.{calledBy}
 use Rattle.definition.specs.Forms.{Fit}
 use Rattle.rules_slots.specs.Words.{Free, Of}
@@ -25,13 +25,15 @@ use Rattle.rules_slots.specs.Words.{Free, Of}
 abbrev pub called : Table → Call → (room out job : ℕ) → Outcome
 called t c room out job = decide t (bare t c) (length (jobs t c)) room out job
 
--- Two outcomes are the same: the answer, what is moved in the room, what is written to the signal buffer or frame output, and what to the job
--- buffer, and the identifier that comes next. (Moved and written are octets, and places of the call's job and of the slot's own part of the room:
+-- Two outcomes are the same: the answer, what is moved in the room, what is written to the signal buffer, frame output or job's frame buffer and
+-- from where on, how many octets are given out there, what is written to the job buffer, and the identifier that comes next. (Moved and written are octets, and places of the call's job and of the slot's own part of the room:
 -- Mem.antt of crate definition.)
 pub record Same (o p : Outcome) : Type 0 where
   pub answer : o .answer ≡ p .answer
   pub parts : o .parts ≡ p .parts
+  pub at : o .at ≡ p .at
   pub out : o .out ≡ p .out
+  pub octets : o .octets ≡ p .octets
   pub job : o .job ≡ p .job
   pub identifier : o .table .identifier ≡ p .table .identifier
 
@@ -90,6 +92,9 @@ pub data Names (s : ℕ) : Call → Type 0 where
   taking : {out tray : Window} → Names s (plain (takes s) out tray)
   asking : {of : Slot → ℕ} {out tray : Window} → Names s (plain (asks of s) out tray)
   sending : {sdu : List ℕ} {out : Window} → Names s (sends s sdu out)
+  starting : {l : ℕ} {out tray : Window} → Names s (plain (starts s l) out tray)
+  portioning : {octets : List ℕ} {out : Window} → Names s (portions s octets out)
+  cancelling : {out tray : Window} → Names s (plain (cancels s) out tray)
   framing : {l cid : ℕ} {payload : List ℕ} → cid ≡ cidBase + s → Names s (frame l cid payload)
 
 -- The two outcomes are the same, and so is the slot that they leave. (No other slot changes: Change.antt.)

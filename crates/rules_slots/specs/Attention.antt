@@ -1,6 +1,6 @@
 -- THE ATTENTION SET, the law. "The attention set has one bit per slot, set exactly when a job waits, a disconnect is due or ConnectFailed
 -- stands; the number of slots calling and the lowest of them are given (N when none calls)." Said of the states by name, and of no test
--- that the definition makes. Proved in Attends.antt.
+-- that the definition makes. (A job that is handed over in portions does not call: only what is named does.) Proved in Attends.antt.
 use mathlib.Core.Path.{_≡_}
 use mathlib.Core.Bool.{false}
 use Prim.Native.Nat.{ℕ, suc, _/_, _%_, _^_, _≤_, _<_}

@@ -18,7 +18,7 @@ use Rattle.channel.specs.Limits.{cidBase}
 use Rattle.channel.specs.declared.Table.{Table}
 use Rattle.definition.specs.Table.{slotAt, width}
 use Rattle.definition.specs.Outcome.{Outcome}
-use Rattle.definition.specs.Calls.{Window, Call, frame, sends, down, plain, Request, register, signals, pends, rejectsAll, accepts, rejects, drops, creates, opens, gives, holds, releases, leaves, leavesCid, announces, takes, attends, asks, sendsSignal, writes, bare, decide}
+use Rattle.definition.specs.Calls.{Window, Call, frame, sends, portions, down, plain, Request, register, signals, pends, rejectsAll, accepts, rejects, drops, creates, opens, gives, holds, releases, leaves, leavesCid, announces, takes, starts, cancels, attends, asks, sendsSignal, writes, bare, decide}
 use Rattle.definition.specs.Ending.{roomAfter}
 use Rattle.definition.specs.Forms.{Fit}
 use Rattle.rules_slots.specs.Words.{Free, Of, Pending, Unheld, Attempt, Open, OpenTo, Leaving, Due, Lowest}
@@ -54,6 +54,8 @@ Asking t (leaves s) i = i ≡ s
 Asking t (leavesCid cid) i = cid ≡ cidBase + i
 Asking t announces i = Lowest Due t i
 Asking t (takes s) i = i ≡ s
+Asking t (starts s l) i = i ≡ s
+Asking t (cancels s) i = i ≡ s
 Asking t attends i = ⊥
 Asking t (asks of s) i = ⊥
 Asking t (sendsSignal l s) i = ⊥
@@ -63,6 +65,7 @@ Asking t (writes octets) i = ⊥
 abbrev pub MayChange : Table → Call → ℕ → Type 0
 MayChange t (frame l cid payload) i = (cid ≡ cidBase + i) × Open l (slotAt t i)
 MayChange t (sends s sdu out) i = i ≡ s
+MayChange t (portions s octets out) i = i ≡ s
 MayChange t (down l) i = Of l (slotAt t i)
 MayChange t (plain r out tray) i = Asking t r i
 

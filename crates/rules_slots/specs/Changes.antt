@@ -53,14 +53,15 @@ use Rattle.definition.specs.Opening.{create, opened, giveUp}
 use Rattle.definition.specs.Closing.{incRef, decRef, disconnecting, disconnect, disconnectByCid, disconnected, nextDisconnect}
 use Rattle.definition.specs.Signals.{onReject, onDisconnectionReq, onDisconnectionRes, onParameters, onParameterResponse, onConnReq, onConnRes, onCredits, handled, checked, signalled}
 use Rattle.definition.specs.Frames.{joined, dispatch, planned, send, shifted, movingUp, handing, taken, receive}
+use Rattle.definition.specs.Portions.{startPlanned, startJob, givePortion, cancelJob}
 use Rattle.definition.specs.Asking.{registerSpsm, attention, query, sendSignal}
-use Rattle.definition.specs.Calls.{Window, Call, frame, sends, down, plain, Request, register, signals, pends, rejectsAll, accepts, rejects, drops, creates, opens, gives, holds, releases, leaves, leavesCid, announces, takes, attends, asks, sendsSignal, writes, bare, serve, decide}
+use Rattle.definition.specs.Calls.{Window, Call, frame, sends, portions, down, plain, Request, register, signals, pends, rejectsAll, accepts, rejects, drops, creates, opens, gives, holds, releases, leaves, leavesCid, announces, takes, starts, cancels, attends, asks, sendsSignal, writes, bare, serve, decide}
 use Rattle.definition.specs.Forms.{Fit}
 use Rattle.definition.specs.Tells.{cid-within}
 use Rattle.rules_slots.specs.Words.{Free, Pending, Unheld, Attempt, OpenTo, Due, Lowest}
 use Rattle.rules_slots.specs.States.{free-says, free-said, used-says, of-says, pending-says, pending-said, unheld-says, unheld-said, attempt-says, matched-says, matched-said, open-says, openTo-says, openTo-said, leaving-says, due-says, due-said, found-lowest, found-none}
 use Rattle.rules_slots.specs.Change.{BySignal, disconnects, frees, connects, matches, unmatched, credits, Asking, MayChange, Registers, registers, ChangeLaw}
-use Rattle.rules_slots.specs.Kept.{Like, as-is, with-id, Keeps, still-keeps, change-keeps, sweep-keeps, if-keeps, else-keeps, gate-keeps, gate-at, part-kept}
+use Rattle.rules_slots.specs.Kept.{Like, as-is, with-id, Keeps, still-keeps, change-keeps, filling-keeps, sweep-keeps, if-keeps, else-keeps, gate-keeps, gate-at, part-kept}
 
 cid-names : (t : Table) (cid : ℕ) → isCid t cid ≡ true → cid ≡ cidBase + slotOf cid
 cid-names t cid e = omega (arith, leb-true cidBase cid (and-left (leb cidBase cid) _ e))
@@ -116,7 +117,28 @@ module _ (t : Table) (fit : Fit t) (Reg : Type 0) where
 
     sends-alone : (sdu : List ℕ) (w : Window) (l out : ℕ) → Alone (MayChange t (sends s sdu w)) (send t s l out)
     unfolding send
-    sends-alone sdu w l out = gate-at Nothing Nothing Nothing s λ h. else-keeps _ _ _ as-is λ _. planned-alone sdu w _ l h _
+    sends-alone sdu w l out = gate-at Nothing Nothing Nothing s λ h. else-keeps _ _ _ as-is λ _. else-keeps _ _ _ as-is λ _. planned-alone sdu w _ l h _
+
+    started-alone : (x : Slot) (l size : ℕ) → s < t .n → (p : Plan) → Alone (Asking t (starts s l)) (startPlanned t s x l size p)
+    unfolding startPlanned
+    started-alone x l size h (Plan.Refused r) = still-keeps as-is
+    started-alone x l size h (Plan.Frames n octets) = else-keeps _ _ _ as-is λ _. filling-keeps s _ (h, refl)
+
+    starts-alone : (l size : ℕ) → Alone (Asking t (starts s l)) (startJob t s l size)
+    unfolding startJob
+    starts-alone l size = gate-at Nothing Nothing Nothing s λ h. else-keeps _ _ _ as-is λ _. else-keeps _ _ _ as-is λ _. started-alone _ l size h _
+
+    portions-alone : (octets : List ℕ) (w : Window) (count size : ℕ) → Alone (MayChange t (portions s octets w)) (givePortion t s count size)
+    unfolding givePortion
+    portions-alone octets w count size =
+        gate-at Nothing Nothing Nothing s λ h.
+        else-keeps _ _ _ as-is λ _. else-keeps _ _ _ as-is λ _. else-keeps _ _ _ as-is λ _. else-keeps _ _ _ as-is λ _. filling-keeps s _ (h, refl)
+
+    cancels-alone : (room : ℕ) → Alone (Asking t (cancels s)) (cancelJob t room s)
+    unfolding cancelJob
+    cancels-alone room =
+        gate-at (Is room) Nothing Nothing s λ h.
+        else-keeps _ _ _ as-is λ _. else-keeps _ _ _ as-is λ _. if-keeps (λ _. change-keeps s _ _ as-is (h, refl)) λ _. change-keeps s _ _ as-is (h, refl)
 
     -- (what a take writes to the job buffer changes nothing here)
     handing-alone : (u : Table) (x : Slot) → Like t u → s < t .n → (size : ℕ) (out : List Fill) → Alone (Asking t (takes s)) (handing u s x size out)
@@ -334,6 +356,8 @@ module _ (t : Table) (fit : Fit t) where
   asked-alone c (leavesCid cid) reg room out job = leavesCid-alone t fit (Registers c) room cid
   asked-alone c announces reg room out job = announces-alone t fit (Registers c) room out
   asked-alone c (takes s) reg room out job = takes-alone t fit (Registers c) s room out job
+  asked-alone c (starts s l) reg room out job = starts-alone t fit (Registers c) s l out
+  asked-alone c (cancels s) reg room out job = cancels-alone t fit (Registers c) s room
   asked-alone c attends reg room out job = attends-alone t fit (Registers c)
   asked-alone c (asks of s) reg room out job = asks-alone t fit (Registers c) of s
   asked-alone c (sendsSignal l s) reg room out job = sendsSignal-alone t fit (Registers c) out l s
@@ -343,6 +367,7 @@ module _ (t : Table) (fit : Fit t) where
   unfolding decide bare
   alone (frame l cid payload) count room out job = frame-alone t fit (Registers (frame l cid payload)) room l cid payload _ count
   alone (sends s sdu w) count room out job = sends-alone t fit (Registers (sends s sdu w)) s sdu w count out
+  alone (portions s octets w) count room out job = portions-alone t fit (Registers (portions s octets w)) s octets w count out
   alone (down l) count room out job = down-alone t fit (Registers (down l)) room l
   alone (plain r v w) count room out job = asked-alone (plain r v w) r (λ spsm e. subst (λ (q : Request). Registers (plain q v w)) (sym e) registers) room out job
 

@@ -22,7 +22,7 @@ use Rattle.channel.specs.declared.Verdict.{Verdict}
 use Rattle.channel.specs.declared.Verdict.the-variants.{Pass, Stop}
 use Rattle.definition.specs.Mem.{Fill, Move, wipe, moves, parts}
 use Rattle.definition.specs.Table.{gap, freed, slotAt, spent}
-use Rattle.definition.specs.Outcome.{Outcome, still, only, change, sweep, verdict, passed, gate}
+use Rattle.definition.specs.Outcome.{Outcome, still, only, change, filling, sweep, verdict, passed, gate}
 use Rattle.definition.specs.Ending.{itself}
 use Rattle.definition.specs.Forms.{pass-slot}
 use Rattle.definition.specs.Lengths.{length-moves, length-parts}
@@ -104,6 +104,12 @@ module _ {May : ℕ → Type 0} {Reg : Type 0} {t : Table} where
         m = q .m;
         spsms = λ _. q .spsms;
       }
+
+  -- a job's frame buffer filled: of the room nothing moves
+  pub filling-keeps : (s : ℕ) (y : Slot) {a : Answer} {at octets : ℕ} {out : List Fill} → May s → Keeps May Reg t (filling t s y a at out octets)
+  filling-keeps s y {a} {out = out} h =
+      let k : Keeps May Reg t (change t s y [] a out) = change-keeps s y [] as-is h in
+      record { slot = k .slot; moves = k .moves; n = k .n; d = k .d; m = k .m; spsms = k .spsms }
 
   pub sweep-keeps : (p : Slot → Bool) {a : Answer} → ((i : ℕ) → i < t .n → p (slotAt t i) ≡ true → May i) → Keeps May Reg t (sweep t p a)
   sweep-keeps p may =

@@ -48,7 +48,7 @@ use Rattle.definition.specs.Closing.{disconnected}
 use Rattle.definition.specs.Signals.{onReject, onDisconnectionReq, onDisconnectionRes, onParameters, onParameterResponse, onConnReq, onConnRes, onCredits, handled, checked, signalled}
 use Rattle.definition.specs.Frames.{dispatch}
 use Rattle.definition.specs.Asking.{sendSignal}
-use Rattle.definition.specs.Calls.{Window, Call, frame, sends, down, plain, Request, register, signals, pends, rejectsAll, accepts, rejects, drops, creates, opens, gives, holds, releases, leaves, leavesCid, announces, takes, attends, asks, sendsSignal, writes, Holder, nobody, by, jobs, bare, serve, decide}
+use Rattle.definition.specs.Calls.{Window, Call, frame, sends, portions, down, plain, Request, register, signals, pends, rejectsAll, accepts, rejects, drops, creates, opens, gives, holds, releases, leaves, leavesCid, announces, takes, starts, cancels, attends, asks, sendsSignal, writes, Holder, nobody, by, jobs, bare, serve, decide}
 use Rattle.definition.specs.Apart.{askedBy, calledBy}
 use Rattle.definition.specs.Forms.{found-passes, pass-slot}
 use Rattle.definition.specs.Tells.{cid-within, free-is, connected-is}
@@ -162,7 +162,7 @@ module _ (l : ℕ) {t : Table} {ys : List Slot} (on : See l t ys) where
   sweep-both p own a =
       let f : Slot → Slot = λ x. choose (p x) (freed x) x in
       record {
-        told = record { answer = refl; parts = swept-parts (t .n) p (t .slots) ys (on .fit) (on .fits) (λ i h. same-test l p own (on .slots i h)); out = refl; job = refl; identifier = refl };
+        told = record { answer = refl; parts = swept-parts (t .n) p (t .slots) ys (on .fit) (on .fits) (λ i h. same-test l p own (on .slots i h)); at = refl; out = refl; octets = refl; job = refl; identifier = refl };
         slots = λ i h. rw (mapFirst-at (t .n) i f (t .slots) h (on .fit), mapFirst-at (t .n) i f ys h (on .fits)) (swept-same l p own (on .slots i h));
       }
 
@@ -396,6 +396,8 @@ module _ (l : ℕ) {t : Table} {ys : List Slot} (on : See l t ys) where
   asked-both (leavesCid cid) v w e x room out job = nobodys e
   asked-both announces v w e x room out job = nobodys e
   asked-both (takes s) v w e x room out job = nobodys e
+  asked-both (starts s k) v w e x room out job = nobodys e
+  asked-both (cancels s) v w e x room out job = nobodys e
   asked-both attends v w e x room out job = nobodys e
   asked-both (asks of s) v w e x room out job = nobodys e
   asked-both (sendsSignal k s) v w e x room out job = back e (sendsSignal-both k (its e) out s)
@@ -406,6 +408,7 @@ module _ (l : ℕ) {t : Table} {ys : List Slot} (on : See l t ys) where
   unfolding decide bare jobs
   called-both (frame k cid payload) e x room out job = back e (frame-seen k (its e) cid payload room out job (x .framed refl))
   called-both (sends s sdu w) e x room out job = nobodys e
+  called-both (portions s octets w) e x room out job = nobodys e
   called-both (down k) e x room out job = back e (down-both k (its e) room)
   called-both (plain r v w) e x room out job = asked-both r v w e x room out job
 

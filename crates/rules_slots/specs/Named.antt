@@ -28,16 +28,17 @@ use Rattle.channel.specs.declared.Verdict.{Verdict}
 use Rattle.channel.specs.declared.Verdict.the-variants.{Pass, Stop}
 use Rattle.definition.specs.Mem.{Fill, Move}
 use Rattle.definition.specs.Table.{gap, slotAt, wellFormed, isCid, slotOf, spent}
-use Rattle.definition.specs.Outcome.{Outcome, still, change, verdict, passed, gate}
+use Rattle.definition.specs.Outcome.{Outcome, still, change, filling, verdict, passed, gate}
 use Rattle.definition.specs.Pending.{acceptPending, rejectPending, notCode, rejectRead, dropPending}
 use Rattle.definition.specs.Opening.{opened, giveUp}
 use Rattle.definition.specs.Closing.{incRef, decRef, disconnecting, disconnect, disconnectByCid}
 use Rattle.definition.specs.Frames.{joined, dispatch, planned, send, taken, receive}
+use Rattle.definition.specs.Portions.{startPlanned, startJob, givePortion, cancelJob}
 use Rattle.definition.specs.Asking.{query}
 use Rattle.definition.specs.Calls.{Call, frame, joining, jobs, bare, serve, decide}
 use Rattle.definition.specs.Forms.{pass-slot}
 use Rattle.definition.specs.Tells.{cid-within}
-use Rattle.rules_slots.specs.Answer.{called, Same, Alike, Names, accepting, rejecting, dropping, querying, giving, holding, releasing, leaving, leavingCid, taking, asking, sending, framing, SlotLaw}
+use Rattle.rules_slots.specs.Answer.{called, Same, Alike, Names, accepting, rejecting, dropping, querying, giving, holding, releasing, leaving, leavingCid, taking, asking, sending, starting, portioning, cancelling, framing, SlotLaw}
 
 -- ---- one table with other slots and SPSMs
 
@@ -74,10 +75,10 @@ module _ {R : ℕ → Slot → Slot → Type 0} {t : Table} {ys : List Slot} {qs
   u = beside t ys qs
 
   pub still-both : {a : Answer} {out : List Fill} → Both R (t .n) (still t a out) (still (beside t ys qs) a out)
-  still-both = record { told = record { answer = refl; parts = refl; out = refl; job = refl; identifier = refl }; slots = on .slots }
+  still-both = record { told = record { answer = refl; parts = refl; at = refl; out = refl; octets = refl; job = refl; identifier = refl }; slots = on .slots }
 
   pub still-id : {a : Answer} {out : List Fill} → Both R (t .n) (still (spent t) a out) (still (spent (beside t ys qs)) a out)
-  still-id = record { told = record { answer = refl; parts = refl; out = refl; job = refl; identifier = refl }; slots = on .slots }
+  still-id = record { told = record { answer = refl; parts = refl; at = refl; out = refl; octets = refl; job = refl; identifier = refl }; slots = on .slots }
 
   pub set-both : (s : ℕ) (y : Slot) → s < t .n → (i : ℕ) → i < t .n → R i (getD (set (t .slots) s y) i gap) (getD (set ys s y) i gap)
   set-both s y h i k = go (eqb i s) refl
@@ -89,10 +90,13 @@ module _ {R : ℕ → Slot → Slot → Type 0} {t : Table} {ys : List Slot} {qs
       go false e = rw (getD-set-other (t .slots) s i y gap (eqb-false i s e), getD-set-other ys s i y gap (eqb-false i s e)) (on .slots i k)
 
   pub change-both : (s : ℕ) (y : Slot) (ms : List Move) {a : Answer} {out : List Fill} → s < t .n → Both R (t .n) (change t s y ms a out) (change (beside t ys qs) s y ms a out)
-  change-both s y ms h = record { told = record { answer = refl; parts = refl; out = refl; job = refl; identifier = refl }; slots = set-both s y h }
+  change-both s y ms h = record { told = record { answer = refl; parts = refl; at = refl; out = refl; octets = refl; job = refl; identifier = refl }; slots = set-both s y h }
 
   pub change-id : (s : ℕ) (y : Slot) (ms : List Move) {a : Answer} {out : List Fill} → s < t .n → Both R (t .n) (change (spent t) s y ms a out) (change (spent (beside t ys qs)) s y ms a out)
-  change-id s y ms h = record { told = record { answer = refl; parts = refl; out = refl; job = refl; identifier = refl }; slots = set-both s y h }
+  change-id s y ms h = record { told = record { answer = refl; parts = refl; at = refl; out = refl; octets = refl; job = refl; identifier = refl }; slots = set-both s y h }
+
+  filling-both : (s : ℕ) (y : Slot) {a : Answer} {at octets : ℕ} {out : List Fill} → s < t .n → Both R (t .n) (filling t s y a at out octets) (filling u s y a at out octets)
+  filling-both s y h = record { told = record { answer = refl; parts = refl; at = refl; out = refl; octets = refl; job = refl; identifier = refl }; slots = set-both s y h }
 
   verdict-same : (room signal link slot : Given) → verdict u room signal link slot ≡ verdict t room signal link slot
   unfolding verdict
@@ -171,12 +175,33 @@ module _ {R : ℕ → Slot → Slot → Type 0} {t : Table} {ys : List Slot} {qs
 
     sends-both : (l out : ℕ) → Both R (t .n) (send t s l out) (send u s l out)
     unfolding send
-    sends-both l out = gate-at Nothing Nothing Nothing s λ h. rw e (if-both (λ _. still-both) λ _. planned-both (slotAt t s) l h _)
+    sends-both l out = gate-at Nothing Nothing Nothing s λ h. rw e (if-both (λ _. still-both) λ _. if-both (λ _. still-both) λ _. planned-both (slotAt t s) l h _)
+
+    started-both : (x : Slot) (l size : ℕ) → s < t .n → (p : Plan) → Both R (t .n) (startPlanned t s x l size p) (startPlanned u s x l size p)
+    unfolding startPlanned
+    started-both x l size h (Plan.Refused r) = still-both
+    started-both x l size h (Plan.Frames n octets) = if-both (λ _. still-both) λ _. filling-both s _ h
+
+    starts-both : (l size : ℕ) → Both R (t .n) (startJob t s l size) (startJob u s l size)
+    unfolding startJob
+    starts-both l size = gate-at Nothing Nothing Nothing s λ h. rw e (if-both (λ _. still-both) λ _. if-both (λ _. still-both) λ _. started-both (slotAt t s) l size h _)
+
+    portions-both : (count size : ℕ) → Both R (t .n) (givePortion t s count size) (givePortion u s count size)
+    unfolding givePortion
+    portions-both count size =
+        gate-at Nothing Nothing Nothing s λ h.
+        rw e (if-both (λ _. still-both) λ _. if-both (λ _. still-both) λ _. if-both (λ _. still-both) λ _. if-both (λ _. still-both) λ _. filling-both s _ h)
+
+    cancels-both : (room : ℕ) → Both R (t .n) (cancelJob t room s) (cancelJob u room s)
+    unfolding cancelJob
+    cancels-both room =
+        gate-at (Is room) Nothing Nothing s λ h.
+        rw e (if-both (λ _. still-both) λ _. if-both (λ _. still-both) λ _. if-both (λ _. change-both s _ _ h) λ _. change-both s _ _ h)
 
     taken-both : (x : Slot) (size : ℕ) → s < t .n → (g : Grant) → Both R (t .n) (taken t s x size g) (taken u s x size g)
     unfolding taken
-    taken-both x size h Grant.Nothing = record { told = record { answer = refl; parts = refl; out = refl; job = refl; identifier = refl }; slots = set-both s _ h }
-    taken-both x size h (Grant.Credits n) = record { told = record { answer = refl; parts = refl; out = refl; job = refl; identifier = refl }; slots = set-both s _ h }
+    taken-both x size h Grant.Nothing = record { told = record { answer = refl; parts = refl; at = refl; out = refl; octets = refl; job = refl; identifier = refl }; slots = set-both s _ h }
+    taken-both x size h (Grant.Credits n) = record { told = record { answer = refl; parts = refl; at = refl; out = refl; octets = refl; job = refl; identifier = refl }; slots = set-both s _ h }
 
     takes-both : (room signal size : ℕ) → Both R (t .n) (receive t room signal s size) (receive u room signal s size)
     unfolding receive
@@ -220,6 +245,9 @@ module _ {R : ℕ → Slot → Slot → Type 0} {t : Table} {ys : List Slot} {qs
     named-both _ taking room out job = takes-both room out job
     named-both _ (asking {of = of}) room out job = asks-both of
     named-both _ (sending {sdu = sdu}) room out job = sends-both (length sdu) out
+    named-both _ (starting {l = l}) room out job = starts-both l out
+    named-both _ (portioning {octets = octets}) room out job = portions-both (length octets) out
+    named-both _ cancelling room out job = cancels-both room
     named-both _ (framing {l = l} {cid = cid} {payload = payload} q) room out job = frame-both room l cid payload out job (omega arith)
 
 -- ---- the law: R says that slot s is equal

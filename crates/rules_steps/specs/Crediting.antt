@@ -1,7 +1,8 @@
--- A send lowers the peer's credits by the frames that it writes, and a take books the grant that it tells (Credits.antt). Carried by the plan (crate sar_cut) and
+-- A send lowers the peer's credits by the frames that it writes, a start by those that it sets aside, which a cancel in time returns, and a take books the grant that it
+-- tells (Credits.antt). Carried by the plan (crate sar_cut) and
 -- by the account's own rule (crate credit).
 use mathlib.Core.Path.{_≡_, refl, sym, ap, _∙_, subst}
-use mathlib.Core.Bool.{false≢true}
+use mathlib.Core.Bool.{false, false≢true}
 use Prim.Native.Nat.{ℕ, zero, suc, _+_, _-_, _≤_, min}
 use native.Mathlib.Omega.{arith}
 use borrow.Author.Tests.{eqb-true, eqb-false, not-false}
@@ -12,18 +13,19 @@ use Rattle.credit.specs.declared.Grant.the-variants as Grant
 use Rattle.credit.specs.Account.{grantOf}
 use Rattle.sar_cut.specs.declared.Plan.{Plan}
 use Rattle.sar_cut.specs.declared.Plan.the-variants as Plan
-use Rattle.sar_cut.specs.Cutting.{frameCount, planSend}
+use Rattle.sar_cut.specs.Cutting.{frameCount, framesLength, planSend}
 use Rattle.sar_cut.specs.CutLaws.{count-holds, plan-allowed}
 use Rattle.channel.specs.declared.ChannelState.the-variants.{Connected}
 use Rattle.channel.specs.declared.Slot.{Slot}
 use Rattle.channel.specs.declared.Table.{Table}
-use Rattle.definition.specs.Table.{slotAt, isConnected}
+use Rattle.definition.specs.Table.{slotAt, isConnected, isOpen}
 use Rattle.definition.specs.Outcome.{Outcome}
 use Rattle.definition.specs.Frames.{laterFrames, frames, send, planned, receive, taken, grantIn}
+use Rattle.definition.specs.Portions.{startPlanned, startJob, cancelJob}
 use Rattle.definition.specs.Calls.{bare, decide, serve}
 use Rattle.definition.specs.Tells.{connected-is}
 use Rattle.rules_steps.specs.Tools.{gate-cases}
-use Rattle.rules_steps.specs.Credits.{LaterFrames, none, more, AllFrames, first, sent, SendsAs, EverySend, grants, grants-none, none-waits, TakesAs, EveryTake}
+use Rattle.rules_steps.specs.Credits.{LaterFrames, none, more, AllFrames, first, sent, SendsAs, EverySend, started, StartsAs, EveryStart, returns, leaves, CancelsAs, EveryCancel, grants, grants-none, none-waits, TakesAs, EveryTake}
 use Rattle.rules_steps.specs.Credits as Credits
 
 -- ---- what is written is n frames
@@ -53,21 +55,66 @@ module _ (t : Table) (s l out : ℕ) where
   abbrev N : Outcome → Type 0
   N o = SendsAs t s l o
 
-  planned-sends : x .state ≡ Connected → (p : Plan) → planSend l (x .peer .mtu) (x .peer .mps) (x .peer .credits) out ≡ p → N (planned t s x l p)
+  planned-sends : x .state ≡ Connected → isOpen (x .job) ≡ false → (p : Plan) → planSend l (x .peer .mtu) (x .peer .mps) (x .peer .credits) out ≡ p → N (planned t s x l p)
   unfolding planned
-  planned-sends on (Plan.Refused r) e = Credits.Sends.refused
-  planned-sends on (Plan.Frames n octets) e =
+  planned-sends on shut (Plan.Refused r) e = Credits.Sends.refused
+  planned-sends on shut (Plan.Frames n octets) e =
       let a = plan-allowed l (x .peer .mtu) (x .peer .mps) (x .peer .credits) out n octets e in
       let some : 1 ≤ frameCount l (x .peer .mps) = count-holds l (x .peer .mps) (let w = a .wide in omega arith) .some in
-      sent on (a .frames) (some-frames (x .peer .cid) (x .peer .mps) l n (let f = a .frames in omega arith)) (let f = a .frames in let c = a .paid in omega arith)
+      sent on shut (a .frames) (some-frames (x .peer .cid) (x .peer .mps) l n (let f = a .frames in omega arith)) (let f = a .frames in let c = a .paid in omega arith)
 
   send-sends : N (send t s l out)
   unfolding send
-  send-sends = gate-cases N t _ _ _ _ (λ r h. Credits.Sends.refused) (λ _. if-cases N _ (λ _. Credits.Sends.refused) (λ e. planned-sends (connected-is (x .state) (not-false _ e)) _ refl))
+  send-sends = gate-cases N t _ _ _ _ (λ r h. Credits.Sends.refused) (λ _. if-cases N _ (λ _. Credits.Sends.refused)
+      (λ e. if-cases N _ (λ _. Credits.Sends.refused) (λ f. planned-sends (connected-is (x .state) (not-false _ e)) f _ refl)))
 
 pub every-send : EverySend
 unfolding decide bare
 every-send t s sdu w count room out job = send-sends t s count out
+
+-- ---- start and cancel
+
+module _ (t : Table) (s : ℕ) where
+  abbrev z : Slot
+  z = slotAt t s
+
+  module _ (l size : ℕ) where
+    abbrev B : Outcome → Type 0
+    B o = StartsAs t s l o
+
+    planned-starts : z .state ≡ Connected → isOpen (z .job) ≡ false → (p : Plan) → planSend l (z .peer .mtu) (z .peer .mps) (z .peer .credits) (framesLength l (z .peer .mps)) ≡ p
+        → B (startPlanned t s z l size p)
+    unfolding startPlanned
+    planned-starts on shut (Plan.Refused r) e = Credits.Starts.refused
+    planned-starts on shut (Plan.Frames n octets) e =
+        let a = plan-allowed l (z .peer .mtu) (z .peer .mps) (z .peer .credits) (framesLength l (z .peer .mps)) n octets e in
+        if-cases B _ (λ _. Credits.Starts.refused) (λ _. started on shut (a .frames) (let f = a .frames in let c = a .paid in omega arith))
+
+    start-starts : B (startJob t s l size)
+    unfolding startJob
+    start-starts =
+        gate-cases B t _ _ _ _ (λ r h. Credits.Starts.refused)
+        (λ _. if-cases B _ (λ _. Credits.Starts.refused)
+        (λ e. if-cases B _ (λ _. Credits.Starts.refused) (λ f. planned-starts (connected-is (z .state) (not-false _ e)) f _ refl)))
+
+  abbrev C : Outcome → Type 0
+  C o = CancelsAs t s o
+
+  cancel-cancels : (room : ℕ) → C (cancelJob t room s)
+  unfolding cancelJob
+  cancel-cancels room =
+      gate-cases C t _ _ _ _ (λ r h. Credits.Cancels.refused)
+      (λ _. if-cases C _ (λ _. Credits.Cancels.refused)
+      (λ e. if-cases C _ (λ _. Credits.Cancels.refused)
+      (λ f. if-cases C _ (λ g. returns (connected-is (z .state) (not-false _ e)) (not-false _ f) (eqb-true _ _ g)) (λ g. leaves (connected-is (z .state) (not-false _ e)) (not-false _ f) (eqb-false _ _ g)))))
+
+pub every-start : EveryStart
+unfolding decide bare serve
+every-start t s l v w count room out job = start-starts t s l out
+
+pub every-cancel : EveryCancel
+unfolding decide bare serve
+every-cancel t s v w count room out job = cancel-cancels t s room
 
 -- ---- take
 

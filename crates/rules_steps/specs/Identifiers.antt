@@ -11,7 +11,7 @@ use Rattle.lists.specs.Choose.{choose, if-cases}
 use Rattle.signal_forms.specs.declared.Signal.{Signal}
 use Rattle.channel.specs.Limits.{identifierMost}
 use Rattle.channel.specs.declared.Answer.{Answer}
-use Rattle.channel.specs.declared.Answer.the-variants.{Done, Refused, At, Link, Opened, Due, Frames, Job, Attention, Number, Event}
+use Rattle.channel.specs.declared.Answer.the-variants.{Done, Refused, At, Link, Opened, Due, Frames, Job, Attention, Number, Event, Portion}
 use Rattle.channel.specs.declared.ChannelState.the-variants.{PeerDisconnecting}
 use Rattle.channel.specs.declared.Table.{Table}
 use Rattle.definition.specs.Mem.{Fill}
@@ -33,6 +33,7 @@ dueAt (Job link copied len) = 0
 dueAt (Attention set n lowest) = 0
 dueAt (Number n) = 0
 dueAt (Event min max latency timeout) = 0
+dueAt (Portion link taken full) = 0
 
 -- ---- no request is a reply: the one call that writes either, of one slot in one state
 

@@ -11,3 +11,5 @@ pub mod Consequences
 pub mod Concluding
 pub mod Runs
 pub mod Running
+-- what a portion of a job finds, whatever calls came since the last
+pub mod Between

@@ -49,31 +49,33 @@ use Rattle.sar_join.specs.declared.Joined.the-variants as Joined
 use Rattle.sar_join.specs.Joining.{reached, firstStep, joinStep}
 use Rattle.sar_cut.specs.declared.Plan.{Plan}
 use Rattle.sar_cut.specs.declared.Plan.the-variants as Plan
-use Rattle.sar_cut.specs.Cutting.{planSend}
-use Rattle.sar_cut.specs.CutLaws.{plan-allowed}
+use Rattle.sar_cut.specs.Cutting.{frameCount, framesLength, planSend}
+use Rattle.sar_cut.specs.CutLaws.{count-holds, plan-allowed}
 use Rattle.channel.specs.Limits.{cidBase}
 use Rattle.channel.specs.declared.Answer.{Answer}
-use Rattle.channel.specs.declared.Answer.the-variants.{Done, Refused, At, Link, Opened, Due, Frames}
+use Rattle.channel.specs.declared.Answer.the-variants.{Done, Refused, At, Link, Opened, Due, Frames, Portion}
 use Rattle.channel.specs.declared.ChannelState.{ChannelState}
 use Rattle.channel.specs.declared.ChannelState.the-variants.{Disconnected, Connecting, PeerConnecting, Connected, ConnectFailed, PeerDisconnecting, Disconnecting}
 use Rattle.channel.specs.declared.Given.the-variants.{Nothing, Is}
 use Rattle.channel.specs.declared.L2capChannelConfig.{L2capChannelConfig}
+use Rattle.channel.specs.declared.OpenJob.{OpenJob}
 use Rattle.channel.specs.declared.Slot.{Slot}
 use Rattle.channel.specs.declared.Table.{Table}
-use Rattle.definition.specs.Table.{gap, freed, slotAt, found, isDisconnected, isConnecting, isPeerConnecting, isConnected, isDisconnecting, failureOf, isFree, ofLink, pendingOf, unheldPendingOf, attemptOf, attemptBy, connectedTo, dueSlot, index, cidOf, isCid, slotOf, usesPeer, isRegistered, nextId, withAccount}
+use Rattle.definition.specs.Table.{gap, freed, slotAt, found, isDisconnected, isConnecting, isPeerConnecting, isConnected, isDisconnecting, failureOf, isFree, ofLink, pendingOf, unheldPendingOf, attemptOf, attemptBy, connectedTo, dueSlot, index, cidOf, isCid, slotOf, usesPeer, isRegistered, nextId, withAccount, isOpen, noJob}
 use Rattle.definition.specs.Outcome.{Outcome}
 use Rattle.definition.specs.Pending.{nextPending, rejectAllPending, acceptPending, rejectPending, notCode, rejectRead, dropPending}
 use Rattle.definition.specs.Opening.{create, opened, giveUp}
 use Rattle.definition.specs.Closing.{incRef, decRef, disconnecting, disconnect, disconnectByCid, disconnected, nextDisconnect}
 use Rattle.definition.specs.Signals.{signalled, checked, handled, onReject, onDisconnectionReq, onDisconnectionRes, onParameters, onParameterResponse, onConnReq, onConnRes, onCredits}
 use Rattle.definition.specs.Frames.{dispatch, joined, send, planned, receive, taken}
+use Rattle.definition.specs.Portions.{givenOut, frameSize, begun, startPlanned, startJob, taking, fullWith, filledBy, givePortion, cancelJob}
 use Rattle.definition.specs.Asking.{registerSpsm, attention, query, sendSignal}
-use Rattle.definition.specs.Calls.{Window, Call, frame, sends, down, plain, Request, register, signals, pends, rejectsAll, accepts, rejects, drops, creates, opens, gives, holds, releases, leaves, leavesCid, announces, takes, attends, asks, sendsSignal, writes, bare, decide, serve}
+use Rattle.definition.specs.Calls.{Window, Call, frame, sends, portions, down, plain, Request, register, signals, pends, rejectsAll, accepts, rejects, drops, creates, opens, gives, holds, releases, leaves, leavesCid, announces, takes, starts, cancels, attends, asks, sendsSignal, writes, bare, decide, serve}
 use Rattle.definition.specs.Tells.{cid-within, pending-is, connected-is, free-is, connecting-is}
 use Rattle.definition.specs.Numbers.{refused-not-0}
 use Rattle.definition.specs.Forms.{Fit, found-passes}
-use Rattle.rules_steps.specs.Tools.{gate-cases, is-peer-leaving, is-unannounced, is-failed, leaving-cases, left-cases, given-up-cases, and-off, and-off-right, or-off, or-none, held}
-use Rattle.rules_steps.specs.Steps.{Seen, seen, is, free, Row, byCode, namesAsDcid, namesAsScid, admits, grantsTo, isGood, steps, isNumber, Step, row, stay, stay-down, stay-frame, stay-send, link-down, overrun, Steps, EveryStep}
+use Rattle.rules_steps.specs.Tools.{gate-cases, is-peer-leaving, is-unannounced, is-failed, leaving-cases, left-cases, given-up-cases, and-off, and-off-right, or-off, or-none, or-right, held}
+use Rattle.rules_steps.specs.Steps.{Seen, seen, is, free, Row, byCode, namesAsDcid, namesAsScid, admits, grantsTo, isGood, steps, isNumber, Fills, part, full, last, Step, row, stay, stay-down, stay-frame, stay-send, portion, stay-portion, link-down, overrun, Steps, EveryStep}
 use Rattle.rules_steps.specs.Steps as Steps
 
 -- a slot that was read, by what its tests told
@@ -164,7 +166,7 @@ module _ (t : Table) (fit : Fit t) (v w : Window) where
       let x = slotAt t s in
       let p : pendingOf link x ≡ true = found-passes t fit (pendingOf link) e in
       steps-one (pends link up) _ s _ (leb-false _ _ e)
-      (seen-as (λ k h l. Row t s (pends link up) (At (index s)) (is k h l (x .peer .credits)) (is k 1 l (x .peer .credits))) x
+      (seen-as (λ k h l. Row t s (pends link up) (At (index s)) (is k h l (x .peer .credits) (x .job)) (is k 1 l (x .peer .credits) (x .job))) x
       (pending-is (x .state) (and-left (isPeerConnecting (x .state)) _ p)) (eqb-true _ _ (not-false _ f)) (eqb-true _ _ (and-right (isPeerConnecting (x .state)) _ p)) (Steps.pend refl))
       (λ i g. g))))
 
@@ -180,7 +182,7 @@ module _ (t : Table) (fit : Fit t) (v w : Window) where
       let q : unheldPendingOf link x ≡ true = found-passes t fit (unheldPendingOf link) e in
       let p : pendingOf link x ≡ true = and-left (pendingOf link x) _ q in
       steps-one (rejectsAll link) _ s _ (leb-false _ _ e)
-      (seen-as (λ k h l. Row t s (rejectsAll link) (At (index s)) (is k h l (x .peer .credits)) (free h)) x
+      (seen-as (λ k h l. Row t s (rejectsAll link) (At (index s)) (is k h l (x .peer .credits) (x .job)) (free h)) x
       (pending-is (x .state) (and-left (isPeerConnecting (x .state)) _ p)) (eqb-true _ _ (and-right (pendingOf link x) _ q)) (eqb-true _ _ (and-right (isPeerConnecting (x .state)) _ p)) (Steps.clear refl))
       (λ i g. g)))
 
@@ -195,7 +197,7 @@ module _ (t : Table) (fit : Fit t) (v w : Window) where
       (λ _. if-cases P _ (λ _ i l. stay refl)
       (λ e. if-cases P _ (λ _ i l. stay refl)
       (λ f. steps-one (accepts s c) _ s _ h
-      (seen-as (λ k n l. Row t s (accepts s c) (Link l) (is k n l (x .peer .credits)) (is Connected n l (x .peer .credits))) x
+      (seen-as (λ k n l. Row t s (accepts s c) (Link l) (is k n l (x .peer .credits) (x .job)) (is Connected n l (x .peer .credits) (x .job))) x
       (pending-is (x .state) (not-false _ e)) (held _ f) refl Steps.accept)
       (λ i g. g))))))
 
@@ -208,7 +210,7 @@ module _ (t : Table) (fit : Fit t) (v w : Window) where
       (λ h. if-cases P _ (λ _ i l. stay refl)
       (λ e. if-cases P _ (λ _ i l. stay refl)
       (λ f. steps-one (rejects s (Known result)) _ s _ h
-      (seen-as (λ k n l. Row t s (rejects s (Known result)) (Link l) (is k n l (x .peer .credits)) (free (x .hold - 1))) x
+      (seen-as (λ k n l. Row t s (rejects s (Known result)) (Link l) (is k n l (x .peer .credits) (x .job)) (free (x .hold - 1))) x
       (pending-is (x .state) (not-false _ e)) (held _ f) refl Steps.reject)
       (λ i g. g))))
   reject-pending room signal s Unknown = gate-cases (S (rejects s Unknown)) t _ _ _ _ (λ r h i l. stay (and-off _ (refused-not-0 r))) (λ _ i l. stay refl)
@@ -231,9 +233,9 @@ module _ (t : Table) (fit : Fit t) (v w : Window) where
       (λ e. if-cases P _ (λ _ i l. stay refl)
       (λ f. if-cases P _
       (λ g. steps-one (drops s) _ s _ h
-      (seen-as (λ k n l. Row t s (drops s) Done (is k n l (x .peer .credits)) (free (x .hold - 1))) x (pending-is (x .state) g) (held _ f) refl Steps.drop-pending) (λ i z. and-off _ z))
+      (seen-as (λ k n l. Row t s (drops s) Done (is k n l (x .peer .credits) (x .job)) (free (x .hold - 1))) x (pending-is (x .state) g) (held _ f) refl Steps.drop-pending) (λ i z. and-off _ z))
       (λ g. steps-one (drops s) _ s _ h
-      (seen-as (λ k n l. Row t s (drops s) Done (is k n l (x .peer .credits)) (is k (x .hold - 1) l (x .peer .credits))) x refl (held _ f) refl (Steps.drop-hold e g)) (λ i z. and-off _ z)))))
+      (seen-as (λ k n l. Row t s (drops s) Done (is k n l (x .peer .credits) (x .job)) (is k (x .hold - 1) l (x .peer .credits) (x .job))) x refl (held _ f) refl (Steps.drop-hold e g)) (λ i z. and-off _ z)))))
 
   -- ---- we ask
 
@@ -250,7 +252,7 @@ module _ (t : Table) (fit : Fit t) (v w : Window) where
       let x = slotAt t s in
       let p : isFree x ≡ true = found-passes t fit isFree e in
       steps-one (creates link spsm c) _ s _ (leb-false _ _ e)
-      (seen-as (λ k h l. Row t s (creates link spsm c) (At (index s)) (is k h l (x .peer .credits)) (is (Connecting (nextId t)) 0 link 0)) x
+      (seen-as (λ k h l. Row t s (creates link spsm c) (At (index s)) (is k h l (x .peer .credits) (x .job)) (is (Connecting (nextId t)) 0 link 0 noJob)) x
       (free-is (x .state) (and-left (isDisconnected (x .state)) _ p)) (eqb-true _ _ (and-right (isDisconnected (x .state)) _ p)) refl (Steps.create refl))
       (λ i g. g)))))
 
@@ -269,7 +271,7 @@ module _ (t : Table) (fit : Fit t) (v w : Window) where
       (λ same. if-cases P _
       (λ off. steps-one (opens s link up) _ s _ h
       (subst (λ (u : Bool). Row t s (opens s link u) (Refused Refusal.Disconnected) (seen x) (free (x .hold))) (sym (not-true _ off))
-      (seen-as (λ k n l. Row t s (opens s link false) (Refused Refusal.Disconnected) (is (x .state) n l p) (free n)) x refl refl (eqb-true _ _ (not-false _ same)) (Steps.open-down live)))
+      (seen-as (λ k n l. Row t s (opens s link false) (Refused Refusal.Disconnected) (is (x .state) n l p (x .job)) (free n)) x refl refl (eqb-true _ _ (not-false _ same)) (Steps.open-down live)))
       (λ i z. and-off _ z))
       (λ on.
       let is-up : true ≡ up = sym (not-false _ on) in
@@ -277,20 +279,20 @@ module _ (t : Table) (fit : Fit t) (v w : Window) where
       if-cases P _
       (λ gone. steps-one (opens s link up) _ s _ h
       (subst (λ (u : Bool). Row t s (opens s link u) (Refused Refusal.Disconnected) (seen x) (free (x .hold))) is-up
-      (left-cases (λ k. Row t s (opens s link true) (Refused Refusal.Disconnected) (is k (x .hold) (x .link) p) (free (x .hold))) (x .state) gone
-      (λ id. subst (λ (l : ℕ). Row t s (opens s link true) (Refused Refusal.Disconnected) (is (PeerDisconnecting id) (x .hold) l p) (free (x .hold))) (sym link-is) Steps.open-left-by-peer)
-      (λ a. subst (λ (l : ℕ). Row t s (opens s link true) (Refused Refusal.Disconnected) (is (Disconnecting a) (x .hold) l p) (free (x .hold))) (sym link-is) Steps.open-left)))
+      (left-cases (λ k. Row t s (opens s link true) (Refused Refusal.Disconnected) (is k (x .hold) (x .link) p (x .job)) (free (x .hold))) (x .state) gone
+      (λ id. subst (λ (l : ℕ). Row t s (opens s link true) (Refused Refusal.Disconnected) (is (PeerDisconnecting id) (x .hold) l p (x .job)) (free (x .hold))) (sym link-is) Steps.open-left-by-peer)
+      (λ a. subst (λ (l : ℕ). Row t s (opens s link true) (Refused Refusal.Disconnected) (is (Disconnecting a) (x .hold) l p (x .job)) (free (x .hold))) (sym link-is) Steps.open-left)))
       (λ i z. and-off _ z))
       (λ _. if-cases P _
       (λ f. steps-one (opens s link up) _ s _ h
       (subst (λ (u : Bool). Row t s (opens s link u) (Refused (Refusal.ConnectError (failureOf (x .state)))) (seen x) (free (x .hold))) is-up
-      (seen-as (λ k n l. Row t s (opens s link true) (Refused (Refusal.ConnectError (failureOf k))) (is k n l p) (free n)) x (is-failed (x .state) f) refl link-is Steps.open-failed))
+      (seen-as (λ k n l. Row t s (opens s link true) (Refused (Refusal.ConnectError (failureOf k))) (is k n l p (x .job)) (free n)) x (is-failed (x .state) f) refl link-is Steps.open-failed))
       (λ i z. and-off _ z))
       (λ _. if-cases P _ (λ e i l. stay (or-off (only-at s i (λ y. isConnected (y .state)) (not-true _ e))))
       (λ c. if-cases P _ (λ _ i l. stay refl)
       (λ z. steps-one (opens s link up) _ s _ h
-      (subst (λ (u : Bool). Row t s (opens s link u) Opened (seen x) (is (x .state) 1 (x .link) p)) is-up
-      (seen-as (λ k n l. Row t s (opens s link true) Opened (is k n l p) (is k 1 l p)) x (connected-is (x .state) (not-false _ c)) (eqb-true _ _ (not-false _ z)) link-is Steps.open-held))
+      (subst (λ (u : Bool). Row t s (opens s link u) Opened (seen x) (is (x .state) 1 (x .link) p (x .job))) is-up
+      (seen-as (λ k n l. Row t s (opens s link true) Opened (is k n l p (x .job)) (is k 1 l p (x .job))) x (connected-is (x .state) (not-false _ c)) (eqb-true _ _ (not-false _ z)) link-is Steps.open-held))
       (λ i u. or-off (and-off _ u))))))))))
 
   give-up : (room s : ℕ) → S (gives s) (giveUp t room s)
@@ -302,8 +304,8 @@ module _ (t : Table) (fit : Fit t) (v w : Window) where
       gate-cases P t _ _ _ _ (λ r h i l. stay (and-off _ (refused-not-0 r)))
       (λ h. if-cases P _
       (λ e. steps-one (gives s) _ s _ h
-      (given-up-cases (λ k. Row t s (gives s) Done (is k (x .hold) (x .link) p) (free (x .hold))) (x .state) (eqb (x .hold) 0) e (λ i. Steps.give-attempt) (λ c. Steps.give-failed)
-      (λ z. subst (λ (n : ℕ). Row t s (gives s) Done (is Connected n (x .link) p) (free n)) (sym (eqb-true _ _ z)) Steps.give-unheld))
+      (given-up-cases (λ k. Row t s (gives s) Done (is k (x .hold) (x .link) p (x .job)) (free (x .hold))) (x .state) (eqb (x .hold) 0) e (λ i. Steps.give-attempt) (λ c. Steps.give-failed)
+      (λ z. subst (λ (n : ℕ). Row t s (gives s) Done (is Connected n (x .link) p (x .job)) (free n)) (sym (eqb-true _ _ z)) Steps.give-unheld))
       (λ i g. g))
       (λ _ i l. stay refl))
 
@@ -331,26 +333,26 @@ module _ (t : Table) (fit : Fit t) (v w : Window) where
       (λ h. if-cases P _ (λ _ i l. stay refl)
       (λ e. if-cases P _
       (λ f. steps-one (releases s) _ s _ h
-      (seen-as (λ k n l. Row t s (releases s) Done (is k n l p) (is (Disconnecting false) 0 l p)) x
+      (seen-as (λ k n l. Row t s (releases s) Done (is k n l p (x .job)) (is (Disconnecting false) 0 l p noJob)) x
       (connected-is (x .state) (and-left (isConnected (x .state)) _ f)) (eqb-true _ _ (and-right (isConnected (x .state)) _ f)) refl Steps.release-last) (λ i g. g))
       (λ f. steps-one (releases s) _ s _ h
-      (seen-as (λ k n l. Row t s (releases s) Done (is k n l p) (is k (x .hold - 1) l p)) x refl (held _ e) refl (Steps.release (not-last (isConnected (x .state)) (x .hold) e f))) (λ i g. g))))
+      (seen-as (λ k n l. Row t s (releases s) Done (is k n l p (x .job)) (is k (x .hold - 1) l p (x .job))) x refl (held _ e) refl (Steps.release (not-last (isConnected (x .state)) (x .hold) e f))) (λ i g. g))))
 
   -- a disconnect of ours, by whatever call
-  leaves-steps : (r : Request) (s : ℕ) → s < t .n → ((h l p : ℕ) → Row t s r Done (is Connected h l p) (is (Disconnecting false) h l p))
+  leaves-steps : (r : Request) (s : ℕ) → s < t .n → ((h l p : ℕ) (j : OpenJob) → Row t s r Done (is Connected h l p j) (is (Disconnecting false) h l p noJob))
       → ((i : ℕ) → steps t i r Done (seen (slotAt t i)) ≡ (eqb i s && isConnected (slotAt t i .state))) → S r (disconnecting t s)
   unfolding disconnecting
   leaves-steps r s h p q =
       let x = slotAt t s in
       if-cases (S r) _
       (λ e. steps-one r _ s _ h
-      (seen-as (λ k n l. Row t s r Done (is k n l (x .peer .credits)) (is (Disconnecting false) n l (x .peer .credits))) x (connected-is (x .state) e) refl refl (p _ _ _)) (λ i g. q i ∙ and-off _ g))
+      (seen-as (λ k n l. Row t s r Done (is k n l (x .peer .credits) (x .job)) (is (Disconnecting false) n l (x .peer .credits) noJob)) x (connected-is (x .state) e) refl refl (p _ _ _ _)) (λ i g. q i ∙ and-off _ g))
       (λ e i l. stay (q i ∙ only-at s i (λ y. isConnected (y .state)) e))
 
   disconnect-steps : (room s : ℕ) → S (leaves s) (disconnect t room s)
   unfolding disconnect
   disconnect-steps room s =
-      gate-cases (S (leaves s)) t _ _ _ _ (λ r h i l. stay (and-off _ (refused-not-0 r))) (λ h. leaves-steps (leaves s) s h (λ _ _ _. Steps.leave) (λ i. refl))
+      gate-cases (S (leaves s)) t _ _ _ _ (λ r h i l. stay (and-off _ (refused-not-0 r))) (λ h. leaves-steps (leaves s) s h (λ _ _ _ _. Steps.leave) (λ i. refl))
 
   disconnect-by-cid : (room cid : ℕ) → S (leavesCid cid) (disconnectByCid t room cid)
   unfolding disconnectByCid
@@ -359,7 +361,7 @@ module _ (t : Table) (fit : Fit t) (v w : Window) where
       gate-cases P t _ _ _ _ (λ r h i l. stay (and-off _ (refused-not-0 r)))
       (λ _. if-cases P _
       (λ e. subst (λ (c : ℕ). S (leavesCid c) (disconnecting t (slotOf cid))) (cid-back t cid e)
-      (leaves-steps (leavesCid (cidOf (slotOf cid))) (slotOf cid) (cid-within t cid e) (λ _ _ _. Steps.leave-cid) (λ i. ap (λ (b : Bool). b && isConnected (slotAt t i .state)) (cid-eqb i (slotOf cid)))))
+      (leaves-steps (leavesCid (cidOf (slotOf cid))) (slotOf cid) (cid-within t cid e) (λ _ _ _ _. Steps.leave-cid) (λ i. ap (λ (b : Bool). b && isConnected (slotAt t i .state)) (cid-eqb i (slotOf cid)))))
       (λ e i l. stay (and-off _ (no-cid t cid e i l))))
 
   next-disconnect : (room signal : ℕ) → S announces (nextDisconnect t room signal)
@@ -374,9 +376,9 @@ module _ (t : Table) (fit : Fit t) (v w : Window) where
       let p = x .peer .credits in
       if-cases P _
       (λ f. steps-one announces _ s _ (leb-false _ _ e)
-      (seen-as (λ k n l. Row t s announces (Due l (index s)) (is k n l p) (free n)) x (is-peer-leaving (x .state) f) refl refl (Steps.announce-response refl)) (λ i g. g))
+      (seen-as (λ k n l. Row t s announces (Due l (index s)) (is k n l p (x .job)) (free n)) x (is-peer-leaving (x .state) f) refl refl (Steps.announce-response refl)) (λ i g. g))
       (λ f. steps-one announces _ s _ (leb-false _ _ e)
-      (seen-as (λ k n l. Row t s announces (Due l (index s)) (is k n l p) (is (Disconnecting true) n l p)) x (is-unannounced (x .state) (found-passes t fit dueSlot e) f) refl refl (Steps.announce-request refl)) (λ i g. g))))
+      (seen-as (λ k n l. Row t s announces (Due l (index s)) (is k n l p (x .job)) (is (Disconnecting true) n l p (x .job))) x (is-unannounced (x .state) (found-passes t fit dueSlot e) f) refl refl (Steps.announce-request refl)) (λ i g. g))))
 
   -- ---- signals
 
@@ -462,7 +464,7 @@ module _ (t : Table) (fit : Fit t) (v w : Window) where
         (λ f.
         let its : ofLink link x ≡ true = not-false _ f in
         steps-one G _ s _ (cid-within t (req .dcid) on)
-        (seen-as (λ k h l. Row t s G Done (is k h l (x .peer .credits)) (is (PeerDisconnecting id) h l (x .peer .credits))) x refl refl
+        (seen-as (λ k h l. Row t s G Done (is k h l (x .peer .credits) (x .job)) (is (PeerDisconnecting id) h l (x .peer .credits) noJob)) x refl refl
         (eqb-true _ _ (and-right (not (isDisconnected (x .state))) _ its)) (Steps.peer-leaves c q (sym back) (not-true _ (and-left (not (isDisconnected (x .state))) _ its))))
         (λ i z. code-06 _ _ _ _ _ c (and-off _ (at i ∙ z)))))
 
@@ -483,8 +485,8 @@ module _ (t : Table) (fit : Fit t) (v w : Window) where
         (λ f.
         let its : (isDisconnecting (x .state) && eqb (x .link) link) ≡ true = not-false _ f in
         steps-one G _ s _ (cid-within t (res .scid) on)
-        (leaving-cases (λ k. Row t s G Done (is k (x .hold) (x .link) (x .peer .credits)) (free (x .hold))) (x .state) (and-left (isDisconnecting (x .state)) _ its)
-        (λ a. subst (λ (l : ℕ). Row t s G Done (is (Disconnecting a) (x .hold) l (x .peer .credits)) (free (x .hold))) (sym (eqb-true _ _ (and-right (isDisconnecting (x .state)) _ its))) (Steps.peer-confirms c q (sym back))))
+        (leaving-cases (λ k. Row t s G Done (is k (x .hold) (x .link) (x .peer .credits) (x .job)) (free (x .hold))) (x .state) (and-left (isDisconnecting (x .state)) _ its)
+        (λ a. subst (λ (l : ℕ). Row t s G Done (is (Disconnecting a) (x .hold) l (x .peer .credits) (x .job)) (free (x .hold))) (sym (eqb-true _ _ (and-right (isDisconnecting (x .state)) _ its))) (Steps.peer-confirms c q (sym back))))
         (λ i z. code-07 _ _ _ _ _ c (and-off _ (at i ∙ z)))))
 
     on-conn-req : code ≡ 0x14 → (b : LeCreditConnReqRead) → leCreditConnReq (bodyIn pdu) ≡ b → S G (onConnReq t link listening id b)
@@ -505,10 +507,10 @@ module _ (t : Table) (fit : Fit t) (v w : Window) where
         (λ e.
         let x = slotAt t s in
         let p : isFree x ≡ true = found-passes t fit isFree e in
-        let y : Seen = is (PeerConnecting id) 0 link (req .credits) in
+        let y : Seen = is (PeerConnecting id) 0 link (req .credits) noJob in
         steps-one G _ s _ (leb-false _ _ e)
         (subst (λ (u : Bool). Row t s (signals link u central pdu) Done (seen x) y) (sym (not-false _ n))
-        (seen-as (λ k h l. Row t s (signals link true central pdu) Done (is k h l (x .peer .credits)) y) x
+        (seen-as (λ k h l. Row t s (signals link true central pdu) Done (is k h l (x .peer .credits) (x .job)) y) x
         (free-is (x .state) (and-left (isDisconnected (x .state)) _ p)) (eqb-true _ _ (and-right (isDisconnected (x .state)) _ p)) refl (Steps.peer-asks c q refl)))
         (λ i z. off i (and-off-right admitted z))))))
 
@@ -521,7 +523,7 @@ module _ (t : Table) (fit : Fit t) (v w : Window) where
         let p = x .peer .credits in
         if-cases (S G) _
         (λ e. all t fit (plain G v w) (Refused Refusal.NotFound) (attemptOf link)
-        (λ i z f. row (seen-as (λ k h l. Row t i G (Refused Refusal.NotFound) (is k h l (z .peer .credits)) (free h)) z
+        (λ i z f. row (seen-as (λ k h l. Row t i G (Refused Refusal.NotFound) (is k h l (z .peer .credits) (z .job)) (free h)) z
         (connecting-is (z .state) (and-left (isConnecting (z .state)) _ f)) refl (eqb-true _ _ (and-right (isConnecting (z .state)) _ f)) (Steps.unmatched c (leb-true _ _ e))))
         (λ i z f. stay (code-15 _ _ _ _ _ c (or-off f))))
         (λ e.
@@ -531,10 +533,10 @@ module _ (t : Table) (fit : Fit t) (v w : Window) where
         let l-is : x .link ≡ link = eqb-true _ _ (and-right (isConnecting (x .state)) _ g) in
         if-cases (S G) _
         (λ z. steps-one G _ s _ (leb-false _ _ e)
-        (seen-as (λ k h l. Row t s G Done (is k h l p) (is Connected h l (res .credits))) x k-is refl l-is (Steps.peer-accepts c q refl (eqb-true _ _ z)))
+        (seen-as (λ k h l. Row t s G Done (is k h l p (x .job)) (is Connected h l (res .credits) (x .job))) x k-is refl l-is (Steps.peer-accepts c q refl (eqb-true _ _ z)))
         (λ i u. code-15 _ _ _ _ _ c u))
         (λ z. steps-one G _ s _ (leb-false _ _ e)
-        (seen-as (λ k h l. Row t s G (Refused (Refusal.ConnectError (res .result))) (is k h l p) (is (ConnectFailed (res .result)) h l p)) x k-is refl l-is (Steps.peer-refuses c q refl (eqb-false _ _ z)))
+        (seen-as (λ k h l. Row t s G (Refused (Refusal.ConnectError (res .result))) (is k h l p (x .job)) (is (ConnectFailed (res .result)) h l p (x .job))) x k-is refl l-is (Steps.peer-refuses c q refl (eqb-false _ _ z)))
         (λ i u. code-15 _ _ _ _ _ c u)))
 
     on-credits : code ≡ 0x16 → (b : LeCreditFlowIndRead) → leCreditFlowInd (bodyIn pdu) ≡ b → S G (onCredits t link id b)
@@ -552,10 +554,10 @@ module _ (t : Table) (fit : Fit t) (v w : Window) where
         let to : (i : ℕ) → grantsTo t i link (leCreditFlowInd (bodyIn pdu)) ≡ eqb i s = λ i. ap (grantsTo t i link) q in
         if-cases (S G) _
         (λ z. steps-one G _ s _ (leb-false _ _ e)
-        (seen-as (λ k h l. Row t s G (Refused Refusal.InvalidValue) (is k h l p) (is (Disconnecting false) h l p)) x k-is refl l-is (Steps.peer-overflows c q refl (ltb-true _ _ z)))
+        (seen-as (λ k h l. Row t s G (Refused Refusal.InvalidValue) (is k h l p (x .job)) (is (Disconnecting false) h l p noJob)) x k-is refl l-is (Steps.peer-overflows c q refl (ltb-true _ _ z)))
         (λ i u. code-16 _ _ _ _ _ c (and-off-right (isGood (headersOf pdu)) (to i ∙ u))))
         (λ z. steps-one G _ s _ (leb-false _ _ e)
-        (seen-as (λ k h l. Row t s G Done (is k h l p) (is k h l (p + ind .credits))) x k-is refl l-is (Steps.peer-grants c q refl (ltb-false _ _ z)))
+        (seen-as (λ k h l. Row t s G Done (is k h l p (x .job)) (is k h l (p + ind .credits) (x .job))) x k-is refl l-is (Steps.peer-grants c q refl (ltb-false _ _ z)))
         (λ i u. code-16 _ _ _ _ _ c (to i ∙ u))))
 
     -- signals of the other codes move no slot
@@ -621,6 +623,48 @@ module _ (t : Table) (fit : Fit t) (v w : Window) where
       let P = S (takes s) in
       gate-cases P t _ _ _ _ (λ r h i l. stay refl) (λ h. if-cases P _ (λ _ i l. stay refl) (λ _. if-cases P _ (λ _ i l. stay refl) (λ _. taken-steps s size h _)))
 
+  -- ---- jobs handed over in portions
+
+  started-steps : (s len size : ℕ) → s < t .n → slotAt t s .state ≡ Connected → isOpen (slotAt t s .job) ≡ false → (p : Plan)
+      → planSend len (slotAt t s .peer .mtu) (slotAt t s .peer .mps) (slotAt t s .peer .credits) (framesLength len (slotAt t s .peer .mps)) ≡ p
+      → S (starts s len) (startPlanned t s (slotAt t s) len size p)
+  unfolding startPlanned
+  started-steps s len size h on shut (Plan.Refused r) e = λ i u. stay (and-off _ (refused-not-0 r))
+  started-steps s len size h on shut (Plan.Frames n octets) e =
+      let x = slotAt t s in
+      let a = plan-allowed len (x .peer .mtu) (x .peer .mps) (x .peer .credits) (framesLength len (x .peer .mps)) n octets e in
+      let some : 1 ≤ frameCount len (x .peer .mps) = count-holds len (x .peer .mps) (let w = a .wide in omega arith) .some in
+      if-cases (S (starts s len)) _ (λ _ i u. stay refl)
+      (λ _. steps-one (starts s len) _ s _ h
+      (seen-as (λ k z u. Row t s (starts s len) (Frames u n) (is k z u (x .peer .credits) (x .job)) (is k z u (x .peer .credits - n) (begun len n))) x on refl refl
+      (Steps.begin shut (let f = a .frames in omega arith) (let f = a .frames in let c = a .paid in omega arith)))
+      (λ i z. z))
+
+  start-steps : (s len size : ℕ) → S (starts s len) (startJob t s len size)
+  unfolding startJob
+  start-steps s len size =
+      let P = S (starts s len) in
+      gate-cases P t _ _ _ _ (λ r h i l. stay (and-off _ (refused-not-0 r)))
+      (λ h. if-cases P _ (λ _ i l. stay refl)
+      (λ e. if-cases P _ (λ _ i l. stay refl) (λ f. started-steps s len size h (connected-is (slotAt t s .state) (not-false _ e)) f _ refl)))
+
+  cancel-steps : (room s : ℕ) → S (cancels s) (cancelJob t room s)
+  unfolding cancelJob
+  cancel-steps room s =
+      let P = S (cancels s) in
+      let x = slotAt t s in
+      let p = x .peer .credits in
+      gate-cases P t _ _ _ _ (λ r h i l. stay (and-off _ (refused-not-0 r)))
+      (λ h. if-cases P _ (λ _ i l. stay refl)
+      (λ e. if-cases P _ (λ _ i l. stay refl)
+      (λ f.
+      let on : x .state ≡ Connected = connected-is (x .state) (not-false _ e) in
+      if-cases P _
+      (λ z. steps-one (cancels s) _ s _ h
+      (seen-as (λ k n l. Row t s (cancels s) Done (is k n l p (x .job)) (is k n l (p + x .job .aside) noJob)) x on refl refl (Steps.cancel-unsent (not-false _ f) (eqb-true _ _ z))) (λ i g. g))
+      (λ z. steps-one (cancels s) _ s _ h
+      (seen-as (λ k n l. Row t s (cancels s) Done (is k n l p (x .job)) (is (Disconnecting false) n l p noJob)) x on refl refl (Steps.cancel-sent (not-false _ f) (eqb-false _ _ z))) (λ i g. g)))))
+
   -- ---- calls that change no slot
 
   register-steps : (spsm : ℕ) → S (register spsm) (registerSpsm t spsm)
@@ -659,6 +703,8 @@ module _ (t : Table) (fit : Fit t) (v w : Window) where
   serve-steps (leavesCid cid) room out job = disconnect-by-cid room cid
   serve-steps announces room out job = next-disconnect room out
   serve-steps (takes s) room out job = receive-steps room out s job
+  serve-steps (starts s l) room out job = start-steps s l out
+  serve-steps (cancels s) room out job = cancel-steps room s
   serve-steps attends room out job = attention-steps
   serve-steps (asks of s) room out job = query-steps of s
   serve-steps (sendsSignal link s) room out job = send-signal out link s
@@ -698,7 +744,7 @@ module _ (t : Table) (fit : Fit t) (link : ℕ) (payload : List ℕ) where
     unfolding joined
     joined-steps count (Joined.Refused r) o =
         one t fit C (Refused r) s _ h
-        (seen-as (λ k n l. Step t s C (Refused r) (is k n l (x .peer .credits)) (is (Disconnecting false) n l (x .peer .credits))) x on refl its (overrun o))
+        (seen-as (λ k n l. Step t s C (Refused r) (is k n l (x .peer .credits) (x .job)) (is (Disconnecting false) n l (x .peer .credits) noJob)) x on refl its (overrun o))
         (λ i e. stay-frame (and-off-right (isNumber 9 (Refused r) || isNumber 19 (Refused r)) (cid-eqb i s ∙ e)))
     joined-steps count (Joined.Assembling a) o = one t fit C Done s _ h (stay-frame refl) (λ i e. stay-frame refl)
     joined-steps count (Joined.Finished len) o = one t fit C Done s _ h (stay-frame refl) (λ i e. stay-frame refl)
@@ -735,7 +781,7 @@ module _ (t : Table) (fit : Fit t) (s : ℕ) (sdu : List ℕ) (w : Window) where
       let x = slotAt t s in
       let a = plan-allowed l (x .peer .mtu) (x .peer .mps) (x .peer .credits) out n octets e in
       one t fit D (Frames (x .link) n) s _ h
-      (seen-as (λ k z u. Step t s D (Frames u n) (is k z u (x .peer .credits)) (is k z u (x .peer .credits - n))) x on refl refl
+      (seen-as (λ k z u. Step t s D (Frames u n) (is k z u (x .peer .credits) (x .job)) (is k z u (x .peer .credits - n) (x .job))) x on refl refl
       (Steps.send (let f = a .frames in let c = a .paid in omega arith)))
       (λ i z. stay-send z)
 
@@ -743,14 +789,54 @@ module _ (t : Table) (fit : Fit t) (s : ℕ) (sdu : List ℕ) (w : Window) where
   unfolding send
   send-steps l out =
       gate-cases (Steps t D) t _ _ _ _ (λ r h i u. stay-send (and-off _ (refused-not-0 r)))
-      (λ h. if-cases (Steps t D) _ (λ _ i u. stay-send refl) (λ e. planned-steps l out h (connected-is (slotAt t s .state) (not-false _ e)) _ refl))
+      (λ h. if-cases (Steps t D) _ (λ _ i u. stay-send refl)
+      (λ e. if-cases (Steps t D) _ (λ _ i u. stay-send refl) (λ _. planned-steps l out h (connected-is (slotAt t s .state) (not-false _ e)) _ refl)))
+
+-- ---- a portion
+
+fills-as : {j j′ : OpenJob} {k : ℕ} {b c : Bool} → b ≡ c → Fills j k c j′ → Fills j k b j′
+fills-as {j} {j′} {k} e f = subst (λ (b : Bool). Fills j k b j′) (sym e) f
+
+filled-by : (mps : ℕ) (j : OpenJob) (count : ℕ) → Fills j (taking mps j count) (fullWith mps j count) (filledBy mps j count)
+filled-by mps j count =
+    if-cases (λ (k : OpenJob). Fills j (taking mps j count) whole k) _
+    (λ e. fills-as (not-true whole e) part)
+    (λ e. fills-as (not-false whole e)
+    (if-cases (λ (k : OpenJob). Fills j (taking mps j count) true k) _ (λ _. last) (λ f. full (eqb-false (j .aside) 1 (or-right ends (eqb (j .aside) 1) f)))))
+  where
+    whole : Bool
+    whole = fullWith mps j count
+
+    ends : Bool
+    ends = eqb (givenOut j + frameSize mps j) (j .length + 2)
+
+module _ (t : Table) (fit : Fit t) (s : ℕ) (octets : List ℕ) (w : Window) where
+  abbrev E : Call
+  E = portions s octets w
+
+  portion-steps : (count size : ℕ) → Steps t E (givePortion t s count size)
+  unfolding givePortion
+  portion-steps count size =
+      let x = slotAt t s in
+      let mps = x .peer .mps in
+      let k = taking mps (x .job) count in
+      let whole = fullWith mps (x .job) count in
+      gate-cases (Steps t E) t _ _ _ _ (λ r h i u. stay-portion (and-off _ (refused-not-0 r)))
+      (λ h. if-cases (Steps t E) _ (λ _ i u. stay-portion refl)
+      (λ e. if-cases (Steps t E) _ (λ _ i u. stay-portion refl)
+      (λ f. if-cases (Steps t E) _ (λ _ i u. stay-portion refl)
+      (λ _. if-cases (Steps t E) _ (λ _ i u. stay-portion refl)
+      (λ _. one t fit E (Portion (x .link) k whole) s _ h
+      (seen-as (λ c z u. Step t s E (Portion u k whole) (is c z u (x .peer .credits) (x .job)) (is c z u (x .peer .credits) (filledBy mps (x .job) count))) x
+      (connected-is (x .state) (not-false _ e)) refl refl (portion (not-false _ f) (filled-by mps (x .job) count)))
+      (λ i z. stay-portion z))))))
 
 down-steps : (t : Table) → Fit t → (room link : ℕ) → Steps t (down link) (disconnected t room link)
 unfolding disconnected
 down-steps t fit room link =
     gate-cases (Steps t (down link)) t _ _ _ _ (λ r h i u. stay-down (and-off _ (refused-not-0 r)))
     (λ _. all t fit (down link) Done (ofLink link)
-    (λ i x e. seen-as (λ k h l. Step t i (down link) Done (is k h l (x .peer .credits)) (free h)) x refl refl (eqb-true _ _ (and-right (not (isDisconnected (x .state))) _ e))
+    (λ i x e. seen-as (λ k h l. Step t i (down link) Done (is k h l (x .peer .credits) (x .job)) (free h)) x refl refl (eqb-true _ _ (and-right (not (isDisconnected (x .state))) _ e))
     (link-down (not-true _ (and-left (not (isDisconnected (x .state))) _ e))))
     (λ i x e. stay-down e))
 
@@ -758,5 +844,6 @@ pub every-step : EveryStep
 unfolding decide bare
 every-step t fit (frame link cid payload) count room out job = dispatch-steps t fit link payload room cid _ count
 every-step t fit (sends s sdu w) count room out job = send-steps t fit s sdu w count out
+every-step t fit (portions s octets w) count room out job = portion-steps t fit s octets w count out
 every-step t fit (down link) count room out job = down-steps t fit room link
 every-step t fit (plain r v w) count room out job = serve-steps t fit v w r room out job

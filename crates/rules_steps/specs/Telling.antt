@@ -55,13 +55,14 @@ use Rattle.definition.specs.Opening.{create, opened, giveUp}
 use Rattle.definition.specs.Closing.{incRef, decRef, disconnecting, disconnect, disconnectByCid, disconnected, nextDisconnect}
 use Rattle.definition.specs.Signals.{signalled, checked, handled, onReject, onDisconnectionReq, onDisconnectionRes, onParameters, onParameterResponse, onConnReq, onConnRes, onCredits}
 use Rattle.definition.specs.Frames.{dispatch, joined, send, planned, receive, taken, grantIn}
+use Rattle.definition.specs.Portions.{startPlanned, startJob, givePortion, cancelJob}
 use Rattle.definition.specs.Asking.{registerSpsm, attention, query, sendSignal}
-use Rattle.definition.specs.Calls.{Window, frame, sends, down, plain, Request, register, signals, pends, rejectsAll, accepts, rejects, drops, creates, opens, gives, holds, releases, leaves, leavesCid, announces, takes, attends, asks, sendsSignal, writes, bare, decide, serve}
+use Rattle.definition.specs.Calls.{Window, frame, sends, portions, down, plain, Request, register, signals, pends, rejectsAll, accepts, rejects, drops, creates, opens, gives, holds, releases, leaves, leavesCid, announces, takes, starts, cancels, attends, asks, sendsSignal, writes, bare, decide, serve}
 use Rattle.definition.specs.Numbers.{refused-not-0}
 use Rattle.definition.specs.Forms.{Fit, found-passes}
 use Rattle.definition.specs.Tells.{pending-is, connected-is}
 use Rattle.rules_steps.specs.Tools.{gate-cases, is-peer-leaving, is-unannounced}
-use Rattle.rules_steps.specs.Told.{connect, credits, parameters, Replies, accepted, rejected, cleared, repliedTo, not-understood, not-connected, not-valid, request, refused-12, refused-13, reply, silent, frame-in, frames-out, link-down, own, Told, uses, keeps, Tells, EveryCallTells}
+use Rattle.rules_steps.specs.Told.{connect, credits, parameters, Replies, accepted, rejected, cleared, repliedTo, not-understood, not-connected, not-valid, request, refused-12, refused-13, reply, silent, frame-in, frames-out, portion-out, begin-out, link-down, own, Told, uses, keeps, Tells, EveryCallTells}
 use Rattle.rules_steps.specs.Told as Told
 
 -- the gate's refusals are neither 12 nor 13
@@ -283,6 +284,26 @@ module _ (t : Table) (fit : Fit t) (v w : Window) where
       let Q = P (takes s) in
       gate-cases Q t _ _ _ _ (λ r h. keeps (silent refl)) (λ _. if-cases Q _ (λ _. keeps (silent refl)) (λ _. if-cases Q _ (λ _. keeps (silent refl)) (λ _. taken-tells s size _ refl)))
 
+  -- ---- jobs handed over in portions: of the first frame its header is written
+
+  started-tells : (s l size : ℕ) (p : Plan) → P (starts s l) (startPlanned t s (slotAt t s) l size p)
+  unfolding startPlanned
+  started-tells s l size (Plan.Refused r) = keeps (silent refl)
+  started-tells s l size (Plan.Frames n octets) = if-cases (P (starts s l)) _ (λ _. keeps (silent refl)) (λ _. keeps begin-out)
+
+  start-tells : (s l size : ℕ) → P (starts s l) (startJob t s l size)
+  unfolding startJob
+  start-tells s l size =
+      let Q = P (starts s l) in
+      gate-cases Q t _ _ _ _ (λ r h. keeps (silent refl)) (λ _. if-cases Q _ (λ _. keeps (silent refl)) (λ _. if-cases Q _ (λ _. keeps (silent refl)) (λ _. started-tells s l size _)))
+
+  cancel-tells : (room s : ℕ) → P (cancels s) (cancelJob t room s)
+  unfolding cancelJob
+  cancel-tells room s =
+      let Q = P (cancels s) in
+      gate-cases Q t _ _ _ _ (λ r h. keeps (silent refl))
+      (λ _. if-cases Q _ (λ _. keeps (silent refl)) (λ _. if-cases Q _ (λ _. keeps (silent refl)) (λ _. if-cases Q _ (λ _. keeps (silent refl)) (λ _. keeps (silent refl)))))
+
   -- ---- calls that change no slot
 
   register-tells : (spsm : ℕ) → P (register spsm) (registerSpsm t spsm)
@@ -321,6 +342,8 @@ module _ (t : Table) (fit : Fit t) (v w : Window) where
   serve-tells (leavesCid cid) room out job = disconnect-by-cid room cid
   serve-tells announces room out job = next-disconnect room out
   serve-tells (takes s) room out job = receive-tells room out s job
+  serve-tells (starts s l) room out job = start-tells s l out
+  serve-tells (cancels s) room out job = cancel-tells room s
   serve-tells attends room out job = attention-tells
   serve-tells (asks of s) room out job = query-tells of s
   serve-tells (sendsSignal link s) room out job = send-signal out link s
@@ -357,7 +380,15 @@ module _ (t : Table) (s : ℕ) (sdu : List ℕ) (w : Window) where
 
   send-tells : (l out : ℕ) → N (send t s l out)
   unfolding send
-  send-tells l out = gate-cases N t _ _ _ _ (λ r h. keeps frames-out) (λ _. if-cases N _ (λ _. keeps frames-out) (λ _. planned-tells _ l _))
+  send-tells l out = gate-cases N t _ _ _ _ (λ r h. keeps frames-out) (λ _. if-cases N _ (λ _. keeps frames-out) (λ _. if-cases N _ (λ _. keeps frames-out) (λ _. planned-tells _ l _)))
+
+portion-tells : (t : Table) (s : ℕ) (octets : List ℕ) (w : Window) (count size : ℕ) → Tells t (portions s octets w) (givePortion t s count size)
+unfolding givePortion
+portion-tells t s octets w count size =
+    let Q = Tells t (portions s octets w) in
+    gate-cases Q t _ _ _ _ (λ r h. keeps portion-out)
+    (λ _. if-cases Q _ (λ _. keeps portion-out)
+    (λ _. if-cases Q _ (λ _. keeps portion-out) (λ _. if-cases Q _ (λ _. keeps portion-out) (λ _. if-cases Q _ (λ _. keeps portion-out) (λ _. keeps portion-out)))))
 
 down-tells : (t : Table) (room link : ℕ) → Tells t (down link) (disconnected t room link)
 unfolding disconnected
@@ -367,5 +398,6 @@ pub every-call-tells : EveryCallTells
 unfolding decide bare
 every-call-tells t fit (frame link cid payload) count room out job = dispatch-tells t link cid payload room _ count
 every-call-tells t fit (sends s sdu w) count room out job = send-tells t s sdu w count out
+every-call-tells t fit (portions s octets w) count room out job = portion-tells t s octets w count out
 every-call-tells t fit (down link) count room out job = down-tells t room link
 every-call-tells t fit (plain r v w) count room out job = serve-tells t fit v w r room out job

@@ -20,15 +20,17 @@ use Rattle.signal_forms.specs.declared.Signal.{Signal}
 use Rattle.signal_forms.specs.declared.Signal.the-variants.{CommandRejectRes, DisconnectionReq, DisconnectionRes, ConnParamUpdateRes, LeCreditConnReq, LeCreditConnRes, LeCreditFlowInd}
 use Rattle.signal_write.specs.Writer.{encodeOf}
 use Rattle.channel.specs.declared.Answer.{Answer}
-use Rattle.channel.specs.declared.Answer.the-variants.{Done, Refused, At, Link, Opened, Due, Frames, Job, Attention, Number, Event}
+use Rattle.channel.specs.declared.Answer.the-variants.{Done, Refused, At, Link, Opened, Due, Frames, Job, Attention, Number, Event, Portion}
 use Rattle.channel.specs.declared.ChannelState.the-variants.{PeerConnecting, Connected, PeerDisconnecting, Disconnecting}
 use Rattle.channel.specs.declared.L2capChannelConfig.{L2capChannelConfig}
 use Rattle.channel.specs.declared.Table.{Table}
 use Rattle.definition.specs.Mem.{Fill, given}
 use Rattle.definition.specs.Table.{slotAt, index, cidOf, nextId, spent}
 use Rattle.definition.specs.Outcome.{Outcome}
+use Rattle.definition.specs.Frames.{firstHeader}
+use Rattle.definition.specs.Portions.{longest}
 use Rattle.definition.specs.Pending.{mtuOf, mpsOf, creditsOf}
-use Rattle.definition.specs.Calls.{Window, Call, frame, sends, down, plain, Request, register, signals, pends, rejectsAll, accepts, rejects, drops, creates, opens, gives, holds, releases, leaves, leavesCid, announces, takes, attends, asks, sendsSignal, writes, bare, decide}
+use Rattle.definition.specs.Calls.{Window, Call, frame, sends, portions, down, plain, Request, register, signals, pends, rejectsAll, accepts, rejects, drops, creates, opens, gives, holds, releases, leaves, leavesCid, announces, takes, starts, cancels, attends, asks, sendsSignal, writes, bare, decide}
 use Rattle.definition.specs.Numbers.{answerNumber}
 use Rattle.definition.specs.Forms.{Fit}
 
@@ -86,6 +88,7 @@ names (Job link copied len) = true
 names (Attention set n lowest) = false
 names (Number n) = false
 names (Event min max latency timeout) = false
+names (Portion link taken full) = true
 
 abbrev pub speaks : Request → Answer → Bool
 speaks (register spsm) a = false
@@ -104,6 +107,8 @@ speaks (leaves s) a = false
 speaks (leavesCid cid) a = false
 speaks announces a = names a
 speaks (takes s) a = false
+speaks (starts s l) a = false
+speaks (cancels s) a = false
 speaks attends a = false
 speaks (asks of s) a = false
 speaks (sendsSignal link s) a = eqb (answerNumber a) 0
@@ -123,6 +128,9 @@ pub data Keeps (t : Table) : Call → Answer → List Fill → Type 0 where
   silent : {r : Request} {v w : Window} {a : Answer} → speaks r a ≡ false → Keeps t (plain r v w) a []
   frame-in : {link cid : ℕ} {payload : List ℕ} {a : Answer} → Keeps t (frame link cid payload) a []
   frames-out : {s : ℕ} {sdu : List ℕ} {w : Window} {a : Answer} {out : List Fill} → Keeps t (sends s sdu w) a out  -- no signal: Credits.antt
+  portion-out : {s : ℕ} {octets : List ℕ} {w : Window} {a : Answer} {out : List Fill} → Keeps t (portions s octets w) a out
+  begin-out : {s l n : ℕ} {v w : Window} → Keeps t (plain (starts s l) v w) (Frames (slotAt t s .link) n)
+      (given (firstHeader (slotAt t s .peer .cid) (longest (slotAt t s .peer .mps) l) l) ∷ [])  -- a frame's first octets
   link-down : {link : ℕ} {a : Answer} → Keeps t (down link) a []
   own : {octets : List ℕ} {v w : Window} → Keeps t (plain (writes octets) v w) Done (given octets ∷ [])  -- no call: the caller's own octets
 

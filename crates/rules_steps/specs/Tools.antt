@@ -109,6 +109,10 @@ or-off e = ap (λ (x : Bool). x || false) e
 pub or-none : {a b : Bool} → a ≡ false → b ≡ false → (a || b) ≡ false
 or-none e f = rw (e, f)
 
+pub or-right : (a b : Bool) → (a || b) ≡ false → b ≡ false
+or-right true b e = absurd (false≢true (sym e))
+or-right false b e = e
+
 -- a hold count that is not 0
 pub held : (n : ℕ) → eqb n 0 ≡ false → n ≡ suc (n - 1)
 held n e = let z = eqb-false n 0 e in omega arith

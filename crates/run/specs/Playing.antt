@@ -1,5 +1,5 @@
 -- The row of a line, by its command (docs/CHANRUN.md), where the room is the table's: which play of `run_plain` it is. `T`, which is lent the whole room,
--- and `S`, whose signals have a row each, are played apart: here they have no row.
+-- `S`, whose signals have a row each, and the calls that are lent a slot's buffer (`run_portions`) are played apart: here they have no row.
 use mathlib.Core.List.{List, []}
 use Prim.Native.Nat.{ℕ, min}
 use lib.ListN.{length, take}
@@ -33,3 +33,4 @@ module _ (t : Table) (room line octets frames : List ℕ) where
   playOf (Command.Queries slot) = told (queriesOf t slot)
   playOf Command.View = told (viewText t)
   playOf (Command.Room slot) = told (partOf t slot room)
+  playOf (Command.Portions c) = told []

@@ -1,5 +1,5 @@
-// Every command but `T` and `S` with the row that it prints (docs/CHANRUN.md): which play of `run_plain`, `run_frames`, `run_queries` and
-// `run_table` it is. Defined in specs/Playing.antt, case by case; those two
+// Every command but `T`, `S` and those of `run_portions` with the row that it prints (docs/CHANRUN.md): which play of `run_plain`, `run_frames`, `run_queries` and
+// `run_table` it is. Defined in specs/Playing.antt, case by case; those others
 // have no row here. `room` is the table's room, no longer and no shorter; `octets` holds a
 // word's octets or a job, `frames` frames.
 ghost use Rattle.run_play.specs.Plays.{Plays};
@@ -70,5 +70,9 @@ pub fn play(
                 octets: n,
             }
         }
+        Command::Portions(_) => Played {
+            table: t,
+            octets: 0,
+        },
     }
 }

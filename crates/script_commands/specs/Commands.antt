@@ -1,5 +1,6 @@
 -- The table of calls (docs/CHANRUN.md), by the number of words of a line: a letter, then what the call is given. A letter that no call of that many
 -- words has, and a word that is not of the call's kind, make the line bad. `last` is where the last word stands: octets are read from there.
+pub use Rattle.script_fields_plain.specs.PlainFields.{bufferMost}
 use mathlib.Core.List.{List}
 use Prim.Native.Char.{code}
 use Prim.Native.Nat.{ℕ, min}
@@ -12,6 +13,7 @@ use Rattle.script_fields_plain.specs.PlainFields.{isNumber, numberOf, isFlag, f
 use Rattle.script_commands.specs.declared.Command.the-variants as Command
 use Rattle.script_commands.specs.declared.Opening.the-variants as Opening
 use Rattle.script_commands.specs.declared.Closing.the-variants as Closing
+use Rattle.script_commands.specs.declared.Portions.the-variants as Portions
 
 -- The slot that a command names. A number that is no octet is past every table, as 255 is.
 abbrev pub slotNumber : ℕ → ℕ
@@ -37,7 +39,9 @@ withNumber c n =
     (choose (eqb c (code "W")) (Command.Closing (Closing.Disconnected n))  -- link
     (choose (eqb c (code "U")) (Command.Queries n)  -- slot
     (choose (eqb c (code "M")) (Command.Room n)  -- slot
-    Command.Bad))))))))))
+    (choose (eqb c (code "x")) (Command.Portions (Portions.CancelJob n))  -- slot
+    (choose (eqb c (code "n")) (Command.Portions (Portions.ShowJob n))  -- slot
+    Command.Bad))))))))))))
 
 unfoldable pub twoWords : (c : ℕ) (a : List ℕ) → Command
 twoWords c a = choose (isNumber a) (withNumber c (numberOf a)) Command.Bad

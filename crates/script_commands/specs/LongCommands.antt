@@ -7,12 +7,13 @@ use lib.Dec.{eqb}
 use Rattle.lists.specs.Choose.{choose}
 use Rattle.text_hex_words.specs.HexWords.{isHexWord}
 use Rattle.text_words.specs.declared.Word.{Word}
-use Rattle.script_fields_plain.specs.PlainFields.{isNumber, numberOf, isFlag, flagOf, isRole, centralOf}
+use Rattle.script_fields_plain.specs.PlainFields.{isNumber, numberOf, isSize, isFlag, flagOf, isRole, centralOf}
 use Rattle.script_fields_config.specs.Configs.{isConfig, configOf}
 use Rattle.script_commands.specs.declared.Command.{Command}
 use Rattle.script_commands.specs.declared.Command.the-variants as Command
 use Rattle.script_commands.specs.declared.Opening.the-variants as Opening
 use Rattle.script_commands.specs.declared.Closing.the-variants as Closing
+use Rattle.script_commands.specs.declared.Portions.the-variants as Portions
 
 unfoldable pub fourWords : (c : ℕ) (a b d : List ℕ) (last : Word) → Command
 fourWords c a b d last =
@@ -20,7 +21,9 @@ fourWords c a b d last =
     (choose (eqb c (code "T")) (choose (isNumber d) (Command.Make (numberOf a) (numberOf b) (numberOf d)) Command.Bad)  -- n d m
     (choose (eqb c (code "O")) (choose (isFlag d) (Command.Opened (numberOf a) (numberOf b) (flagOf d)) Command.Bad)  -- slot link up
     (choose (eqb c (code "F")) (choose (isHexWord d) (Command.Dispatch (numberOf a) (numberOf b) last) Command.Bad)  -- link cid hex
-    Command.Bad)))
+    (choose (eqb c (code "N")) (choose (isSize d) (Command.Portions (Portions.StartJob (numberOf a) (numberOf b) (numberOf d))) Command.Bad)  -- slot length size
+    (choose (eqb c (code "p")) (choose (isSize b && isHexWord d) (Command.Portions (Portions.GivePortion (numberOf a) (numberOf b) last)) Command.Bad)  -- slot size hex
+    Command.Bad)))))
     Command.Bad
 
 -- S link listening role hex

@@ -6,6 +6,7 @@ pub mod long;
 use channel::ChannelIndex;
 use channel::L2capChannelConfig;
 use octets::least;
+pub use script_fields_plain::BUFFER_MOST;
 use script_fields_plain::flag_of;
 use script_fields_plain::is_flag;
 use script_fields_plain::is_number;
@@ -79,6 +80,18 @@ pub enum Closing {
     },
 }
 
+// The calls of a job that is handed over in portions.
+pub enum Portions {
+    // N
+    StartJob { slot: u16, stated: u16, size: u16 },
+    // p
+    GivePortion { slot: u16, size: u16, portion: Word },
+    // x
+    CancelJob(u16),
+    // n
+    ShowJob(u16),
+}
+
 // A command, with the words of its line as values. Octets are left where they stand: as the place of their word in the line.
 pub enum Command {
     // A line that asks for nothing: `? -`.
@@ -127,6 +140,8 @@ pub enum Command {
     View,
     // M
     Room(u16),
+    // The calls whose frame stands in a buffer of the slot's own.
+    Portions(Portions),
 }
 
 // The slot that a command names. A number that is no octet is past every table, as 255 is.
@@ -187,6 +202,12 @@ fn with_number(c: u8, n: u16) -> Command
     }
     if c == b'M' {
         return Command::Room(n);
+    }
+    if c == b'x' {
+        return Command::Portions(Portions::CancelJob(n));
+    }
+    if c == b'n' {
+        return Command::Portions(Portions::ShowJob(n));
     }
     Command::Bad
 }

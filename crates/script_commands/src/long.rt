@@ -3,6 +3,7 @@
 use crate::Closing;
 use crate::Command;
 use crate::Opening;
+use crate::Portions;
 use script_fields_config::config_of;
 use script_fields_config::is_config;
 use script_fields_plain::central_of;
@@ -10,6 +11,7 @@ use script_fields_plain::flag_of;
 use script_fields_plain::is_flag;
 use script_fields_plain::is_number;
 use script_fields_plain::is_role;
+use script_fields_plain::is_size;
 use script_fields_plain::number_of;
 use text_hex_words::hex_ok;
 use text_words::Word;
@@ -51,6 +53,26 @@ pub fn four_words(c: u8, a: &[u8], b: &[u8], d: &[u8], last: Word) -> Command
                 cid: m,
                 payload: last,
             };
+        }
+        return Command::Bad;
+    }
+    if c == b'N' {
+        if is_size(d) {
+            return Command::Portions(Portions::StartJob {
+                slot: n,
+                stated: m,
+                size: number_of(d),
+            });
+        }
+        return Command::Bad;
+    }
+    if c == b'p' {
+        if is_size(b) & hex_ok(d) {
+            return Command::Portions(Portions::GivePortion {
+                slot: n,
+                size: m,
+                portion: last,
+            });
         }
         return Command::Bad;
     }

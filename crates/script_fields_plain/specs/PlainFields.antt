@@ -24,6 +24,13 @@ isNumber w = spells (numberRead w)
 abbrev pub numberOf : List ℕ → ℕ
 numberOf w = spelling (numberRead w)
 
+-- "One of 4,096 octets for each slot .. `size` is at most 4,096"
+abbrev pub bufferMost : ℕ
+bufferMost = 4096
+
+unfoldable pub isSize : List ℕ → Bool
+isSize w = isNumber w && leb (numberOf w) bufferMost
+
 -- the one character c
 abbrev pub isOne : ℕ → List ℕ → Bool
 isOne c w = eqb (length w) 1 && eqb (getD w 0 0) c

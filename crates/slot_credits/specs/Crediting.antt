@@ -12,8 +12,8 @@ use Rattle.definition.specs.Table.{if_then_else_, withPeerCredits, left}
 use Rattle.definition.specs.Outcome.{unassembled}
 use Rattle.slot_work.specs.Work.{Work, becomes}
 
--- "A sum above 65,535: Disconnecting, credits kept."
+-- "A sum above 65,535: Disconnecting, credits kept." The sum "counts credits set aside" (document 02).
 unfoldable pub creditsOf : (place : ℕ) → Slot → (more : ℕ) → Work
 creditsOf place x more =
-    if ltb creditsMost (x .peer .credits + more) then becomes (left (Disconnecting false) x) (unassembled place ∷ []) (Refused InvalidValue)
+    if ltb creditsMost (x .peer .credits + x .job .aside + more) then becomes (left (Disconnecting false) x) (unassembled place ∷ []) (Refused InvalidValue)
     else becomes (withPeerCredits (x .peer .credits + more) x) [] Done

@@ -19,7 +19,7 @@ use Rattle.slot_credits.specs.Crediting.{creditsOf}
 
 pub credits-quiet : (place : ℕ) (x : Slot) (more : ℕ) → creditsOf place x more .out ≡ []
 unfolding creditsOf
-credits-quiet place x more = if-cases (λ (w : Work). w .out ≡ []) (ltb creditsMost (x .peer .credits + more)) (λ _. refl) (λ _. refl)
+credits-quiet place x more = if-cases (λ (w : Work). w .out ≡ []) (ltb creditsMost (x .peer .credits + x .job .aside + more)) (λ _. refl) (λ _. refl)
 
 module _ (t : Table) (link id : ℕ) (ind : LeCreditFlowInd) where
   -- no slot is searched for
@@ -31,9 +31,9 @@ module _ (t : Table) (link id : ℕ) (ind : LeCreditFlowInd) where
   pub credits-into : leb (t .n) (found (connectedTo link (ind .cid)) t) ≡ false
       → onCredits t link id (Is ind) ≡ inTable t (found (connectedTo link (ind .cid)) t) (creditsOf (placeOf t) (slotAt t (found (connectedTo link (ind .cid)) t)) (ind .credits))
   unfolding onCredits creditsOf choose
-  credits-into e = go (ltb creditsMost (slotAt t (found (connectedTo link (ind .cid)) t) .peer .credits + ind .credits)) refl
+  credits-into e = go (ltb creditsMost (slotAt t (found (connectedTo link (ind .cid)) t) .peer .credits + slotAt t (found (connectedTo link (ind .cid)) t) .job .aside + ind .credits)) refl
     where
-      go : (b : Bool) → ltb creditsMost (slotAt t (found (connectedTo link (ind .cid)) t) .peer .credits + ind .credits) ≡ b
+      go : (b : Bool) → ltb creditsMost (slotAt t (found (connectedTo link (ind .cid)) t) .peer .credits + slotAt t (found (connectedTo link (ind .cid)) t) .job .aside + ind .credits) ≡ b
           → onCredits t link id (Is ind) ≡ inTable t (found (connectedTo link (ind .cid)) t) (creditsOf (placeOf t) (slotAt t (found (connectedTo link (ind .cid)) t)) (ind .credits))
       go true f = rw (e, f)
       go false f = rw (e, f)

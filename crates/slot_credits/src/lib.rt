@@ -17,11 +17,11 @@ use channel::Slot;
 use codes::Refusal;
 use slot_work::Worked;
 
-// What the peer holds and what it is given.
-fn total(held: u16, more: u16) -> u32
-    ensures { λ r. ⌜ r ≡ held + more ⌝ }
+// What the peer holds, what is set aside for the job that is open, and what is given now.
+fn total(held: u16, aside: u16, more: u16) -> u32
+    ensures { λ r. ⌜ r ≡ held + aside + more ⌝ }
 {
-    held as u32 + more as u32
+    held as u32 + aside as u32 + more as u32
 }
 
 // Slot x, number s, is given so many credits more; its part is in the room.
@@ -30,12 +30,13 @@ pub fn credit_at(room: &mut [u8], d: usize, m: usize, s: usize, x: Slot, more: u
     ensures { λ r. ⌜ (r ≡ workedOf (creditsOf (placeSize m) x more))
         × (now (room .exit) ≡ parts (λ n. n) [] (partWidth d m) (only s (creditsOf (placeSize m) x more .moves)) (now (room .entry))) ⌝ }
 {
-    let sum = total(x.peer.credits, more);
+    let held = x.peer.credits;
+    let sum = total(held, x.job.aside, more);
     if CREDITS_MOST < sum {
         table_room::zero_assembly(room, d, m, s);
         let y = table_slot::left(x, ChannelState::Disconnecting(false));
         return slot_work::became(y, Answer::Refused(Refusal::InvalidValue), 0);
     }
-    let y = table_slot::with_peer_credits(x, sum as u16);
+    let y = table_slot::with_peer_credits(x, held + more);
     slot_work::became(y, Answer::Done, 0)
 }

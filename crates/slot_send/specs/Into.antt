@@ -14,7 +14,7 @@ use Rattle.codes.specs.declared.Refusal.{Refusal}
 use Rattle.channel.specs.declared.Answer.the-variants.{Refused}
 use Rattle.channel.specs.declared.Slot.{Slot}
 use Rattle.channel.specs.declared.Table.{Table}
-use Rattle.definition.specs.Table.{slotAt, putSlot, isConnected, withPeerCredits}
+use Rattle.definition.specs.Table.{slotAt, putSlot, isConnected, withPeerCredits, isOpen}
 use Rattle.definition.specs.Outcome.{refuse}
 use Rattle.definition.specs.Ending.{End, end, endOf, gave, end-still}
 use Rattle.definition.specs.Frames.{planned, sentOn}
@@ -41,11 +41,12 @@ module _ (t : Table) (s : ℕ) (sdu out : List ℕ) where
   -- THE WORK ON THE SLOT IS THE DEFINITION'S SEND
   pub sent-into : endOf t sdu [] out [] (sentOn t s (length sdu) (length out)) ≡ into t s (sentFrom (slotAt t s) sdu out)
   unfolding sentFrom choose
-  sent-into = go (not (isConnected (slotAt t s .state))) refl
+  sent-into = go (not (isConnected (slotAt t s .state))) (isOpen (slotAt t s .job)) refl refl
     where
-      go : (b : Bool) → not (isConnected (slotAt t s .state)) ≡ b → endOf t sdu [] out [] (sentOn t s (length sdu) (length out)) ≡ into t s (sentFrom (slotAt t s) sdu out)
-      go true e = rw e (refused-into _)
-      go false e = rw e (planned-into _ refl)
+      go : (b o : Bool) → not (isConnected (slotAt t s .state)) ≡ b → isOpen (slotAt t s .job) ≡ o → endOf t sdu [] out [] (sentOn t s (length sdu) (length out)) ≡ into t s (sentFrom (slotAt t s) sdu out)
+      go true o e f = rw e (refused-into _)
+      go false true e f = rw (e, f) (refused-into _)
+      go false false e f = rw (e, f) (planned-into _ refl)
 
 -- of a slot a send changes the peer's credits alone
 planned-credits : (x : Slot) (sdu out : List ℕ) (p : Plan) → plannedFrom x sdu out p .gave .slot ≡ withPeerCredits (plannedFrom x sdu out p .gave .slot .peer .credits) x
@@ -55,11 +56,12 @@ planned-credits x sdu out (Plan.Frames n octets) = refl
 
 pub credits-alone : (x : Slot) (sdu out : List ℕ) → sentFrom x sdu out .gave .slot ≡ withPeerCredits (sentFrom x sdu out .gave .slot .peer .credits) x
 unfolding sentFrom choose
-credits-alone x sdu out = go (not (isConnected (x .state))) refl
+credits-alone x sdu out = go (not (isConnected (x .state))) (isOpen (x .job)) refl refl
   where
-    go : (b : Bool) → not (isConnected (x .state)) ≡ b → sentFrom x sdu out .gave .slot ≡ withPeerCredits (sentFrom x sdu out .gave .slot .peer .credits) x
-    go true e = rw e
-    go false e = rw e (planned-credits x sdu out (planSend (length sdu) (x .peer .mtu) (x .peer .mps) (x .peer .credits) (length out)))
+    go : (b o : Bool) → not (isConnected (x .state)) ≡ b → isOpen (x .job) ≡ o → sentFrom x sdu out .gave .slot ≡ withPeerCredits (sentFrom x sdu out .gave .slot .peer .credits) x
+    go true o e f = rw e
+    go false true e f = rw (e, f)
+    go false false e f = rw (e, f) (planned-credits x sdu out (planSend (length sdu) (x .peer .mtu) (x .peer .mps) (x .peer .credits) (length out)))
 
 -- its frames are no more octets than the output has
 planned-within : (x : Slot) (sdu out : List ℕ) (p : Plan) → planSend (length sdu) (x .peer .mtu) (x .peer .mps) (x .peer .credits) (length out) ≡ p → plannedFrom x sdu out p .gave .octets ≤ length out
@@ -71,8 +73,9 @@ planned-within x sdu out (Plan.Frames n octets) e =
 
 pub sent-within : (x : Slot) (sdu out : List ℕ) → sentFrom x sdu out .gave .octets ≤ length out
 unfolding sentFrom choose
-sent-within x sdu out = go (not (isConnected (x .state))) refl
+sent-within x sdu out = go (not (isConnected (x .state))) (isOpen (x .job)) refl refl
   where
-    go : (b : Bool) → not (isConnected (x .state)) ≡ b → sentFrom x sdu out .gave .octets ≤ length out
-    go true e = rw e (omega arith)
-    go false e = rw e (planned-within x sdu out _ refl)
+    go : (b o : Bool) → not (isConnected (x .state)) ≡ b → isOpen (x .job) ≡ o → sentFrom x sdu out .gave .octets ≤ length out
+    go true o e f = rw e (omega arith)
+    go false true e f = rw (e, f) (omega arith)
+    go false false e f = rw (e, f) (planned-within x sdu out _ refl)

@@ -4,13 +4,13 @@ use mathlib.Core.List.{List}
 use Prim.Native.Nat.{ℕ, _-_}
 use lib.ListN.{length}
 use lib.Seq.{sets}
-use Rattle.codes.specs.declared.Refusal.the-variants.{ChannelClosed}
+use Rattle.codes.specs.declared.Refusal.the-variants.{ChannelClosed, JobOpen}
 use Rattle.sar_cut.specs.declared.Plan.{Plan}
 use Rattle.sar_cut.specs.declared.Plan.the-variants as Plan
 use Rattle.sar_cut.specs.Cutting.{framesOf, planSend}
 use Rattle.channel.specs.declared.Answer.the-variants.{Refused, Frames}
 use Rattle.channel.specs.declared.Slot.{Slot}
-use Rattle.definition.specs.Table.{if_then_else_, isConnected, withPeerCredits}
+use Rattle.definition.specs.Table.{if_then_else_, isConnected, withPeerCredits, isOpen}
 use Rattle.slot_work.specs.declared.Worked.{Worked}
 pub use Rattle.slot_work.specs.Work.{worked}
 
@@ -30,4 +30,5 @@ plannedFrom x sdu out (Plan.Frames n octets) =
 unfoldable pub sentFrom : Slot → (sdu out : List ℕ) → Work
 sentFrom x sdu out =
     if not (isConnected (x .state)) then work (worked (Refused ChannelClosed) x 0) out
+    else if isOpen (x .job) then work (worked (Refused JobOpen) x 0) out
     else plannedFrom x sdu out (planSend (length sdu) (x .peer .mtu) (x .peer .mps) (x .peer .credits) (length out))

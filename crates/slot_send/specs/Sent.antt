@@ -1,86 +1,23 @@
--- The law of a send: the octets of the definition's frames, given the job's, are those that `sar_cut` writes. It rests on the frames
--- of a job taken one by one (crate sar_frames: framed-start, framed-turn, count-first).
-use mathlib.Core.Path.{_≡_, refl, sym, _∙_}
+-- The law of a send: what is planned and done is the definition's. The octets of its frames, given the job's, are those that `sar_cut` writes (Sent.antt of
+-- `rules_portions`).
+use mathlib.Core.Path.{_≡_, refl}
 use mathlib.Core.List.{List, []}
-use Prim.Native.Nat.{ℕ, zero, suc, _+_, _-_, _*_, _≤_, _<_, min}
+use Prim.Native.Nat.{ℕ, _-_, _≤_}
 use native.Mathlib.Omega.{arith}
-use lib.ListN.{length, take, drop, length-drop}
-use lib.Seq.{sets, length-take-le}
-use Rattle.octets.specs.Octets.{part}
-use Rattle.octets.specs.Sets.{part-length}
-use Rattle.sar_cut.specs.declared.Plan.{Plan}
+use lib.ListN.{length}
+use lib.Seq.{sets}
 use Rattle.sar_cut.specs.declared.Plan.the-variants as Plan
-use Rattle.sar_cut.specs.Cutting.{ceil, frameCount, framesLength, frame, framesOf}
-use Rattle.sar_cut.specs.CutLaws.{ceil-zero, ceil-more, Allowed}
-use Rattle.sar_frames.specs.FrameLaws.{framed, framed-nil, framed-start, framed-turn, count-first}
+use Rattle.sar_cut.specs.Cutting.{frameCount, framesOf}
+use Rattle.sar_cut.specs.CutLaws.{Allowed}
 use Rattle.channel.specs.declared.Answer.the-variants.{Frames}
 use Rattle.channel.specs.declared.Served.{Served}
 use Rattle.channel.specs.declared.Slot.{Slot}
 use Rattle.channel.specs.declared.Table.{Table}
-use Rattle.definition.specs.Mem.{size, sizes, fill, fills, written}
+use Rattle.definition.specs.Mem.{written}
 use Rattle.definition.specs.Table.{width, putSlot, withPeerCredits}
-use Rattle.definition.specs.Ending.{itself, end, endOf, gave, parts-none, written-none}
-use Rattle.definition.specs.Frames.{laterFrames, frames, planned}
-
--- ---- the frames
-
--- a count of no stretches is that of nothing, and one more that of something
-none-left : (x m : ℕ) → 0 < m → 0 ≡ ceil x m → x ≡ 0
-none-left zero m p e = refl
-none-left (suc x) m p e = let f = ceil-more (suc x) m p (omega arith) in absurd (omega arith)
-
-some-left : (x m n : ℕ) → 0 < m → suc n ≡ ceil x m → 0 < x
-some-left zero m n p e = let f = ceil-zero m p in absurd (omega arith)
-some-left (suc x) m n p e = omega arith
-
-module _ (cid m : ℕ) (sdu room : List ℕ) (p : 0 < m) where
-  -- a frame behind the first, and how many follow it
-  rest : (from n : ℕ) → suc n ≡ ceil (length sdu - from) m → n ≡ ceil (length sdu - (from + min m (length sdu - from))) m
-  rest from n e =
-      let h = some-left (length sdu - from) m n p e in
-      let f = ceil-more (length sdu - from) m p h in
-      let g : length sdu - from - m ≡ length sdu - (from + min m (length sdu - from)) = omega arith in
-      rw (← g) (omega arith)
-
-  later-octets : (n from : ℕ) → n ≡ ceil (length sdu - from) m → fills itself sdu room (laterFrames cid m (length sdu) n from) ≡ framed m cid (drop from sdu)
-  unfolding laterFrames fills fill frame
-  later-octets zero from e = sym (framed-nil m cid (drop from sdu) p (length-drop from sdu ∙ none-left (length sdu - from) m p e))
-  later-octets (suc n) from e =
-      let k = min m (length sdu - from) in
-      let h = some-left (length sdu - from) m n p e in
-      let q : length (part sdu from k) ≡ k = part-length sdu from k (omega arith) in
-      sym (framed-turn m cid sdu from k p (omega arith) (omega arith) ∙ rw (q, later-octets n (from + k) (rest from n e)))
-
-  later-sizes : (n from : ℕ) → n ≡ ceil (length sdu - from) m → sizes (laterFrames cid m (length sdu) n from) ≡ length sdu - from + 4 * n
-  unfolding laterFrames sizes size
-  later-sizes zero from e = let f = none-left (length sdu - from) m p e in omega arith
-  later-sizes (suc n) from e =
-      let h = some-left (length sdu - from) m n p e in
-      let f = later-sizes n (from + min m (length sdu - from)) (rest from n e) in
-      omega arith
-
-module _ (cid m : ℕ) (sdu : List ℕ) (w : 2 ≤ m) where
-  behind : frameCount (length sdu) m - 1 ≡ ceil (length sdu - min (length sdu) (m - 2)) m
-  behind = let f = count-first m (length sdu) (min (length sdu) (m - 2)) w refl in omega arith
-
-  -- THE FRAMES OF THE DEFINITION ARE THOSE THAT ARE CUT
-  pub frames-octets : (room : List ℕ) → fills itself sdu room (frames cid m (length sdu) (frameCount (length sdu) m)) ≡ framesOf cid m sdu
-  unfolding frames fills fill frame
-  frames-octets room =
-      let k = min (length sdu) (m - 2) in
-      let q : length (take k sdu) ≡ k = length-take-le k sdu (omega arith) in
-      let e : suc (suc k) ≡ k + 2 = omega arith in
-      sym (framed-start m cid sdu k w refl ∙ rw (q, e, later-octets cid m sdu room (omega arith) (frameCount (length sdu) m - 1) k behind))
-
-  pub frames-sizes : sizes (frames cid m (length sdu) (frameCount (length sdu) m)) ≡ framesLength (length sdu) m
-  unfolding frames framesLength sizes size
-  frames-sizes =
-      let k = min (length sdu) (m - 2) in
-      let f = later-sizes cid m sdu [] (omega arith) (frameCount (length sdu) m - 1) k behind in
-      let g = count-first m (length sdu) k w refl in
-      omega arith
-
--- ---- the send
+use Rattle.definition.specs.Ending.{end, endOf, gave, parts-none, written-none}
+use Rattle.definition.specs.Frames.{planned}
+use Rattle.rules_portions.specs.Sent.{frames-octets, frames-sizes}
 
 -- what is planned and done, from what the plan's tests allow
 pub sends : (t : Table) (s : ℕ) (x : Slot) (sdu out : List ℕ) {n octets : ℕ} {r : Served} {out′ : List ℕ}
@@ -96,8 +33,8 @@ sends t s x sdu out a e o =
       o,
       a .frames,
       a .long,
-      frames-octets (x .peer .cid) (x .peer .mps) sdu w [],
-      frames-sizes (x .peer .cid) (x .peer .mps) sdu w,
+      frames-octets (x .peer .cid) (x .peer .mps) sdu [] w (frameCount (length sdu) (x .peer .mps)) refl,
+      frames-sizes (x .peer .cid) (x .peer .mps) sdu w (frameCount (length sdu) (x .peer .mps)) refl,
       parts-none sdu (width t) s [],
       written-none sdu [] [],
     )

@@ -25,6 +25,10 @@ pub fn send_from(x: Slot, sdu: &[u8], out: &mut [u8]) -> Worked
     if !table_state::is_connected(k) {
         return refused(x, Refusal::ChannelClosed);
     }
+    let job = x.job;
+    if table_slot::is_open(job) {
+        return refused(x, Refusal::JobOpen);
+    }
     match sar_frames::send_job(out, x.peer.cid, x.peer.mtu, x.peer.mps, credits, sdu) {
         Plan::Refused(r) => refused(x, r),
         Plan::Frames { n, octets } => {

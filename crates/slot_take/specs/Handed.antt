@@ -47,7 +47,7 @@ took-none w s x a room out job e =
     record { gave = e; moved = sym (parts-none [] w s room); told = sym (written-none [] room out); handed = sym (written-none [] room job) }
 
 module _ (d m s id : ℕ) (x : Slot) {octets : ℕ} {room job : List ℕ} {r : Worked} {room′ job′ : List ℕ} (h : Handed d m s x octets room job r room′ job′) where
-  hands : (signal : List Fill) {out out′ : List ℕ} → octets ≡ sizes signal → out′ ≡ written itself [] room signal out
+  hands : (signal : List Fill) {out out′ : List ℕ} → octets ≡ sizes signal → out′ ≡ written itself [] room 0 signal out
       → Took (partWidth d m) s (handOf d m s x (length job) signal) room out job r room′ out′ job′
   unfolding written fills fill
   hands signal n o =

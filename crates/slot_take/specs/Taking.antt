@@ -68,5 +68,5 @@ takeIn t s k = handout (tableThen t (sizes (k .work .out))) s (k .work .slot) (k
 pub record Took (w s : ℕ) (k : Take) (room out job : List ℕ) (r : Worked) (room′ out′ job′ : List ℕ) : Type 0 where
   pub gave : r ≡ workedOf (k .work)
   pub moved : room′ ≡ parts itself [] w (only s (k .work .moves)) room
-  pub told : out′ ≡ written itself [] room (k .work .out) out
-  pub handed : job′ ≡ written itself [] room (k .job) job
+  pub told : out′ ≡ written itself [] room 0 (k .work .out) out
+  pub handed : job′ ≡ written itself [] room 0 (k .job) job

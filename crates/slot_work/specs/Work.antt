@@ -53,7 +53,7 @@ end-kept t s a jobs room out job = rw (put-same t s, parts-none jobs (width t) s
 
 pub works-in : (t : Table) (s : ℕ) (w : Work) (jobs room out job : List ℕ) {r : Worked} {v : Served} {room′ out′ : List ℕ}
     → v ≡ gave (r .answer) (putSlot t s (r .slot)) (r .octets) → r ≡ workedOf w
-    → room′ ≡ parts itself jobs (width t) (only s (w .moves)) room → out′ ≡ written itself jobs room (w .out) out
+    → room′ ≡ parts itself jobs (width t) (only s (w .moves)) room → out′ ≡ written itself jobs room 0 (w .out) out
     → end v room′ out′ job ≡ endOf t jobs room out job (inTable t s w)
 unfolding endOf
 works-in t s w jobs room out job p e f g = rw (p, e, f, g, written-none jobs room job)

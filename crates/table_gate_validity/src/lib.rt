@@ -1,5 +1,6 @@
 // Refusal 1: one validity test of the table, slot by slot. Each contract is the equation with the function of that name in the crate `definition`.
 ghost use mathlib.Core.Path.{_≡_};
+ghost use Prim.Native.Nat.{_+_};
 ghost use lib.Dec.{leb};
 ghost use Rattle.lists.specs.Every.{every};
 ghost use Rattle.credit.specs.Account.{creditSum};
@@ -38,7 +39,14 @@ fn sum_fits(a: CreditFlowControl) -> bool
     (a.credits as u32 + a.received as u32) <= CREDITS_MOST
 }
 
-// Is no job, queue count or local MTU beyond its place, and no credit sum above 65,535?
+// The peer's credits and those set aside for the job that is open stay in 16 bits.
+fn peer_sum_fits(credits: u16, aside: u16) -> bool
+    ensures { λ r. ⌜ r ≡ leb (credits + aside) creditsMost ⌝ }
+{
+    (credits as u32 + aside as u32) <= CREDITS_MOST
+}
+
+// Is no job, queue count or local MTU beyond its place, no count of an open job beyond its length or frame, and no credit sum above 65,535?
 pub fn slot_fits(x: Slot, d: usize, place: usize) -> bool
     ensures { λ r. ⌜ r ≡ slotFits d place x ⌝ }
 {
@@ -49,7 +57,9 @@ pub fn slot_fits(x: Slot, d: usize, place: usize) -> bool
     let have = a.have as usize <= place;
     let want = a.want as usize <= place;
     let mtu = x.mtu as usize <= place;
-    counted & (lens_fit(q, place) & (have & (want & (mtu & sum_fits(account)))))
+    let job = x.job;
+    let open = table_slot::job_fits(job, x.peer.mps) & peer_sum_fits(x.peer.credits, job.aside);
+    counted & (lens_fit(q, place) & (have & (want & (mtu & (sum_fits(account) & open)))))
 }
 
 // ---- of the table

@@ -70,6 +70,7 @@ pub fn accepted(x: Slot, mps: u16, mtu: u16, account: CreditFlowControl) -> Slot
     let peer = x.peer;
     let assembly = x.assembly;
     let queue = x.queue;
+    let job = x.job;
     Slot {
         state: ChannelState::Connected,
         link: x.link,
@@ -81,6 +82,7 @@ pub fn accepted(x: Slot, mps: u16, mtu: u16, account: CreditFlowControl) -> Slot
         peer,
         assembly,
         queue,
+        job,
     }
 }
 
@@ -114,6 +116,7 @@ pub fn attempted(
     let peer = x.peer;
     let assembly = x.assembly;
     let queue = x.queue;
+    let job = x.job;
     Slot {
         state: ChannelState::Connecting(id),
         link,
@@ -125,6 +128,7 @@ pub fn attempted(
         peer,
         assembly,
         queue,
+        job,
     }
 }
 

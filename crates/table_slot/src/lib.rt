@@ -1,16 +1,19 @@
-// One slot by value: what slots are searched for. The crate `table_slot_changes` has the slot with one thing changed.
+// One slot by value: what slots are searched for, and what its open job is asked. The crate `table_slot_changes` has the slot with one thing changed.
 // Each contract is the equation with the function of that name in the crate `definition`.
 ghost use mathlib.Core.Path.{_≡_};
-ghost use Rattle.definition.specs.Table.{isFree, ofLink, pendingOf, unheldPendingOf, attemptOf, attemptBy, connectedTo, usesPeer, dueSlot, calls};
+ghost use Rattle.definition.specs.Table.{isFree, ofLink, pendingOf, unheldPendingOf, attemptOf, attemptBy, connectedTo, usesPeer, dueSlot, calls, isOpen, jobFits};
 ghost use Rattle.table_slot.specs.Want.{wanted};
+use channel::OpenJob;
 use channel::Slot;
 pub use table_slot_changes::freed;
 pub use table_slot_changes::fresh;
 pub use table_slot_changes::in_state;
 pub use table_slot_changes::left;
+pub use table_slot_changes::no_job;
 pub use table_slot_changes::with_account;
 pub use table_slot_changes::with_assembly;
 pub use table_slot_changes::with_hold;
+pub use table_slot_changes::with_job;
 pub use table_slot_changes::with_peer;
 pub use table_slot_changes::with_peer_credits;
 pub use table_slot_changes::with_queue;
@@ -112,4 +115,23 @@ pub fn fits(x: Slot, w: Want) -> bool
         Want::Due => due_slot(x),
         Want::Calls => calls(x),
     }
+}
+
+// ---- the job that is handed over in portions
+
+// A job is open while credits are set aside for its frames.
+pub fn is_open(j: OpenJob) -> bool
+    ensures { λ r. ⌜ r ≡ isOpen j ⌝ }
+{
+    0 < j.aside
+}
+
+// Is no count of an open job beyond its length or its frame? (The peer's MPS is a frame's most; the two octets of the job's length are in its first.)
+pub fn job_fits(j: OpenJob, mps: u16) -> bool
+    ensures { λ r. ⌜ r ≡ jobFits mps j ⌝ }
+{
+    let long = j.taken <= j.length;
+    let wide = j.filled <= mps;
+    let had = j.filled as u32 <= j.taken as u32 + 2;
+    !is_open(j) | (long & (wide & had))
 }

@@ -1,14 +1,27 @@
 // One slot by value with one thing changed. Each contract is the equation with the function of that name in the crate `definition`.
 ghost use mathlib.Core.Path.{_≡_};
-ghost use Rattle.definition.specs.Table.{fresh, freed, inState, withHold, withAccount, withPeer, withPeerCredits, withAssembly, withQueue, left};
+ghost use Rattle.definition.specs.Table.{fresh, freed, inState, withHold, withAccount, withPeer, withPeerCredits, withAssembly, withQueue, withJob, noJob, left};
 use channel::ChannelState;
 use channel::DEPTH;
+use channel::OpenJob;
 use channel::Peer;
 use channel::Queue;
 use channel::Slot;
 use credit::CreditFlowControl;
 use credit::CreditFlowPolicy;
 use sar_join::Assembly;
+
+// No job is open.
+pub fn no_job() -> OpenJob
+    ensures { λ r. ⌜ r ≡ noJob ⌝ }
+{
+    OpenJob {
+        length: 0,
+        taken: 0,
+        filled: 0,
+        aside: 0,
+    }
+}
 
 // A slot that was never used, with so many holds.
 pub fn fresh(hold: u8) -> Slot
@@ -28,6 +41,7 @@ pub fn fresh(hold: u8) -> Slot
     let assembly = Assembly { have: 0, want: 0 };
     let lens = [0u16; DEPTH];
     let queue = Queue { count: 0, lens };
+    let job = no_job();
     Slot {
         state: ChannelState::Disconnected,
         link: 0,
@@ -39,6 +53,7 @@ pub fn fresh(hold: u8) -> Slot
         peer,
         assembly,
         queue,
+        job,
     }
 }
 
@@ -56,6 +71,7 @@ pub fn in_state(x: Slot, k: ChannelState) -> Slot
     let peer = x.peer;
     let assembly = x.assembly;
     let queue = x.queue;
+    let job = x.job;
     Slot {
         state: k,
         link: x.link,
@@ -67,6 +83,7 @@ pub fn in_state(x: Slot, k: ChannelState) -> Slot
         peer,
         assembly,
         queue,
+        job,
     }
 }
 
@@ -118,10 +135,18 @@ pub fn with_queue(x: Slot, q: Queue) -> Slot
     y
 }
 
-// The slot in a state that is not Connected: no assembly is open any more.
+pub fn with_job(x: Slot, j: OpenJob) -> Slot
+    ensures { λ r. ⌜ r ≡ withJob j x ⌝ }
+{
+    let mut y = x;
+    y.job = j;
+    y
+}
+
+// The slot in a state that is not Connected: no assembly and no job is open any more.
 pub fn left(x: Slot, k: ChannelState) -> Slot
     ensures { λ r. ⌜ r ≡ left k x ⌝ }
 {
     let a = Assembly { have: 0, want: 0 };
-    with_assembly(in_state(x, k), a)
+    with_job(with_assembly(in_state(x, k), a), no_job())
 }

@@ -1,14 +1,17 @@
 //! The table's octets (crates/edge_layout/specs/Layout.antt): 16 of sizes and the identifier, 32 of SPSMs, then a column of 16 for each octet of a
 //! slot's row. A table has one spelling, so that two tables are equal where their octets are.
 
-use language::{Policy, SlotView, Stale, State, View};
+use language::{JobView, Policy, SlotView, Stale, State, View};
 
-pub const TABLE_OCTETS: usize = 672;
+pub const TABLE_OCTETS: usize = 800;
 
 const HEAD: usize = 48;
 const SLOTS: usize = 16;
-const COLUMNS: usize = 39;
-const NUMBER: u8 = 1;
+const COLUMNS: usize = 47;
+const NUMBER: u8 = 2;
+
+/// What a closed job's columns say.
+const NO_JOB: JobView = JobView { length: 0, taken: 0, filled: 0, aside: 0 };
 
 /// The octets of a table.
 pub fn spell(view: &View) -> [u8; TABLE_OCTETS] {
@@ -39,6 +42,7 @@ fn row(slot: &SlotView) -> [u8; COLUMNS] {
         Policy::MinThreshold(threshold) => (1, threshold),
     };
     let job = |at: usize| slot.jobs.get(at).copied().unwrap_or(0);
+    let open = slot.job.unwrap_or(NO_JOB);
     let mut row = [0; COLUMNS];
     [row[0], row[1], row[10], row[17], row[30]] = [state, value, policy, slot.hold as u8, slot.jobs.len() as u8];
     let numbers = [
@@ -59,6 +63,10 @@ fn row(slot: &SlotView) -> [u8; COLUMNS] {
         (33, job(1)),
         (35, job(2)),
         (37, job(3)),
+        (39, open.length),
+        (41, open.taken),
+        (43, open.filled),
+        (45, open.aside),
     ];
     numbers.iter().for_each(|(column, number)| row[*column..*column + 2].copy_from_slice(&number.to_le_bytes()));
     row
@@ -106,6 +114,7 @@ fn slot_of(octets: &[u8; TABLE_OCTETS], slot: usize) -> SlotView {
         have: number(26),
         want: number(28),
         jobs: (0..waiting).map(|job| number(31 + 2 * job)).collect(),
+        job: Some(JobView { length: number(39), taken: number(41), filled: number(43), aside: number(45) }).filter(|job| *job != NO_JOB),
         stale: Stale::Nothing,
     }
 }

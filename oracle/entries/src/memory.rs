@@ -3,7 +3,7 @@
 use crate::archive;
 use crate::layout::{read, spell, TABLE_OCTETS};
 use crate::lent::Lent;
-use language::{Call, Config, Policy, Sight, View};
+use language::{Call, Config, Policy, Sight, View, BUFFER, SLOTS};
 
 const ANSWER_OCTETS: usize = 16;
 const SIGNAL_OCTETS: usize = 18;
@@ -30,13 +30,16 @@ pub struct Memory {
     pub signal: Lent,
     pub out: Lent,
     pub job: Lent,
+    /// By slot: the buffer of its open job, which stays from call to call too. It is lent as far as the line says.
+    pub buffers: Vec<Lent>,
 }
 
 impl Memory {
     /// Before the first table.
     pub fn new() -> Self {
         let none = || Lent::new(0);
-        Self { table: Lent::new(TABLE_OCTETS), room: none(), number: 0, answer: none(), signal: none(), out: none(), job: none() }
+        let table = Lent::new(TABLE_OCTETS);
+        Self { table, room: none(), number: 0, answer: none(), signal: none(), out: none(), job: none(), buffers: Vec::new() }
     }
 
     /// Calls an entry, with buffers that are painted anew.
@@ -51,13 +54,17 @@ impl Memory {
                 let place = usize::from(m.saturating_sub(6));
                 self.table = Lent::new(TABLE_OCTETS);
                 self.room = Lent::new(usize::from(*n) * (usize::from(*d) + 1) * place);
+                self.buffers = vec![Lent::new(BUFFER); usize::from(SLOTS)];
             }
             _ => {}
         }
-        let Self { table, room, number, answer, signal, out, job } = self;
+        let Self { table, room, number, answer, signal, out, job, buffers } = self;
         let (table, room, answer, signal) = (table.lend(), room.lend(), answer.lend(), signal.lend());
         // A slot number above 255 is past every table, as 255 is.
         let slot = asked.call.slot().unwrap_or(0).min(255) as u8;
+        // One past the table has a buffer to be lent, and to be left alone.
+        let buffer = buffers.get_mut(usize::from(slot).min(usize::from(SLOTS) - 1));
+        let lend = |size: &u16| buffer.map_or(&mut [][..], |buffer| &mut buffer.lend()[..usize::from(*size)]);
         *number = match asked.call {
             Call::Make { n, d, m } => archive::make(table, answer, room, *n, *d, *m),
             Call::Register { spsm } => archive::register_spsm(table, answer, *spsm),
@@ -97,6 +104,9 @@ impl Memory {
                     _ => archive::send(table, answer, out.lend(), slot, sdu),
                 }
             }
+            Call::Start { length, size, .. } => archive::start_job(table, answer, lend(size), slot, usize::from(*length)),
+            Call::Portion { size, octets, .. } => archive::give_portion(table, answer, lend(size), slot, octets),
+            Call::Cancel { .. } => archive::cancel_job(table, answer, room, slot),
             Call::Take { .. } => archive::receive(table, answer, room, signal, job.lend(), slot),
             Call::Attention => archive::attention(table, answer),
             Call::Queries { .. } => {
@@ -107,7 +117,7 @@ impl Memory {
                 archive::send_conn_param_update_req(table, answer, signal, *link, *min, *max, *latency, *timeout)
             }
             Call::ParameterResponse { link, result } => archive::send_conn_param_update_res(table, answer, signal, *link, *result),
-            Call::View | Call::Room { .. } | Call::Unread(_) => unreachable!("no entry is asked"),
+            Call::View | Call::Room { .. } | Call::OpenJob { .. } | Call::Unread(_) => unreachable!("no entry is asked"),
         };
     }
 
@@ -119,8 +129,9 @@ impl Memory {
         read(self.table())
     }
 
+    /// Without the buffers, which a planted fault changes where they stand.
     pub fn sight(&self) -> Sight {
-        Sight { view: self.view(), room: self.room.octets().to_vec() }
+        Sight { view: self.view(), room: self.room.octets().to_vec(), buffers: Vec::new() }
     }
 
     /// Has another table and room stand here, for a planted fault.
@@ -139,6 +150,12 @@ impl Memory {
         }
         if !(self.table.untouched_behind() && self.room.untouched_behind()) {
             return Some(("nothing written behind table and room".to_string(), "octets behind them".to_string()));
+        }
+        // Of a slot's buffer what was never written is as it was painted.
+        let touched = |(buffer, must): &(&Lent, &Vec<u8>)| buffer.octets()[..must.len()] != must[..] || !buffer.untouched_from(must.len());
+        if let Some((buffer, must)) = self.buffers.iter().zip(&sight.buffers).find(touched) {
+            let written = || Some(("nothing written behind an open job's octets".to_string(), "octets behind them".to_string()));
+            return octet("buffer", must, &buffer.octets()[..must.len()]).or_else(written);
         }
         octet("room", &sight.room, self.room.octets())
     }

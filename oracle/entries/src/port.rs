@@ -4,7 +4,7 @@ use crate::archive::signal_rest;
 use crate::faults::{Fault, Kept, Scene};
 use crate::memory::{lines, Asked, Memory};
 use crate::row::row;
-use language::{played, Answer, Call, Row};
+use language::{played, Answer, Call, JobView, Row};
 use oracle::compare::Difference;
 use oracle::port::Port;
 use oracle::script::{Script, Step};
@@ -67,6 +67,18 @@ impl Entries {
                 let (n, octets) = (self.memory.view().slots.len(), self.memory.room.octets());
                 let places = octets.chunks((octets.len() / n.max(1)).max(1)).nth(usize::from(*slot));
                 vec![places.map_or(Row::number(6), |places| Row::number(0).octets(places.to_vec())).to_string()]
+            }
+            Call::OpenJob { slot } => {
+                let (view, at) = (self.memory.view(), usize::from(*slot));
+                let none = if view.slots.is_empty() { 1 } else { 6 };
+                let row = view.slots.get(at).map_or(Row::number(none), |record| {
+                    let job = record.job.unwrap_or(JobView { length: 0, taken: 0, filled: 0, aside: 0 });
+                    let stands = if job.filled == 0 { 0 } else { 4 + usize::from(job.filled) };
+                    let octets = self.memory.buffers[at].octets();
+                    let row = Row::number(0).octets(octets[..stands.min(octets.len())].to_vec());
+                    row.column(job.length).column(job.taken).column(job.filled).column(job.aside)
+                });
+                vec![row.to_string()]
             }
             Call::Unread(_) => vec![Row::new(Answer::Unread).to_string()],
             _ => vec![self.enter(whole).to_string()],

@@ -1,6 +1,7 @@
 //! The row of a call from what its entry left. Row and answer say the same: an answer with another octet than the row asks for, and a buffer with
 //! an octet behind what was written, show in the row.
 
+use crate::lent::Lent;
 use crate::memory::{Asked, Memory};
 use language::{hex, Call, Row};
 
@@ -15,6 +16,7 @@ pub const JOB: u8 = 7;
 const ATTENTION: u8 = 8;
 const NUMBER: u8 = 9;
 const EVENT: u8 = 10;
+const PORTION: u8 = 12;
 const CONNECT_ERROR: u32 = 17;
 
 /// The row. `link` is that of the slot that the call names, from before the call: some answers carry it and no row shows it.
@@ -23,7 +25,11 @@ pub fn row(memory: &Memory, asked: Asked<'_>, link: u16) -> Row {
     let numbers = [6, 8, 10, 12].map(|at| u16::from_le_bytes([answer[at], answer[at + 1]]));
     let written = u32::from_le_bytes([answer[2], answer[3], answer[4], answer[5]]);
     let copied = if answer[0] == JOB { usize::from(numbers[1]) } else { 0 };
+    let none = Lent::new(0);
+    let slot = usize::from(asked.call.slot().unwrap_or(0));
     let (buffer, in_buffer, in_signal) = match asked.call {
+        // What stands behind in a buffer that stays is looked at with the table: `Memory::differs`.
+        Call::Start { .. } | Call::Portion { .. } => (memory.buffers.get(slot).unwrap_or(&none), written as usize, 0),
         Call::Send { .. } => (&memory.out, written as usize, 0),
         Call::Take { .. } => (&memory.job, copied, written as usize),
         _ => (&memory.signal, written as usize, written as usize),
@@ -42,7 +48,8 @@ pub fn row(memory: &Memory, asked: Asked<'_>, link: u16) -> Row {
     if told.is_none() || exact != answer || !memory.answer.untouched_behind() {
         row = row.column(format!("answer:{}", hex(answer)));
     }
-    if !(memory.signal.untouched_from(in_signal) && buffer.untouched_from(in_buffer)) {
+    let stays = matches!(asked.call, Call::Start { .. } | Call::Portion { .. });
+    if !(memory.signal.untouched_from(in_signal) && (stays || buffer.untouched_from(in_buffer))) {
         row = row.column("behind-what-was-written");
     }
     row
@@ -63,6 +70,9 @@ fn told(call: &Call, refusal: u32, kind: u8, numbers: [u16; 4], link: u16) -> Op
         (Call::Opened { .. }, DONE) => Some((vec![0], [0; 4])),
         (Call::NextDisconnect, DUE) => Some((vec![first, second], [first, second, 0, 0])),
         (Call::Send { .. }, FRAMES) => Some((vec![second], [link, second, 0, 0])),
+        (Call::Start { .. }, FRAMES) => Some((vec![second], [link, second, 0, 0])),
+        (Call::Portion { .. }, PORTION) => Some((vec![second, third], [link, second, third, 0])),
+        (Call::Start { .. } | Call::Portion { .. }, DONE) => None,
         (Call::Take { .. }, JOB) => Some((vec![second, third], [link, second, third, 0])),
         (Call::Attention, ATTENTION) => Some((vec![first, second, third], [first, second, third, 0])),
         (Call::Queries { .. }, NUMBER) => Some((vec![first], [first, 0, 0, 0])),

@@ -12,6 +12,10 @@ use oracle::port::Port;
 use oracle::run::{script, Extent};
 use oracle::script::Script;
 
+/// The same with a job in portions, of which a frame is out and the next one begun.
+const PORTIONED: [&str; 4] =
+    ["N 0 30 27", "p 0 27 0102030405060708090a0b0c0d0e0f101112131415161718191a1b1c1d1e", "p 0 27 16171819", "p 0 27 1a"];
+
 /// An open channel with a job that waits and half of another, then a call that writes to every buffer.
 const BUSY: [&str; 8] =
     ["T 3 2 64", "R 128", "S 1 1 c 14070a0080005000640017000500", "P 1 1", "A 0 - - m2 3", "F 1 64 0300aabbcc", "F 1 64 09000102", "B 0 2"];
@@ -73,6 +77,38 @@ fn no_octet_is_out_of_sight() {
     }
     memory.number = 1;
     assert!(!same(&memory));
+}
+
+/// Of every slot's buffer what was written and what wasn't, and the octets behind.
+#[test]
+fn no_octet_of_a_buffer_is_out_of_sight() {
+    let script = judged(&[&BUSY[..], &PORTIONED].concat());
+    let mut memory = Memory::new();
+    script.steps.iter().for_each(|step| memory.enter(Asked { call: &step.call, pdu: pdu(&step.call), question: 0 }));
+    let after = &script.steps.last().unwrap().after[0];
+    assert!(memory.differs(after).is_none());
+    for slot in 0..after.view.slots.len() {
+        for at in 0..memory.buffers[slot].whole().len() {
+            memory.buffers[slot].whole()[at] ^= 0x10;
+            assert!(memory.differs(after).is_some(), "slot {slot}, octet {at}");
+            memory.buffers[slot].whole()[at] ^= 0x10;
+        }
+    }
+}
+
+/// The scripts of document 02's readings whose rows aren't the original's: a second job, credits set aside, and a late cancel.
+#[test]
+fn the_rows_of_document_02() {
+    let open = "T 2 2 64\nR 128\nS 1 1 c 14070a0080005000640017000500\nP 1 1\nA 0 - - - -\n";
+    let rich = open.replace("17000500", "1700ffff");
+    let o22: String = (1..=22).map(|octet| format!("{octet:02x}")).collect();
+    let last = |script: String| Entries::new(None).rows(&script).unwrap().pop().unwrap();
+    assert_eq!(last(format!("{open}N 0 5 11\nK 0 aa\n")), "24 -");
+    assert_eq!(last(format!("{open}N 0 25 27\np 0 27 {o22}aabbccdd\n")), "25 -");
+    assert_eq!(last(format!("{rich}N 0 22 27\nS 1 1 c 1609040050000100\n")), "9 -");
+    assert_eq!(last(format!("{rich}N 0 22 27\np 0 27 {o22}\nS 1 1 c 1609040050000100\n")), "0 -");
+    let rows = Entries::new(None).rows(&format!("{open}N 0 30 27\np 0 27 {o22}\nx 0\nV\n")).unwrap();
+    assert_eq!(rows[9], "= 0 disconnecting 1 64 128 60 58 e1 2 0 80 23 100 3 1 0 0 0");
 }
 
 fn pdu(call: &Call) -> &[u8] {

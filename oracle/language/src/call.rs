@@ -2,6 +2,7 @@
 
 use crate::row::{hex, unhex};
 use crate::wrong::Wrong;
+use crate::BUFFER;
 use std::fmt;
 
 /// How credits are granted: `eK` or `mT`.
@@ -93,6 +94,20 @@ pub enum Call {
         slot: u16,
         sdu: Vec<u8>,
     },
+    /// Starts a job in portions, in so many octets of the slot's buffer.
+    Start {
+        slot: u16,
+        length: u16,
+        size: u16,
+    },
+    Portion {
+        slot: u16,
+        size: u16,
+        octets: Vec<u8>,
+    },
+    Cancel {
+        slot: u16,
+    },
     Take {
         slot: u16,
         size: u16,
@@ -114,6 +129,10 @@ pub enum Call {
     },
     View,
     Room {
+        slot: u16,
+    },
+    /// The open job of a slot, and the frame that is being filled.
+    OpenJob {
         slot: u16,
     },
     /// A line that cannot be read.
@@ -141,7 +160,8 @@ impl Call {
         match *self {
             Accept { slot, .. } | Reject { slot, .. } | DropPending { slot } | Opened { slot, .. } | GiveUp { slot } => Some(slot),
             AddHold { slot } | Release { slot } | Disconnect { slot } | Send { slot, .. } | Take { slot, .. } => Some(slot),
-            Queries { slot } | Room { slot } => Some(slot),
+            Start { slot, .. } | Portion { slot, .. } | Cancel { slot } => Some(slot),
+            Queries { slot } | Room { slot } | OpenJob { slot } => Some(slot),
             _ => None,
         }
     }
@@ -167,7 +187,7 @@ impl Call {
 
     /// True for the lines that only look.
     pub fn only_looks(&self) -> bool {
-        matches!(self, Call::View | Call::Room { .. } | Call::Attention | Call::Queries { .. } | Call::Unread(_))
+        matches!(self, Call::View | Call::Room { .. } | Call::OpenJob { .. } | Call::Attention | Call::Queries { .. } | Call::Unread(_))
     }
 }
 
@@ -194,6 +214,7 @@ struct Words<'a>(std::str::Split<'a, char>);
 
 /// What can stand as a word, as `Wrong` says it.
 const NUMBER: &str = "a number of 1 to 5 digits, at most 65535";
+const SIZE: &str = "a number of 1 to 5 digits, at most 4096, the octets of a slot's buffer";
 const CHOICE: &str = "a number of 1 to 5 digits, at most 65535, or `-`";
 const FLAG: &str = "0 or 1";
 const ROLE: &str = "c or p";
@@ -223,6 +244,9 @@ impl<'a> Words<'a> {
             "Q" => Call::NextDisconnect,
             "F" => Call::Frame { link: w.number("link")?, cid: w.number("cid")?, payload: w.octets()? },
             "K" => Call::Send { slot: w.number("slot")?, sdu: w.octets()? },
+            "N" => Call::Start { slot: w.number("slot")?, length: w.number("length")?, size: w.size()? },
+            "p" => Call::Portion { slot: w.number("slot")?, size: w.size()?, octets: w.octets()? },
+            "x" => Call::Cancel { slot: w.number("slot")? },
             "B" => Call::Take { slot: w.number("slot")?, size: w.number("size")? },
             "I" => Call::Attention,
             "U" => Call::Queries { slot: w.number("slot")? },
@@ -236,6 +260,7 @@ impl<'a> Words<'a> {
             "y" => Call::ParameterResponse { link: w.number("link")?, result: w.number("result")? },
             "V" => Call::View,
             "M" => Call::Room { slot: w.number("slot")? },
+            "n" => Call::OpenJob { slot: w.number("slot")? },
             _ => return Err(Wrong::Letter(letter.to_string())),
         })
     }
@@ -253,6 +278,11 @@ impl<'a> Words<'a> {
 
     fn number(&mut self, name: &'static str) -> Result<u16, Wrong> {
         self.word(name, NUMBER, number)
+    }
+
+    /// How much of a slot's buffer is lent.
+    fn size(&mut self) -> Result<u16, Wrong> {
+        self.word("size", SIZE, |word| number(word).filter(|size| usize::from(*size) <= BUFFER))
     }
 
     fn flag(&mut self, name: &'static str) -> Result<bool, Wrong> {
@@ -351,6 +381,9 @@ impl fmt::Display for Call {
             Call::NextDisconnect => write!(f, "Q"),
             Call::Frame { link, cid, payload } => write!(f, "F {link} {cid} {}", hex(payload)),
             Call::Send { slot, sdu } => write!(f, "K {slot} {}", hex(sdu)),
+            Call::Start { slot, length, size } => write!(f, "N {slot} {length} {size}"),
+            Call::Portion { slot, size, octets } => write!(f, "p {slot} {size} {}", hex(octets)),
+            Call::Cancel { slot } => write!(f, "x {slot}"),
             Call::Take { slot, size } => write!(f, "B {slot} {size}"),
             Call::Attention => write!(f, "I"),
             Call::Queries { slot } => write!(f, "U {slot}"),
@@ -358,6 +391,7 @@ impl fmt::Display for Call {
             Call::ParameterResponse { link, result } => write!(f, "y {link} {result}"),
             Call::View => write!(f, "V"),
             Call::Room { slot } => write!(f, "M {slot}"),
+            Call::OpenJob { slot } => write!(f, "n {slot}"),
             Call::Unread(line) => write!(f, "{line}"),
         }
     }
@@ -391,6 +425,10 @@ mod tests {
             "Q",
             "F 1 64 0300aa",
             "K 0 -",
+            "N 0 65535 4096",
+            "p 0 27 0102",
+            "p 0 0 -",
+            "x 0",
             "B 0 9",
             "I",
             "U 0",
@@ -398,6 +436,7 @@ mod tests {
             "y 1 0",
             "V",
             "M 0",
+            "n 0",
         ] {
             let call = Call::parse(line);
             assert!(!matches!(call, Call::Unread(_)), "{line}");
@@ -422,6 +461,12 @@ mod tests {
             "F 1 64 0",
             "F 1 64 AB",
             "F 1 64 ",
+            "N 0 5 4097",
+            "N 0 5",
+            "p 0 4097 aa",
+            "p 0 27",
+            "x 0 0",
+            "n",
             "A 0 - - x1 -",
             "A 0 - - e -",
             "Q 1",

@@ -10,7 +10,7 @@ mod wrong;
 pub use call::{signals, Call, Config, Policy};
 pub use row::{hex, unhex, Answer, Reply, Row};
 pub use script::{is_played, lines, played};
-pub use view::{Sight, SlotView, Stale, State, View};
+pub use view::{JobView, Sight, SlotView, Stale, State, View};
 pub use wrong::Wrong;
 
 /// The limits of document 01, and the room that `chanrun` lends at most.
@@ -19,6 +19,8 @@ pub const QUEUE: u16 = 4;
 pub const PACKET: std::ops::RangeInclusive<u16> = 29..=1024;
 pub const HIGHEST_LINK: u16 = 0x0EFF;
 pub const ROOM: usize = 65_536;
+/// The buffer that `chanrun` lends for each slot's open job.
+pub const BUFFER: usize = 4_096;
 /// The local CID of slot 0.
 pub const BASE_ID: u16 = 0x40;
 

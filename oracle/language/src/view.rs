@@ -29,7 +29,17 @@ pub enum Stale {
     Peers,
 }
 
-/// A slot's record. `stale` is not printed.
+/// A job that is handed over in portions: the octets stated and taken, those in the payload of the frame that is being filled (the job's length, two octets,
+/// counts), and the credits set aside.
+#[derive(Clone, Copy, Debug, PartialEq, Eq)]
+pub struct JobView {
+    pub length: u16,
+    pub taken: u16,
+    pub filled: u16,
+    pub aside: u16,
+}
+
+/// A slot's record. `V` prints all of it but `job` and `stale`.
 #[derive(Clone, Debug, PartialEq, Eq)]
 pub struct SlotView {
     pub state: State,
@@ -50,6 +60,8 @@ pub struct SlotView {
     pub want: u16,
     /// The waiting jobs, oldest first.
     pub jobs: Vec<u16>,
+    /// The job of ours that is open.
+    pub job: Option<JobView>,
     pub stale: Stale,
 }
 
@@ -64,11 +76,12 @@ pub struct View {
     pub slots: Vec<SlotView>,
 }
 
-/// All that a call can change: the table, and the room's places, slot after slot.
+/// All that stays from call to call: the table, the room's places, slot after slot, and of each slot's buffer what was ever written, from its start on.
 #[derive(Clone, Debug, PartialEq, Eq)]
 pub struct Sight {
     pub view: View,
     pub room: Vec<u8>,
+    pub buffers: Vec<Vec<u8>>,
 }
 
 impl View {
@@ -135,6 +148,7 @@ impl SlotView {
             have: 0,
             want: 0,
             jobs: Vec::new(),
+            job: None,
             stale: Stale::Nothing,
         }
     }
@@ -226,6 +240,7 @@ impl SlotView {
             have: number(next()?)?,
             want: number(next()?)?,
             jobs: Vec::new(),
+            job: None,
             stale: Stale::Nothing,
         };
         let queued = number(next()?)?;

@@ -4,6 +4,7 @@
 mod numbers;
 mod opening;
 mod outside;
+mod portions;
 mod signals;
 mod traffic;
 
@@ -84,6 +85,9 @@ enum Move {
     NextDisconnect,
     Frame,
     Send,
+    Start,
+    Portion,
+    Cancel,
     Take,
     ParameterRequest,
     ParameterResponse,
@@ -91,7 +95,7 @@ enum Move {
 }
 
 /// The moves and their weights by theme: mixed, opening, jobs, credits, closing, signals.
-const MOVES: [(Move, [usize; 6]); 29] = [
+const MOVES: [(Move, [usize; 6]); 32] = [
     (Move::Register, [1, 2, 1, 1, 1, 1]),
     (Move::PeerRequest, [8, 14, 8, 8, 12, 12]),
     (Move::Response, [6, 12, 4, 4, 8, 8]),
@@ -117,6 +121,9 @@ const MOVES: [(Move, [usize; 6]); 29] = [
     (Move::NextDisconnect, [4, 2, 1, 1, 12, 3]),
     (Move::Frame, [14, 2, 40, 10, 12, 2]),
     (Move::Send, [8, 1, 10, 24, 3, 1]),
+    (Move::Start, [6, 1, 10, 14, 4, 1]),
+    (Move::Portion, [10, 1, 16, 24, 6, 1]),
+    (Move::Cancel, [1, 0, 1, 3, 1, 0]),
     (Move::Take, [8, 1, 16, 8, 3, 1]),
     (Move::ParameterRequest, [1, 1, 0, 0, 0, 2]),
     (Move::ParameterResponse, [1, 1, 0, 0, 0, 2]),
@@ -207,6 +214,10 @@ impl Generator {
     }
 
     fn propose(&mut self, view: &View) -> Option<Call> {
+        // A job that was begun is to come to its end now and then.
+        if view.slots.iter().any(|slot| slot.job.is_some()) && self.rng.chance(35) {
+            return self.give_portion(view);
+        }
         let total = MOVES.iter().map(|(_, weights)| self.weight(weights)).sum();
         let mut at = self.rng.below(total);
         let mut chosen = MOVES[0].0;
@@ -276,11 +287,15 @@ impl Generator {
             _ => call.slot(),
         };
         let slot = named.filter(|slot| *slot < self.n).unwrap_or(any);
+        if matches!(call, Call::Start { .. } | Call::Portion { .. } | Call::Cancel { .. }) && self.rng.chance(50) {
+            self.ahead.push_back(Call::OpenJob { slot });
+        }
         match self.rng.below(24) {
             0 | 1 => self.ahead.push_back(Call::Room { slot }),
             2 => self.ahead.push_back(Call::Room { slot: any }),
             3 => self.ahead.push_back(Call::Queries { slot }),
             4 => self.ahead.push_back(Call::Attention),
+            5 => self.ahead.push_back(Call::OpenJob { slot: any }),
             _ => {}
         }
     }

@@ -101,6 +101,9 @@ impl Generator {
             }
             Move::Frame => self.frame(view)?,
             Move::Send => self.send(view)?,
+            Move::Start => self.start_job(view)?,
+            Move::Portion => self.give_portion(view)?,
+            Move::Cancel => self.cancel_job(view)?,
             Move::Take => self.take(view)?,
             Move::ParameterRequest => {
                 let [min, max, latency, timeout] = self.parameter_numbers();

@@ -7,7 +7,10 @@ use language::{Call, Config, SlotView, State, View, BASE_ID};
 impl Generator {
     /// A call of one entry of the list, where the table allows one.
     pub(super) fn outside(&mut self, view: &View) -> Option<Call> {
-        match self.rng.pick(&Kind::ALL) {
+        // Few tables allow this one: where one does, it is taken often.
+        let late = |slot: &SlotView| slot.job.is_some_and(|job| job.taken + 2 != job.filled);
+        let kind = if view.slots.iter().any(late) && self.rng.chance(30) { Kind::LateCancel } else { self.rng.pick(&Kind::ALL) };
+        match kind {
             Kind::SpsmIgnored => Some(Call::Register { spsm: self.rng.pick(&[0, 256, 0x8000, 65_535]) }),
             Kind::SlotPanic => Some(Call::AddHold { slot: self.n }),
             Kind::HeldPanic => self.held_wrong(view),
@@ -84,6 +87,23 @@ impl Generator {
                 let (link, length) = (self.link_of(view, slot), usize::from(self.m) + self.rng.between(1, 9));
                 Some(Call::Frame { link, cid: BASE_ID + slot, payload: self.rng.octets(length) })
             }
+            Kind::JobOpen => {
+                let slot = self.one_of(view, |slot| slot.job.is_some())?;
+                let length = self.rng.pick(&[0, 1, 21, 22, 100]);
+                Some(if self.rng.chance(50) {
+                    Call::Send { slot, sdu: self.rng.octets(length) }
+                } else {
+                    Call::Start { slot, length: length as u16, size: self.rng.pick(&[5, 64, 4_096]) }
+                })
+            }
+            Kind::SetAside => {
+                let slot = self.one_of(view, |slot| slot.job.is_some())?;
+                let record = &view.slots[usize::from(slot)];
+                let (link, cid, aside) = (record.link, record.peer_cid, record.job.map_or(0, |job| job.aside));
+                let given = (65_536 - u32::from(record.peer_credits)).saturating_sub(self.rng.between(1, aside.into()) as u32);
+                self.signal_line(|this| Some((link, this.credits_for(cid, given as u16))))
+            }
+            Kind::LateCancel => Some(Call::Cancel { slot: self.one_of(view, late)? }),
             Kind::NumbersLeft | Kind::JobsLeft | Kind::AssemblyLeft => {
                 let slot = self.one_of(view, SlotView::free)?;
                 Some(if self.rng.chance(50) { Call::Queries { slot } } else { Call::Room { slot } })

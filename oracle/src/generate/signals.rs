@@ -72,6 +72,12 @@ impl Generator {
         Some((link, signal(0x16, identifier, &[cid, credits])))
     }
 
+    /// A credit signal by its CID and number.
+    pub(super) fn credits_for(&mut self, cid: u16, credits: u16) -> Vec<u8> {
+        let identifier = self.identifier();
+        signal(0x16, identifier, &[cid, credits])
+    }
+
     pub(super) fn disconnect_request(&mut self, view: &View) -> Option<(u16, Vec<u8>)> {
         let slot = self.slot_where(view, |slot| !slot.free())?;
         let (link, identifier) = (self.link_of(view, slot), self.identifier());

@@ -44,6 +44,12 @@ fn signal(code: u8, numbers: &[u16]) -> Vec<u8> {
     octets
 }
 
+/// A frame as a run has it.
+pub fn frame_record(slot: usize, payload: &[u8]) -> Vec<u8> {
+    let numbers = [link(slot), cid(slot), payload.len() as u16];
+    [&numbers.map(u16::to_le_bytes).concat()[..], payload].concat()
+}
+
 /// Frames' payloads of one length, one behind the other.
 pub struct Frames {
     octets: Vec<u8>,

@@ -1,7 +1,7 @@
-//! Frames in, of jobs that need four: the first, two that follow, the last. All slots get one of a kind, then all the next.
+//! Frames in, of jobs that need four: the first, two that follow, the last. All slots get one of a kind, then all the next; one by one, or by a run of one for each slot.
 
 use crate::clock::{medians, Clock};
-use crate::frames::{cid, Frames};
+use crate::frames::{cid, frame_record, Frames};
 use crate::intake::{channels, empty_original, empty_port};
 use crate::original::{self, clean_packets, Frame, PACKETS};
 use crate::port::Port;
@@ -18,7 +18,7 @@ const KIND: [usize; PARTS] = [0, 1, 1, 2];
 const OF_KIND: [usize; 3] = [1, 2, 1];
 
 /// Nanoseconds a frame, for each kind.
-fn joined(clock: &Clock, size: usize) -> Vec<Times> {
+fn joined(clock: &Clock, size: usize, in_runs: bool) -> Vec<Times> {
     let parts = Frames::parts(N, PARTS, size);
     let job = |k: usize| parts.iter().flat_map(|frames| frames.at(k)).copied().skip(2).collect::<Vec<u8>>();
     let jobs: Vec<Vec<u8>> = (0..N * D).map(|k| job(k % N)).collect();
@@ -26,15 +26,22 @@ fn joined(clock: &Clock, size: usize) -> Vec<Times> {
     let mut port = Port::open(M, &channels, 0);
     let (plain, copying) = (original::open::<M>(&channels, 0), original::open::<M>(&channels, 0));
 
+    let runs: Vec<Vec<u8>> = parts.iter().map(|frames| (0..N).flat_map(|slot| frame_record(slot, frames.at(slot))).collect()).collect();
+    let mut answers = [0; 16 * N];
     let mut ours = |ns: &mut [u64]| {
         port.clean();
         let mut refused = 0;
         for (part, frames) in (0..D).flat_map(|_| parts.iter().enumerate()) {
             ns[KIND[part]] += clock.time(|| {
-                for slot in 0..N {
-                    refused |= port.dispatch(slot, black_box(frames.at(slot)));
+                if in_runs {
+                    refused |= port.dispatch_run(black_box(&runs[part]), &mut answers);
+                } else {
+                    for slot in 0..N {
+                        refused |= port.dispatch(slot, black_box(frames.at(slot)));
+                    }
                 }
             });
+            assert!(!in_runs || answers.chunks(16).all(|answer| answer[..2] == [0, 0]), "the port refuses a frame of a run");
         }
         assert_eq!(refused, 0, "the port refuses a frame");
         empty_port(&mut port, N, &jobs);
@@ -71,8 +78,10 @@ fn joined(clock: &Clock, size: usize) -> Vec<Times> {
 }
 
 pub fn rows(clock: &Clock, table: &mut row::Table) {
-    let times = PAYLOADS.map(|size| joined(clock, size));
-    for (kind, what) in KINDS.iter().enumerate() {
-        PAYLOADS.iter().zip(&times).for_each(|(size, times)| table.add(format!("{what} | {size}"), times[kind]));
+    for (in_runs, how) in [(false, String::new()), (true, format!(", in a run of {N}"))] {
+        let times = PAYLOADS.map(|size| joined(clock, size, in_runs));
+        for (kind, what) in KINDS.iter().enumerate() {
+            PAYLOADS.iter().zip(&times).for_each(|(size, times)| table.add(format!("{what}{how} | {size}"), times[kind]));
+        }
     }
 }

@@ -12,6 +12,7 @@ mod intake;
 mod joining;
 mod original;
 mod port;
+mod portions;
 mod row;
 mod runs;
 mod sending;
@@ -47,6 +48,7 @@ fn main() {
         joining::rows(&clock, &mut entries);
         sending::rows(&clock, &mut entries);
         runs::rows(&clock, &mut entries);
+        portions::rows(&clock, &mut entries);
         taking::rows(&clock, &mut entries);
         growth::rows(&clock, &mut growth);
     }

@@ -4,7 +4,7 @@ use crate::archive;
 use crate::frames::{cid, link, Channels, SPSM};
 use crate::D;
 
-const TABLE_OCTETS: usize = 672;
+const TABLE_OCTETS: usize = 800;
 const DEFAULT: u32 = 0x1_0000;
 const EVERY: u8 = 0;
 const MIN_THRESHOLD: u8 = 1;
@@ -49,6 +49,17 @@ impl Port {
     #[inline]
     pub fn send(&mut self, slot: usize, sdu: &[u8]) -> u32 {
         archive::send(&mut self.table, &mut self.answer, &mut self.out, slot as u8, sdu)
+    }
+
+    /// Each slot's buffer is a part of the output, of so many octets.
+    #[inline]
+    pub fn start_job(&mut self, slot: usize, size: usize, length: usize) -> u32 {
+        archive::start_job(&mut self.table, &mut self.answer, &mut self.out[slot * size..][..size], slot as u8, length)
+    }
+
+    #[inline]
+    pub fn give_portion(&mut self, slot: usize, size: usize, octets: &[u8]) -> u32 {
+        archive::give_portion(&mut self.table, &mut self.answer, &mut self.out[slot * size..][..size], slot as u8, octets)
     }
 
     #[inline]

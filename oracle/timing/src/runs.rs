@@ -1,7 +1,7 @@
 //! Frames in and jobs sent by one call for a run of them, beside the original's loop over the same.
 
 use crate::clock::{medians, Clock};
-use crate::frames::{cid, credits, link, Frames};
+use crate::frames::{credits, frame_record, Frames};
 use crate::intake::{self, copying, empty_port, plain};
 use crate::original::{self, Lined, Table, Unlooked};
 use crate::port::Port;
@@ -13,12 +13,7 @@ use std::hint::black_box;
 /// How many frames or jobs a run has.
 const RUNS: [usize; 2] = [N, N * D];
 
-/// A frame as a run has it, and a job.
-fn frame_record(slot: usize, payload: &[u8]) -> Vec<u8> {
-    let numbers = [link(slot), cid(slot), payload.len() as u16];
-    [&numbers.map(u16::to_le_bytes).concat()[..], payload].concat()
-}
-
+/// A job as a run has it.
 fn job_record(slot: usize, sdu: &[u8]) -> Vec<u8> {
     [&[slot as u8][..], &(sdu.len() as u16).to_le_bytes(), sdu].concat()
 }
@@ -56,16 +51,16 @@ fn frames_in(clock: &Clock, size: usize, run: usize) -> Times {
     Times::each(&medians(1, &mut [&mut ours, &mut theirs, &mut copied]), 0, N * D)
 }
 
-/// Nanoseconds a job, of one frame, in a run.
-fn jobs_sent(clock: &Clock, mps: usize, run: usize) -> Times {
-    let sdus: Vec<Vec<u8>> = (0..N).map(|slot| crate::octets(mps - 2, slot)).collect();
-    let given: Vec<Vec<u8>> = (0..N).map(|slot| credits(slot, D)).collect();
+/// Nanoseconds a frame of jobs of so many frames, in a run of so many jobs.
+fn jobs_sent(clock: &Clock, mps: usize, frames: usize, run: usize) -> Times {
+    let sdus: Vec<Vec<u8>> = (0..N).map(|slot| crate::octets(mps * frames - 2, slot)).collect();
+    let given: Vec<Vec<u8>> = (0..N).map(|slot| credits(slot, frames * D)).collect();
     let records: Vec<Vec<u8>> = (0..N * D).map(|k| job_record(k % N, &sdus[k % N])).collect();
     let runs = runs(&records, run);
-    let out = run * (mps + 4);
+    let job = frames * (mps + 4);
     let channels = sending::channels(N, mps, 60_000);
-    let mut port = Port::open(M, &channels, out);
-    let tables = [0; 2].map(|_| original::open::<M>(&channels, N * D * (mps + 4)));
+    let mut port = Port::open(M, &channels, run * job);
+    let tables = [0; 2].map(|_| original::open::<M>(&channels, N * D * job));
     let mut answers = vec![0; 16 * run];
 
     assert_eq!(port.send_run(&runs[0], &mut answers), 0, "the port refuses a run");
@@ -91,14 +86,16 @@ fn jobs_sent(clock: &Clock, mps: usize, run: usize) -> Times {
     // The original's line goes on as far as a run does.
     let mut theirs = sending::side(clock, &tables[0], Table::try_send::<Unlooked>, &sdus, &given, run);
     let mut copied = sending::side(clock, &tables[1], Table::try_send::<Lined>, &sdus, &given, run);
-    Times::each(&medians(1, &mut [&mut ours, &mut theirs, &mut copied]), 0, N * D)
+    Times::each(&medians(1, &mut [&mut ours, &mut theirs, &mut copied]), 0, N * D * frames)
 }
 
 pub fn rows(clock: &Clock, table: &mut row::Table) {
     for run in RUNS {
         PAYLOADS.iter().for_each(|size| table.add(format!("frame in, in a run of {run} | {size}"), frames_in(clock, *size, run)));
     }
-    for run in RUNS {
-        PAYLOADS.iter().for_each(|size| table.add(format!("send, one frame, in a run of {run} | {size}"), jobs_sent(clock, *size, run)));
+    for (what, frames) in [("send, one frame", 1), ("send, a frame of ten", sending::LONG)] {
+        for run in RUNS {
+            PAYLOADS.iter().for_each(|size| table.add(format!("{what}, in a run of {run} | {size}"), jobs_sent(clock, *size, frames, run)));
+        }
     }
 }

@@ -8,7 +8,7 @@ use crate::row::{self, Times};
 use crate::{D, M, N, PAYLOADS};
 use std::hint::black_box;
 
-const LONG: usize = 10;
+pub const LONG: usize = 10;
 
 pub fn channels(n: usize, mps: usize, peer_credits: u16) -> Channels {
     Channels { n, peer_mps: mps as u16, peer_credits, credits: D as u16, threshold: None }

@@ -10,7 +10,7 @@ fn wish() -> ConnParamUpdateReq {
 }
 
 /// The calls that read a table.
-pub const CALLS: [&str; 29] = [
+pub const CALLS: [&str; 32] = [
     "register_spsm",
     "signal",
     "send_conn_param_update_req",
@@ -31,6 +31,9 @@ pub const CALLS: [&str; 29] = [
     "next_disconnect",
     "dispatch",
     "send",
+    "start_job",
+    "give_portion",
+    "cancel_job",
     "receive",
     "dispatch_run",
     "send_run",
@@ -80,6 +83,9 @@ pub fn call(name: &str, channels: &mut ChannelManager<'_>, link: ConnHandle, ind
         "next_disconnect" => channels.next_disconnect(signal).err(),
         "dispatch" => channels.dispatch(link, Cid(0x40), &[0, 0]).err(),
         "send" => channels.send(index, &[], &mut out).err(),
+        "start_job" => channels.start_job(index, 0, &mut out).map(|_| ()).err(),
+        "give_portion" => channels.give_portion(index, &[], &mut out).err(),
+        "cancel_job" => channels.cancel_job(index).err(),
         "receive" => channels.receive(index, &mut job, signal).err(),
         "dispatch_run" => channels.dispatch_run(&mut one_frame(&mut [0; 8], link), &mut [[0; ANSWER_OCTETS]]).err(),
         "send_run" => channels.send_run(&mut one_job(&mut [0; 3], index), &mut out, &mut [[0; ANSWER_OCTETS]]).err(),

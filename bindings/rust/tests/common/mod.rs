@@ -95,5 +95,6 @@ pub fn is_free(slot: &Slot) -> bool {
     slot.state == ChannelState::Disconnected
         && slot.flow_policy == CreditFlowPolicy::Every(1)
         && slot.waiting == 0
+        && slot.job.is_none()
         && numbers.iter().chain(&peer).chain(&slot.lens).all(|number| *number == 0)
 }

@@ -87,6 +87,18 @@ enum-known-a-9 c = search needs
 plain-requires-10 : tie.Need-plain-requires-10
 plain-requires-10 c κs = search needs
 
+enum-known-a-10 : tie.Need-enum-known-a-10
+enum-known-a-10 c = search needs
+
+shown-requires-3 : tie.Need-shown-requires-3
+shown-requires-3 c κs = search needs
+
+bit-requires : tie.Need-bit-requires
+bit-requires c κs = search needs
+
+plain-requires-11 : tie.Need-plain-requires-11
+plain-requires-11 c κs = search needs
+
 returns : tie.Need-returns
 returns c = rw (c .before .enum-told .given .1) (c .plain .ensures)
 
@@ -120,6 +132,9 @@ returns-10 c = rw (c .before .before .a8 .given .1) (c .plain9 .ensures)
 returns-11 : tie.Need-returns-11
 returns-11 c = rw (c .before .before .a9 .given .1) (c .plain10 .ensures)
 
+returns-12 : tie.Need-returns-12
+returns-12 c = rw (c .before .before .before .before .a10 .given .1, ← c .before .before .shown3 .ensures, ← c .before .bit .ensures) (c .plain11 .ensures)
+
 pub tells-spec : {M : Type 1} → statement M
 tells-spec =
     tie.close
@@ -152,6 +167,10 @@ tells-spec =
     plain-requires-9
     enum-known-a-9
     plain-requires-10
+    enum-known-a-10
+    shown-requires-3
+    bit-requires
+    plain-requires-11
     returns
     returns-2
     returns-3
@@ -162,4 +181,5 @@ tells-spec =
     returns-8
     returns-9
     returns-10
-    returns-11)
+    returns-11
+    returns-12)

@@ -14,7 +14,7 @@ use Rattle.codes.proofs.result_in.Tie as tie
 
 -- the arm of every other refusal, by their places in `Refusal`
 abbrev others : List ℕ
-others = 0 ∷ 1 ∷ 2 ∷ 3 ∷ 4 ∷ 5 ∷ 6 ∷ 7 ∷ 8 ∷ 9 ∷ 10 ∷ 11 ∷ 12 ∷ 13 ∷ 14 ∷ 15 ∷ 17 ∷ 18 ∷ 19 ∷ 20 ∷ 21 ∷ 22 ∷ []
+others = 0 ∷ 1 ∷ 2 ∷ 3 ∷ 4 ∷ 5 ∷ 6 ∷ 7 ∷ 8 ∷ 9 ∷ 10 ∷ 11 ∷ 12 ∷ 13 ∷ 14 ∷ 15 ∷ 17 ∷ 18 ∷ 19 ∷ 20 ∷ 21 ∷ 22 ∷ 23 ∷ 24 ∷ []
 
 other : (r : Refusal) → OneOf others (tagOf the-type r) → 0 ≡ resultIn r
 unfolding resultIn
@@ -41,6 +41,8 @@ other Refusal.BadMps h = refl
 other Refusal.QueueFull h = refl
 other Refusal.Held h = refl
 other Refusal.TooLong h = refl
+other Refusal.JobOpen h = refl
+other Refusal.WrongLength h = refl
 
 enum-known-r : tie.Need-enum-known-r
 enum-known-r c = search needs

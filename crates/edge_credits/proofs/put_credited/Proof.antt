@@ -10,8 +10,8 @@ is-connected-requires c κs = search needs
 put-peer-credits-requires : tie.Need-put-peer-credits-requires
 put-peer-credits-requires c κs = search needs
 
-put-framed-requires : tie.Need-put-framed-requires
-put-framed-requires c κs = search needs
+put-left-requires : tie.Need-put-left-requires
+put-left-requires c κs = search needs
 
 same-length : tie.Need-same-length
 same-length c = search needs
@@ -25,7 +25,7 @@ same-length-2 c = search needs
 
 returns-2 : tie.Need-returns-2
 unfolding choose
-returns-2 c = rw (← c .before .before .before .before .before .is-connected .ensures, c .before .before .before .before .if1 .left) (c .before .before .put-framed .ensures)
+returns-2 c = rw (← c .before .before .before .before .before .is-connected .ensures, c .before .before .before .before .if1 .left) (c .before .before .put-left .ensures)
 
 pub put-credited-spec : {M : Type 1} → statement M
 put-credited-spec =
@@ -33,7 +33,7 @@ put-credited-spec =
     (tie.spec
     is-connected-requires
     put-peer-credits-requires
-    put-framed-requires
+    put-left-requires
     same-length
     returns
     same-length-2

@@ -19,6 +19,9 @@ assembly-at-requires c κs = search needs
 queue-at-requires : tie.Need-queue-at-requires
 queue-at-requires c κs = search needs
 
+job-at-requires : tie.Need-job-at-requires
+job-at-requires c κs = search needs
+
 number-requires : tie.Need-number-requires
 number-requires c κs = search needs
 
@@ -38,12 +41,13 @@ returns : tie.Need-returns
 unfolding slotIn
 returns c =
     let at-number2 = c .before .before .before in
-    let at-queue-at = at-number2 .before .before in
+    let at-job-at = at-number2 .before .before in
+    let at-queue-at = at-job-at .before in
     let at-assembly-at = at-queue-at .before in
     let at-peer-at = at-assembly-at .before in
     let at-account-at = at-peer-at .before in
     let at-state-at = at-account-at .before in
-    rw (c .octet .ensures, c .before .number4 .ensures, c .before .before .number3 .ensures, at-number2 .number2 .ensures, at-number2 .before .number .ensures, at-queue-at .queue-at .ensures, at-assembly-at .assembly-at .ensures, at-peer-at .peer-at .ensures, at-account-at .account-at .ensures, at-state-at .state-at .ensures)
+    rw (c .octet .ensures, c .before .number4 .ensures, c .before .before .number3 .ensures, at-number2 .number2 .ensures, at-number2 .before .number .ensures, at-job-at .job-at .ensures, at-queue-at .queue-at .ensures, at-assembly-at .assembly-at .ensures, at-peer-at .peer-at .ensures, at-account-at .account-at .ensures, at-state-at .state-at .ensures)
 
 pub slot-at-spec : {M : Type 1} → statement M
 slot-at-spec =
@@ -54,6 +58,7 @@ slot-at-spec =
     peer-at-requires
     assembly-at-requires
     queue-at-requires
+    job-at-requires
     number-requires
     number-requires-2
     number-requires-3

@@ -19,24 +19,20 @@ put-octet-requires c κs = search needs
 put-peer-requires : tie.Need-put-peer-requires
 put-peer-requires c κs = search needs
 
-put-assembly-requires : tie.Need-put-assembly-requires
-put-assembly-requires c κs = search needs
-
-put-queue-requires : tie.Need-put-queue-requires
-put-queue-requires c κs = search needs
+put-jobs-requires : tie.Need-put-jobs-requires
+put-jobs-requires c κs = search needs
 
 same-length : tie.Need-same-length
 same-length c = search needs
 
 returns : tie.Need-returns
 returns c =
-    let at-put-assembly = c .before .before .before .before .before .before .before in
-    let at-put-peer = at-put-assembly .before .before .before .before .before in
+    let at-put-peer = c .before .before .before .before .before .before .before .before .before in
     let at-put-octet = at-put-peer .before .before .before .before .before in
     let at-put-account = at-put-octet .before .before .before .before in
     let at-put-local = at-put-account .before .before .before .before .before in
     let at-put-state = at-put-local .before .before .before .before in
-    rw (c .before .before .put-queue .ensures, at-put-assembly .put-assembly .ensures, at-put-peer .put-peer .ensures, at-put-octet .put-octet .ensures, at-put-account .put-account .ensures, at-put-local .put-local .ensures, at-put-state .put-state .ensures) (row-parts _ _ _)
+    rw (c .before .before .put-jobs .ensures, at-put-peer .put-peer .ensures, at-put-octet .put-octet .ensures, at-put-account .put-account .ensures, at-put-local .put-local .ensures, at-put-state .put-state .ensures) (row-parts _ _ _)
 
 pub put-slot-spec : {M : Type 1} → statement M
 put-slot-spec =
@@ -47,7 +43,6 @@ put-slot-spec =
     put-account-requires
     put-octet-requires
     put-peer-requires
-    put-assembly-requires
-    put-queue-requires
+    put-jobs-requires
     same-length
     returns)

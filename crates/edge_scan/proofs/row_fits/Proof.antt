@@ -22,9 +22,17 @@ within-requires-3 c κs = search needs
 sum-fits-requires : tie.Need-sum-fits-requires
 sum-fits-requires c κs = search needs
 
+job-fits-requires : tie.Need-job-fits-requires
+job-fits-requires c κs = search needs
+
+aside-fits-requires : tie.Need-aside-fits-requires
+aside-fits-requires c κs = search needs
+
 returns : tie.Need-returns
 unfolding rowFits
-returns c = rw (c .sum-fits .ensures, c .before .within3 .ensures, c .before .before .within2 .ensures, c .before .before .before .within .ensures, c .before .before .before .before .lens-fit .ensures, c .before .before .before .before .before .octet .ensures)
+returns c =
+    let within = c .before .before .before in
+    rw (c .aside-fits .ensures, c .before .job-fits .ensures, c .before .before .sum-fits .ensures, within .within3 .ensures, within .before .within2 .ensures, within .before .before .within .ensures, within .before .before .before .lens-fit .ensures, within .before .before .before .before .octet .ensures)
 
 pub row-fits-spec : {M : Type 1} → statement M
 row-fits-spec =
@@ -36,4 +44,6 @@ row-fits-spec =
     within-requires-2
     within-requires-3
     sum-fits-requires
+    job-fits-requires
+    aside-fits-requires
     returns)

@@ -8,7 +8,7 @@ fresh-requires c κs = search needs
 
 returns : tie.Need-returns
 returns c =
-    rw (c .before .before .before .fresh .ensures)
+    rw (c .before .before .before .before .fresh .ensures)
 
 pub asked-spec : {M : Type 1} → statement M
 asked-spec = tie.close (tie.spec fresh-requires returns)

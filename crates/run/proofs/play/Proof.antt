@@ -93,6 +93,9 @@ enum-known-c-8 c = search needs
 shown-requires : tie.Need-shown-requires
 shown-requires c κs = search needs
 
+enum-told-5 : tie.Need-enum-told-5
+enum-told-5 c = search needs
+
 same-length : tie.Need-same-length
 same-length c = search needs
 
@@ -204,6 +207,10 @@ returns-12 : tie.Need-returns-12
 unfolding playOf
 returns-12 c = rw (c .before .before .before .before .before .before .c8 .given .1) (record { table = refl; room = refl; text = c .before .before .shown .ensures })
 
+returns-13 : tie.Need-returns-13
+unfolding playOf
+returns-13 c = rw (c .enum-told5 .given .1) (no-row _)
+
 pub play-spec : {M : Type 1} → statement M
 play-spec =
     tie.close
@@ -234,6 +241,7 @@ play-spec =
     write-view-requires
     enum-known-c-8
     shown-requires
+    enum-told-5
     same-length
     returns
     same-length-2
@@ -266,4 +274,5 @@ play-spec =
     returns-11
     same-length-20
     same-length-21
-    returns-12)
+    returns-12
+    returns-13)

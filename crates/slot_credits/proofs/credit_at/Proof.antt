@@ -36,8 +36,8 @@ returns c =
     rw (← w .before .before .before .total .ensures, lt-ltb _ _ (w .before .before .if1 .taken))
     (rw (c .before .left .ensures) at (c .became .ensures), w .zero-assembly .ensures)
 
-cast-with-peer-credits : tie.Need-cast-with-peer-credits
-cast-with-peer-credits c = search needs
+add-with-peer-credits : tie.Need-add-with-peer-credits
+add-with-peer-credits c = omega (arith, c .before .total .ensures, c .if1 .left)
 
 with-peer-credits-requires : tie.Need-with-peer-credits-requires
 with-peer-credits-requires c κs = search needs
@@ -62,7 +62,7 @@ credit-at-spec =
     became-requires
     same-length
     returns
-    cast-with-peer-credits
+    add-with-peer-credits
     with-peer-credits-requires
     became-requires-2
     returns-2)

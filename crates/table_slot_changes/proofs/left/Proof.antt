@@ -1,4 +1,4 @@
--- `table_slot_changes::left` meets its contract: what `in_state` and `with_assembly` ensures, put in place.
+-- `table_slot_changes::left` meets its contract: what `in_state`, `with_assembly`, `no_job` and `with_job` ensure, put in place.
 use borrow.Author.Needs.{needs}
 use Rattle.table_slot_changes.proofs.left.Statement.{statement}
 use Rattle.table_slot_changes.proofs.left.Tie as tie
@@ -9,8 +9,27 @@ in-state-requires c κs = search needs
 with-assembly-requires : tie.Need-with-assembly-requires
 with-assembly-requires c κs = search needs
 
+no-job-requires : tie.Need-no-job-requires
+no-job-requires c κs = search needs
+
+with-job-requires : tie.Need-with-job-requires
+with-job-requires c κs = search needs
+
 returns : tie.Need-returns
-returns c = rw (c .with-assembly .ensures, c .before .in-state .ensures)
+returns c =
+    rw (
+      c .with-job .ensures,
+      c .before .no-job .ensures,
+      c .before .before .with-assembly .ensures,
+      c .before .before .before .in-state .ensures,
+    )
 
 pub left-spec : {M : Type 1} → statement M
-left-spec = tie.close (tie.spec in-state-requires with-assembly-requires returns)
+left-spec =
+    tie.close
+    (tie.spec
+    in-state-requires
+    with-assembly-requires
+    no-job-requires
+    with-job-requires
+    returns)

@@ -5,6 +5,7 @@ mod answers;
 mod credits;
 mod jobs;
 mod others;
+mod portions;
 mod states;
 
 use crate::memory::{Asked, Memory};
@@ -18,7 +19,7 @@ pub struct Fault {
 
 /// The list; the client's lost line is the first.
 pub fn all() -> impl Iterator<Item = &'static Fault> {
-    [jobs::FAULTS, others::FAULTS, credits::FAULTS, states::FAULTS, answers::FAULTS].into_iter().flatten()
+    [jobs::FAULTS, others::FAULTS, credits::FAULTS, states::FAULTS, answers::FAULTS, portions::FAULTS].into_iter().flatten()
 }
 
 /// What a fault keeps from call to call: by slot, the numbers and octets of an assembly that was open when its channel ended.

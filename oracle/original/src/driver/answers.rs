@@ -1,6 +1,6 @@
 //! The original's errors as numbers of document 01, and its records as lines of a view.
 
-use super::Driver;
+use super::{Driver, OpenJob};
 use crate::channel_manager::{ChannelState, CreditFlowPolicy};
 use crate::types::l2cap::LeCreditConnResultCode;
 use crate::{BleHostError, Error};
@@ -88,6 +88,7 @@ impl<const M: usize> Driver<'_, M> {
             have: assembly.as_ref().map_or(0, |open| open.have as u16),
             want: assembly.as_ref().map_or(0, |open| open.want as u16),
             jobs: self.channels.job_lengths(slot),
+            job: self.jobs[slot].as_ref().map(OpenJob::view),
             stale: self.tracks.stale(slot),
         }
     }

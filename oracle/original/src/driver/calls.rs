@@ -46,6 +46,9 @@ impl<'d, const M: usize> Driver<'d, M> {
         if matches!(call, Call::Room { .. }) && usize::from(slot) >= self.n {
             return Row::number(6).not_run(reasons::ROOM).into();
         }
+        if let Call::OpenJob { .. } = call {
+            return self.open_job(slot).into();
+        }
         self.ask(|this| this.one(call, slot)).into()
     }
 
@@ -89,6 +92,9 @@ impl<'d, const M: usize> Driver<'d, M> {
             Call::NextDisconnect => self.next_disconnect(),
             Call::Frame { cid, payload, .. } => self.frame(*cid, payload),
             Call::Send { sdu, .. } => self.send(slot, sdu),
+            Call::Start { length, size, .. } => self.start_job(slot, *length, *size),
+            Call::Portion { size, octets, .. } => self.give_portion(slot, *size, octets),
+            Call::Cancel { .. } => self.cancel_job(slot),
             Call::Take { size, .. } => self.take(slot, usize::from(*size)),
             Call::Attention => self.attention(),
             Call::Queries { .. } => self.queries(slot),
@@ -99,7 +105,7 @@ impl<'d, const M: usize> Driver<'d, M> {
             Call::ParameterResponse { link, result } => self.parameter_response(*link, &ConnParamUpdateRes { result: *result }),
             Call::Room { .. } => Row::number(0).octets(self.places(usize::from(slot))),
             Call::Unread(_) => Row::new(Answer::Unread).not_run(reasons::UNREAD),
-            Call::Make { .. } | Call::Signal { .. } | Call::View => unreachable!("handled before"),
+            Call::Make { .. } | Call::Signal { .. } | Call::View | Call::OpenJob { .. } => unreachable!("handled before"),
         }
     }
 
@@ -269,16 +275,20 @@ impl<'d, const M: usize> Driver<'d, M> {
     }
 
     fn send(&mut self, slot: u8, sdu: &[u8]) -> Row {
+        match self.frames(slot, sdu) {
+            Ok(frames) => Row::number(0).octets(frames.concat()).column(frames.len()),
+            Err(row) => row,
+        }
+    }
+
+    /// The frames of a job that is sent, or the row of what refuses it.
+    pub(super) fn frames(&mut self, slot: u8, sdu: &[u8]) -> Result<Vec<Vec<u8>>, Row> {
         let mut packet = Pool::<M>::allocate().expect("the pool is never empty");
         match self.channels.try_send(index(slot), sdu, packet.as_mut(), self.host()) {
-            Ok(()) => {
-                let frames = self.air.take();
-                let n = frames.len();
-                Row::number(0).octets(frames.into_iter().flat_map(|(_, frame)| frame).collect()).column(n)
-            }
+            Ok(()) => Ok(self.air.take().into_iter().map(|(_, frame)| frame).collect()),
             Err(error) => {
                 let row = refused_by_host(error);
-                row.octets(self.sent())
+                Err(row.octets(self.sent()))
             }
         }
     }

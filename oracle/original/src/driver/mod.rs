@@ -3,6 +3,7 @@
 
 mod answers;
 mod calls;
+mod portions;
 mod signals;
 #[cfg(test)]
 mod tests;
@@ -16,6 +17,7 @@ use crate::stand_ins::pool::{Octets, Pool};
 use crate::{config, BleHostError};
 use bt_hci::param::{ConnHandle, LeConnRole};
 use language::{Eyes, Feed, Manner, Sight, View};
+use portions::OpenJob;
 use std::cell::RefCell;
 use std::convert::Infallible;
 use std::future::Future;
@@ -41,6 +43,9 @@ struct Driver<'d, const M: usize> {
     /// By slot: the attempt that owns it, while one does.
     attempts: Vec<Option<Attempt<'d, M>>>,
     tracks: Tracks,
+    /// By slot: the job that is handed over in portions, and what was ever written to the buffer that is lent for it.
+    jobs: Vec<Option<OpenJob<'d>>>,
+    buffers: Vec<Vec<u8>>,
 }
 
 impl<'d, const M: usize> Driver<'d, M> {
@@ -71,7 +76,7 @@ impl<const M: usize> Eyes for Driver<'_, M> {
     }
 
     fn sight(&self) -> Sight {
-        Sight { view: self.view(), room: self.room() }
+        Sight { view: self.view(), room: self.room(), buffers: self.buffers.clone() }
     }
 
     fn oldest_job(&self, slot: usize) -> Option<Vec<u8>> {
@@ -125,6 +130,8 @@ fn with_driver<const M: usize, R>(n: usize, manner: Manner, use_it: impl FnOnce(
         manner,
         attempts: (0..n).map(|_| None).collect(),
         tracks: Tracks::default(),
+        jobs: (0..n).map(|_| None).collect(),
+        buffers: vec![Vec::new(); n],
     };
     use_it(&mut driver)
 }
@@ -135,6 +142,7 @@ fn run<const M: usize>(n: usize, manner: Manner, feed: &mut dyn Feed) {
             let reply = driver.call(&call);
             feed.answered(reply);
         }
+        driver.forget_jobs();
     });
 }
 
@@ -164,5 +172,7 @@ mod reasons {
     pub const RESULT: &str = "LeCreditConnResultCode: an unlisted result code is undefined in the original";
     pub const ROOM: &str = "the room: the original has none";
     pub const PACKET: &str = "Packet: a payload longer than M has no packet";
+    pub const BUFFER: &str = "the buffer of a job in portions: the original has none";
+    pub const PORTION: &str = "a portion that gives out no frame: the original has none";
     pub const UNREAD: &str = "the line cannot be read";
 }

@@ -53,6 +53,9 @@ impl<const M: usize> Driver<'_, M> {
 
     fn follow(&mut self, slot: usize, state_before: ChannelState, cid_before: u16) {
         let (state, cid) = self.channels.standing(slot);
+        if state != ChannelState::Connected {
+            self.close_job(slot);
+        }
         if state != ChannelState::Disconnecting {
             self.tracks.announced[slot] = false;
         }

@@ -1,8 +1,8 @@
 //! Reads the records and calls the private functions of the channel manager, of which this is a child module. The writes are
-//! `hide` and `restore`, which keep slots out of one scan, `close`, which is the body of the original's `OnDrop` in `create`, and the two
+//! `hide` and `restore`, which keep slots out of one scan, `put_credits`, which puts a record's credits aside while a job is sent again, `close`, which is the body of the original's `OnDrop` in `create`, and the two
 //! halves of a planted fault. `encode_job` is for `../speed` alone.
 
-use super::{encode, ChannelIndex, ChannelManager, ChannelState, CreditFlowPolicy, DisconnectRequest};
+use super::{encode, ChannelIndex, ChannelManager, ChannelState, CreditFlowPolicy, CreditGrant, DisconnectRequest};
 use crate::host::BleHost;
 use crate::l2cap::sar::eyes::{assembly, Assembly};
 use crate::l2cap::sar::PacketReassembly;
@@ -127,6 +127,16 @@ impl<P: PacketPool> ChannelManager<'_, P> {
 }
 
 impl<'d, P: PacketPool> ChannelManager<'d, P> {
+    /// The grant that `send` holds for credits that it took. What is left of them when it goes is given back, as the original does it.
+    pub(crate) fn grant(&self, slot: u8, credits: u16) -> CreditGrant<'d, P::Packet> {
+        CreditGrant::new(self.channels, ChannelIndex(slot), credits)
+    }
+
+    /// Has other peer credits stand in a record; gives those that stood there.
+    pub(crate) fn put_credits(&self, slot: usize, credits: u16) -> u16 {
+        core::mem::replace(&mut self.channels.borrow_mut()[slot].peer_credits, credits)
+    }
+
     /// One poll of what `create` waits for.
     pub(crate) fn created<T: Controller>(
         &'d self,

@@ -38,24 +38,27 @@ same-length-3 c = search needs
 same-length-4 : tie.Need-same-length-4
 same-length-4 c = search needs
 
-returns : tie.Need-returns
-unfolding foundOf
-returns c = rw (c .before .before .before .before .before .before .before .before .before .before .before .before .before .before .before .found .given .1, ← c .before .before .before .before .before .before .before .before .before .before .before .before .before .text .ensures) (c .before .before .before .before .before .before .before .before .serve .ensures)
-
-returns-2 : tie.Need-returns-2
-unfolding foundOf
-returns-2 c = rw (c .enum-told .given .1) (record { table = refl; room = refl })
-
 same-length-5 : tie.Need-same-length-5
 same-length-5 c = search needs
 
+returns : tie.Need-returns
+unfolding foundOf
+returns c = rw (c .before .before .before .before .before .before .before .before .before .before .before .before .before .before .before .before .before .before .found .given .1, ← c .before .before .before .before .before .before .before .before .before .before .before .before .before .before .before .before .text .ensures) (c .before .before .before .before .before .before .before .before .before .before .serve .ensures)
+
+returns-2 : tie.Need-returns-2
+unfolding foundOf
+returns-2 c = rw (c .enum-told .given .1) (record { leaves = record { table = refl; room = refl }; buffers = refl })
+
+same-length-6 : tie.Need-same-length-6
+same-length-6 c = search needs
+
 returns-3 : tie.Need-returns-3
 unfolding foundOf
-returns-3 c = rw (c .before .before .before .before .enum-told2 .given .1) (record { table = c .before .before .bad .ensures .0; room = refl })
+returns-3 c = rw (c .before .before .before .before .enum-told2 .given .1) (record { leaves = record { table = c .before .before .bad .ensures .0; room = refl }; buffers = refl })
 
 returns-4 : tie.Need-returns-4
 unfolding foundOf
-returns-4 c = rw (c .enum-told3 .given .1) (record { table = refl; room = refl })
+returns-4 c = rw (c .enum-told3 .given .1) (record { leaves = record { table = refl; room = refl }; buffers = refl })
 
 pub serve-found-spec : {M : Type 1} → statement M
 serve-found-spec =
@@ -72,8 +75,9 @@ serve-found-spec =
     same-length-2
     same-length-3
     same-length-4
+    same-length-5
     returns
     returns-2
-    same-length-5
+    same-length-6
     returns-3
     returns-4)

@@ -47,6 +47,10 @@ returns-10 : tie.Need-returns-10
 unfolding columnsIn choose
 returns-10 c = record { few = search needs; long = refl; rest = refl; are = search tests }
 
+returns-11 : tie.Need-returns-11
+unfolding columnsIn choose
+returns-11 c = record { few = search needs; long = refl; rest = refl; are = search tests }
+
 pub columns-of-spec : {M : Type 1} → statement M
 columns-of-spec =
     tie.close
@@ -60,4 +64,5 @@ columns-of-spec =
     returns-7
     returns-8
     returns-9
-    returns-10)
+    returns-10
+    returns-11)

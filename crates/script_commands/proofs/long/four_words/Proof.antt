@@ -62,9 +62,37 @@ returns-7 : tie.Need-returns-7
 unfolding fourWords choose
 returns-7 c = rw (← c .before .before .before .before .before .before .before .before .before .is-number .ensures, ← c .before .before .before .before .before .before .before .before .is-number2 .ensures, not-false (c .before .before .before .before .before .before .before .before .before .is-number .result && c .before .before .before .before .before .before .before .before .is-number2 .result) (c .before .before .before .before .before .before .before .if1 .left), ne-eqb _ 84 (c .before .before .before .before .if2 .left), ne-eqb _ 79 (c .before .before .before .if4 .left), eq-eqb _ 70 (c .before .before .if6 .taken), ← c .before .hex-ok .ensures, c .if7 .left)
 
+is-size-requires : tie.Need-is-size-requires
+is-size-requires c κs = search needs
+
+number-of-requires-4 : tie.Need-number-of-requires-4
+number-of-requires-4 c κs = search needs
+
 returns-8 : tie.Need-returns-8
 unfolding fourWords choose
-returns-8 c = rw (← c .before .before .before .before .before .before .before .is-number .ensures, ← c .before .before .before .before .before .before .is-number2 .ensures, not-false (c .before .before .before .before .before .before .before .is-number .result && c .before .before .before .before .before .before .is-number2 .result) (c .before .before .before .before .before .if1 .left), ne-eqb _ 84 (c .before .before .if2 .left), ne-eqb _ 79 (c .before .if4 .left), ne-eqb _ 70 (c .if6 .left))
+returns-8 c = rw (← c .before .before .before .before .before .before .before .before .before .before .before .is-number .ensures, ← c .before .before .before .before .before .before .before .before .before .before .is-number2 .ensures, not-false (c .before .before .before .before .before .before .before .before .before .before .before .is-number .result && c .before .before .before .before .before .before .before .before .before .before .is-number2 .result) (c .before .before .before .before .before .before .before .before .before .if1 .left), ne-eqb _ 84 (c .before .before .before .before .before .before .if2 .left), ne-eqb _ 79 (c .before .before .before .before .before .if4 .left), ne-eqb _ 70 (c .before .before .before .before .if6 .left), eq-eqb _ 78 (c .before .before .before .if8 .taken), ← c .before .before .is-size .ensures, c .before .if9 .taken, c .before .before .before .before .before .before .before .before .number-of .ensures, c .before .before .before .before .before .before .before .number-of2 .ensures, c .number-of4 .ensures)
+
+returns-9 : tie.Need-returns-9
+unfolding fourWords choose
+returns-9 c = rw (← c .before .before .before .before .before .before .before .before .before .before .is-number .ensures, ← c .before .before .before .before .before .before .before .before .before .is-number2 .ensures, not-false (c .before .before .before .before .before .before .before .before .before .before .is-number .result && c .before .before .before .before .before .before .before .before .before .is-number2 .result) (c .before .before .before .before .before .before .before .before .if1 .left), ne-eqb _ 84 (c .before .before .before .before .before .if2 .left), ne-eqb _ 79 (c .before .before .before .before .if4 .left), ne-eqb _ 70 (c .before .before .before .if6 .left), eq-eqb _ 78 (c .before .before .if8 .taken), ← c .before .is-size .ensures, c .if9 .left)
+
+is-size-requires-2 : tie.Need-is-size-requires-2
+is-size-requires-2 c κs = search needs
+
+hex-ok-requires-2 : tie.Need-hex-ok-requires-2
+hex-ok-requires-2 c κs = search needs
+
+returns-10 : tie.Need-returns-10
+unfolding fourWords choose
+returns-10 c = rw (← c .before .before .before .before .before .before .before .before .before .before .before .before .is-number .ensures, ← c .before .before .before .before .before .before .before .before .before .before .before .is-number2 .ensures, not-false (c .before .before .before .before .before .before .before .before .before .before .before .before .is-number .result && c .before .before .before .before .before .before .before .before .before .before .before .is-number2 .result) (c .before .before .before .before .before .before .before .before .before .before .if1 .left), ne-eqb _ 84 (c .before .before .before .before .before .before .before .if2 .left), ne-eqb _ 79 (c .before .before .before .before .before .before .if4 .left), ne-eqb _ 70 (c .before .before .before .before .before .if6 .left), ne-eqb _ 78 (c .before .before .before .before .if8 .left), eq-eqb _ 112 (c .before .before .before .if10 .taken), ← c .before .before .is-size2 .ensures, ← c .before .hex-ok2 .ensures, c .if11 .taken, c .before .before .before .before .before .before .before .before .before .number-of .ensures, c .before .before .before .before .before .before .before .before .number-of2 .ensures)
+
+returns-11 : tie.Need-returns-11
+unfolding fourWords choose
+returns-11 c = rw (← c .before .before .before .before .before .before .before .before .before .before .before .before .is-number .ensures, ← c .before .before .before .before .before .before .before .before .before .before .before .is-number2 .ensures, not-false (c .before .before .before .before .before .before .before .before .before .before .before .before .is-number .result && c .before .before .before .before .before .before .before .before .before .before .before .is-number2 .result) (c .before .before .before .before .before .before .before .before .before .before .if1 .left), ne-eqb _ 84 (c .before .before .before .before .before .before .before .if2 .left), ne-eqb _ 79 (c .before .before .before .before .before .before .if4 .left), ne-eqb _ 70 (c .before .before .before .before .before .if6 .left), ne-eqb _ 78 (c .before .before .before .before .if8 .left), eq-eqb _ 112 (c .before .before .before .if10 .taken), ← c .before .before .is-size2 .ensures, ← c .before .hex-ok2 .ensures, c .if11 .left)
+
+returns-12 : tie.Need-returns-12
+unfolding fourWords choose
+returns-12 c = rw (← c .before .before .before .before .before .before .before .before .before .is-number .ensures, ← c .before .before .before .before .before .before .before .before .is-number2 .ensures, not-false (c .before .before .before .before .before .before .before .before .before .is-number .result && c .before .before .before .before .before .before .before .before .is-number2 .result) (c .before .before .before .before .before .before .before .if1 .left), ne-eqb _ 84 (c .before .before .before .before .if2 .left), ne-eqb _ 79 (c .before .before .before .if4 .left), ne-eqb _ 70 (c .before .before .if6 .left), ne-eqb _ 78 (c .before .if8 .left), ne-eqb _ 112 (c .if10 .left))
 
 pub four-words-spec : {M : Type 1} → statement M
 four-words-spec =
@@ -86,4 +114,12 @@ four-words-spec =
     hex-ok-requires
     returns-6
     returns-7
-    returns-8)
+    is-size-requires
+    number-of-requires-4
+    returns-8
+    returns-9
+    is-size-requires-2
+    hex-ok-requires-2
+    returns-10
+    returns-11
+    returns-12)

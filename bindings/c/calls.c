@@ -63,31 +63,23 @@ static void fed(unsigned signals) {
     printf("| %u | %u | %.1f | %.2f |\n", signals, 4 * signals, best / 1e3, best / 1e3 / signals);
 }
 
-/* A job of so many octets sent in one frame, on the largest table, every slot open, one slot after the other: the fastest of some samples. */
-static void sends(size_t octets) {
-    double best = 1e18;
-    unsigned refusals = 0;
-    for (int s = 0; s < SAMPLES; s++) {
-        double from, took;
-        again(), from = now();
-        for (int k = 0; k < TURNS; k++) refusals += l2cap_send(LENT, IN(frames), k % 16, sdu, octets) != 0;
-        took = (now() - from) / TURNS;
-        if (took < best) best = took;
-    }
-    printf("| %zu | %u | %.0f |\n", octets, refusals, best);
+/* A job of so many octets, in one frame: sent; and in one portion, by a start and the portion that gives out its frame. Each tells how often it was refused. */
+static unsigned whole(uint8_t slot, size_t octets) {
+    return l2cap_send(LENT, IN(frames), slot, sdu, octets) != 0;
 }
 
-/* The same job in one portion, on the same table: a start and the portion that gives out its one frame. */
-static void portions(size_t octets) {
+static unsigned portioned(uint8_t slot, size_t octets) {
+    return (l2cap_start_job(LENT, IN(frames), slot, octets) != 0) + (l2cap_give_portion(LENT, IN(frames), slot, sdu, octets) != 0);
+}
+
+/* Such jobs on the largest table, every slot open, one slot after the other: the fastest of some samples. */
+static void sends(unsigned (*job)(uint8_t, size_t), size_t octets) {
     double best = 1e18;
     unsigned refusals = 0;
     for (int s = 0; s < SAMPLES; s++) {
         double from, took;
         again(), from = now();
-        for (int k = 0; k < TURNS; k++) {
-            refusals += l2cap_start_job(LENT, IN(frames), k % 16, octets) != 0;
-            refusals += l2cap_give_portion(LENT, IN(frames), k % 16, sdu, octets) != 0;
-        }
+        for (int k = 0; k < TURNS; k++) refusals += job(k % 16, octets);
         took = (now() - from) / TURNS;
         if (took < best) best = took;
     }
@@ -167,10 +159,10 @@ int main(void) {
 
     puts("\n| octets of a job | refused | ns a send |\n|---|---|---|");
     open_all();
-    sends(23), sends(247), sends(1020);
+    sends(whole, 23), sends(whole, 247), sends(whole, 1020);
 
     puts("\n| octets of a job | refused | ns a start and a portion |\n|---|---|---|");
-    portions(23), portions(247), portions(1020);
+    sends(portioned, 23), sends(portioned, 247), sends(portioned, 1020);
 
     puts("\n| octets of a payload | refused | ns a frame in |\n|---|---|---|");
     arrives(23), arrives(247), arrives(1020);

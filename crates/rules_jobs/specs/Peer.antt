@@ -64,7 +64,7 @@ abbrev pub Stays : ℕ → State → List Call → Type 0
 Stays i s [] = isConnected (slotAt (s .table) i .state) ≡ true
 Stays i s (c ∷ cs) = (isConnected (slotAt (s .table) i .state) ≡ true) × Stays i (after s c) cs
 
-stays-now : (i : ℕ) (s : State) (cs : List Call) → Stays i s cs → isConnected (slotAt (s .table) i .state) ≡ true
+pub stays-now : (i : ℕ) (s : State) (cs : List Call) → Stays i s cs → isConnected (slotAt (s .table) i .state) ≡ true
 stays-now i s [] h = h
 stays-now i s (c ∷ cs) h = h .0
 

@@ -20,7 +20,7 @@ use Rattle.definition.specs.Run.{State, lent, outWindow, jobWindow, outcome, af
 use Rattle.definition.specs.Forms.{Fit}
 use Rattle.rules.specs.Run.{Fits, AllFit, Reached, next}
 use Rattle.rules.specs.Good.{within, reached-good, same-sizes}
-use Rattle.rules_jobs.specs.Peer.{peer-stays-through, Stays}
+use Rattle.rules_jobs.specs.Peer.{peer-stays-through, Stays, stays-now}
 use Rattle.rules_portions.specs.Statement.{HandedOn}
 use Rattle.rules_slots.specs.Changes.{change-law}
 use Rattle.rules_steps.specs.Consequences.{JobMoves, same-job, close-job, begin-job, fill-job, cancel-job}
@@ -67,17 +67,13 @@ module _ {s : State} (r : Reached s) (i : ℕ) (h : i < s .table .n) where
           go true f = absurd (none (subst (λ (m : ℕ). JobCall m c) (sym (eqb-true i k f)) p))
           go false f = ap (λ (x : Slot). x .job) (elsewhere k p (eqb-false i k f))
 
-stays-then : (i : ℕ) (s : State) (cs : List Call) → Stays i s cs → isConnected (slotAt (s .table) i .state) ≡ true
-stays-then i s [] st = st
-stays-then i s (c ∷ cs) st = st .0
-
 -- MANY CALLS
 pub job-stays-through : {s : State} → Reached s → (cs : List Call) → AllFit cs → (i : ℕ) → i < s .table .n → Stays i s cs → NoJobCall i cs → slotAt (run s cs .table) i .job ≡ slotAt (s .table) i .job
 unfolding run
 job-stays-through r [] f i h st none = refl
 job-stays-through {s} r (c ∷ cs) f i h st none =
     let n : i < after s c .table .n = rw (same-sizes s c (reached-good r) (f .0) .n) h in
-    job-stays-through (next c r (f .0)) cs (f .1) i n (st .1) (none .1) ∙ job-stays r i h c (stays-then i (after s c) cs (st .1)) (none .0)
+    job-stays-through (next c r (f .0)) cs (f .1) i n (st .1) (none .1) ∙ job-stays r i h c (stays-now i (after s c) cs (st .1)) (none .0)
 
 -- SO THE BUFFER IS THE CALLER'S PART, AND ALL OF IT: where it is long enough and has the frame that is being filled as the job's last call left it, the next portion finds the job as that call left it.
 pub handed-on : {s : State} → Reached s → (cs : List Call) → AllFit cs → (i : ℕ) → i < s .table .n → Stays i s cs → NoJobCall i cs

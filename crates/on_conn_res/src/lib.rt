@@ -8,7 +8,7 @@ ghost use lib.ListN.{length};
 ghost use Rattle.channel.specs.Limits.{signalMost};
 ghost use Rattle.channel.specs.declared.Table.{Table as TableOf};
 ghost use Rattle.definition.specs.Ending.{end, endOf};
-ghost use Rattle.definition.specs.Signals.{answered, onConnRes};
+ghost use Rattle.definition.specs.Signals.{responder, answered, onConnRes};
 ghost use Rattle.table_room.specs.Placed.{RoomOf};
 use channel::Answer;
 use channel::ChannelState;
@@ -20,24 +20,36 @@ use signal_bodies::le_credit::LeCreditConnResRead;
 use signal_forms::LeCreditConnRes;
 use table_slot::Want;
 
-// The response to the attempt in slot s: Connected with the peer's numbers, or failed with its result.
+// The sender's side of the channel, as its response tells it.
+fn responder(res: LeCreditConnRes) -> Peer
+    ensures { λ r. ⌜ r ≡ responder res ⌝ }
+{
+    Peer {
+        cid: res.dcid,
+        mps: res.mps,
+        mtu: res.mtu,
+        credits: res.credits,
+    }
+}
+
+// The response to the attempt in slot s: failed with its result, or the peer's numbers stored, and Connected, or Disconnecting where they are below the least.
 fn on_answer(t: Table, s: usize, res: LeCreditConnRes) -> Served
     ensures { λ r. ⌜ ((t₀ : TableOf) (room out job : List ℕ) → end r room out job ≡ endOf t₀ [] room out job (answered t s res)) ⌝ }
 {
     let x = table::slot_at(t, s);
     let result = res.result;
-    if codes::result_number(result) == 0 {
-        let peer = Peer {
-            cid: res.dcid,
-            mps: res.mps,
-            mtu: res.mtu,
-            credits: res.credits,
-        };
-        let y = table_slot::in_state(table_slot::with_peer(x, peer), ChannelState::Connected);
-        return table_endings::alter(t, s, y, Answer::Done);
+    if codes::result_number(result) != 0 {
+        let y = table_slot::in_state(x, ChannelState::ConnectFailed(result));
+        return table_endings::alter(t, s, y, Answer::Refused(Refusal::ConnectError(result)));
     }
-    let y = table_slot::in_state(x, ChannelState::ConnectFailed(result));
-    table_endings::alter(t, s, y, Answer::Refused(Refusal::ConnectError(result)))
+    let peer = responder(res);
+    let y = table_slot::with_peer(x, peer);
+    if table_slot::below_least(peer) {
+        let z = table_slot::in_state(y, ChannelState::Disconnecting(false));
+        return table_endings::alter(t, s, z, Answer::Refused(Refusal::InvalidValue));
+    }
+    let z = table_slot::in_state(y, ChannelState::Connected);
+    table_endings::alter(t, s, z, Answer::Done)
 }
 
 // Code 0x15: to the lowest attempt of this link with that identifier; where there is none, all attempts of this link are given up.

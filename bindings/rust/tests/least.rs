@@ -127,12 +127,13 @@ fn other_refusals_of_a_response_come_first() {
     }
 }
 
-/// An attempt has no half job and none that waits. Where octets say so, a response leaves them and the room alone.
+/// An attempt that somebody holds stays held. It has no half job and none that waits; where octets say so, a response leaves them and the room alone.
 #[test]
-fn a_response_leaves_the_room() {
+fn a_response_leaves_holds_and_the_room() {
     for (mtu, mps, below) in pairs() {
         let mut room = [0; ROOM];
-        let (channels, identifier) = attempt(&mut room);
+        let (mut channels, identifier) = attempt(&mut room);
+        channels.inc_ref(SLOT).unwrap().into_index();
         let mut octets = *channels.table().octets();
         for (column, number) in [(26, 3), (28, 9), (31, 2)] {
             put(&mut octets, 0, column, number);
@@ -143,6 +144,7 @@ fn a_response_leaves_the_room() {
         feed(&mut channels, PHONE, &response(identifier, mtu, mps, 0));
         assert!(channels.table().octets() == &changed(octets, if below { [6, 0] } else { [3, 0] }, [0x50, mps, mtu, 5]));
         assert!(channels.room().iter().all(|octet| *octet == 0x77));
+        assert_eq!(slot(&channels, SLOT).hold, 1);
     }
 }
 

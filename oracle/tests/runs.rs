@@ -2,7 +2,7 @@
 //! it must, and the findings that are too long for a file.
 
 use language::{hex, Answer, Call, Manner, Reply};
-use oracle::compare::batch;
+use oracle::compare::{batch, Counts};
 use oracle::faults::{Fault, Faulty};
 use oracle::generate::{Generator, Plan};
 use oracle::kinds::Kind;
@@ -134,7 +134,8 @@ fn an_undefined_result_code_never_reaches_the_original() {
 #[test]
 fn the_list_is_numbered_in_order() {
     let numbers: Vec<usize> = Kind::ALL.iter().map(|kind| kind.number()).collect();
-    assert!(numbers[..24].iter().copied().eq(1..=24) && numbers.windows(2).all(|two| two[0] < two[1]));
+    // 13 went into 50.
+    assert!(numbers[..23].iter().copied().eq((1..=12).chain(14..=24)) && numbers.windows(2).all(|two| two[0] < two[1]));
 }
 
 #[test]
@@ -144,6 +145,28 @@ fn a_script_is_made_again_from_its_number() {
         assert_eq!(script(&wanted, number).text(), script(&wanted, number).text());
     }
     assert_ne!(script(&wanted, 0).text(), script(&wanted, 1).text());
+}
+
+/// The places of document 02 (ii) that a run has to reach, and what it must not do: end a script of the domain there.
+#[test]
+fn sizes_around_23_and_frames_around_our_mps_are_met() {
+    quiet();
+    let mut counts = Counts::default();
+    (0..900).for_each(|number| counts.add(&script(&extent(1, 0), number)));
+    let openings = ["request", "response"].map(|opening| {
+        let below = ["its MTU below 23", "its MPS below 23", "both below 23"].map(|sizes| format!("a {opening} with {sizes}"));
+        [vec![format!("a {opening} at 23")], below.to_vec()].concat()
+    });
+    let frames = ["first", "joining"].map(|kind| ["of exactly", "one octet past"].map(|size| format!("a {kind} frame {size} our MPS")));
+    let earlier = ["a request below 23 that an earlier test refuses", "a response below 23 to no attempt"].map(str::to_string);
+    for mark in openings.concat().into_iter().chain(frames.concat()).chain(earlier) {
+        assert!(counts.marks.contains_key(&mark[..]), "{mark}");
+    }
+    assert!([Kind::BelowLeast, Kind::LongerThanMps].iter().all(|kind| counts.kinds.contains_key(kind)));
+    let domain = Extent { outside: 0, ..extent(1, 0) };
+    let mut counts = Counts::default();
+    (0..300).for_each(|number| counts.add(&script(&domain, number)));
+    assert!(![Kind::BelowLeast, Kind::LongerThanMps].iter().any(|kind| counts.kinds.contains_key(kind)));
 }
 
 /// What a script says must stand after a call, against the lines that show it.

@@ -127,17 +127,17 @@ pub fn marks(view: &View, call: &Call, reply: &Reply) -> Vec<&'static str> {
 
 /// What an opening tells of its sender's MTU and MPS, where they are 23 or below.
 fn sizes(view: &View, link: u16, listening: bool, signal: &[u8]) -> Option<&'static str> {
-    let request = signal[0] == 0x14;
-    let (mtu, mps) = match (signal[0], &fields(signal)?[..]) {
-        (0x14, [_, _, mtu, mps, _]) | (0x15, [_, mtu, mps, _, 0]) => (*mtu, *mps),
+    let (mtu, mps, good) = match (signal[0], &fields(signal)?[..]) {
+        (0x14, [_, _, mtu, mps, _]) => (*mtu, *mps, true),
+        (0x15, [_, mtu, mps, _, result]) => (*mtu, *mps, *result == 0),
         _ => return None,
     };
-    let one = |of_request, of_response| Some(if request { of_request } else { of_response });
+    let one = |of_request, of_response| Some(if signal[0] == 0x14 { of_request } else { of_response });
     match (mtu < SIZE_LEAST, mps < SIZE_LEAST) {
-        (false, false) if mtu.min(mps) > SIZE_LEAST => None,
+        (false, false) if !good || mtu.min(mps) > SIZE_LEAST => None,
         (false, false) => one("a request at 23", "a response at 23"),
         _ if signal_verdict(view, link, listening, signal).is_none() => {
-            one("a request below 23 that an earlier test refuses", "a response below 23 to no attempt")
+            one("a request below 23 that an earlier test refuses", "a response below 23 that an earlier test refuses")
         }
         (true, false) => one("a request with its MTU below 23", "a response with its MTU below 23"),
         (false, true) => one("a request with its MPS below 23", "a response with its MPS below 23"),

@@ -153,13 +153,11 @@ fn sizes_around_23_and_frames_around_our_mps_are_met() {
     quiet();
     let mut counts = Counts::default();
     (0..900).for_each(|number| counts.add(&script(&extent(1, 0), number)));
-    let openings = ["request", "response"].map(|opening| {
-        let below = ["its MTU below 23", "its MPS below 23", "both below 23"].map(|sizes| format!("a {opening} with {sizes}"));
-        [vec![format!("a {opening} at 23")], below.to_vec()].concat()
-    });
-    let frames = ["first", "joining"].map(|kind| ["of exactly", "one octet past"].map(|size| format!("a {kind} frame {size} our MPS")));
-    let earlier = ["a request below 23 that an earlier test refuses", "a response below 23 to no attempt"].map(str::to_string);
-    for mark in openings.concat().into_iter().chain(frames.concat()).chain(earlier) {
+    let sizes = ["at 23", "with its MTU below 23", "with its MPS below 23", "with both below 23", "below 23 that an earlier test refuses"];
+    let openings = ["request", "response"].map(|opening| sizes.map(|sizes| format!("a {opening} {sizes}")));
+    let lengths = ["of exactly our MPS", "one octet past our MPS"];
+    let frames = ["first", "joining"].map(|frame| lengths.map(|length| format!("a {frame} frame {length}")));
+    for mark in openings.as_flattened().iter().chain(frames.as_flattened()) {
         assert!(counts.marks.contains_key(&mark[..]), "{mark}");
     }
     assert!([Kind::BelowLeast, Kind::LongerThanMps].iter().all(|kind| counts.kinds.contains_key(kind)));

@@ -3,9 +3,7 @@
 use crate::refusals::result;
 use crate::seen::Seen;
 use crate::words::{count, parameters, sizes};
-
-/// The least MTU and MPS that Bluetooth lets a side say.
-const SIZE_LEAST: u16 = 23;
+use language::SIZE_LEAST;
 
 /// Who wrote a signal: CIDs and credits are told by whose they are.
 #[derive(Clone, Copy, PartialEq, Eq)]

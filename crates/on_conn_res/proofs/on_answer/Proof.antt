@@ -1,6 +1,5 @@
 -- `on_conn_res::on_answer` meets its contract: code and definition ask the same of the result and of the peer's sizes.
 use mathlib.Core.Path.{ap, _∙_}
-use mathlib.Core.Bool.{not}
 use borrow.Author.Tests.{eq-eqb, ne-eqb}
 use Rattle.lists.specs.Choose.{choose}
 use Rattle.definition.specs.Table.{belowLeast}

@@ -1,5 +1,5 @@
 /* A small printer. `packet` takes a whole L2CAP packet that came on a link, and sends and prints all that it calls for: responses, credits, disconnects, jobs; `reply` sends a sheet of the printer's own, a line at a time. It needs no heap and no C library, so that a firmware can take
- * it over; `main` plays two phones with it, and looks at what comes out. */
+ * it over; `main` plays two phones and an old handset with it, and looks at what comes out. */
 #include "l2cap_channels.h"
 #include <stdio.h>
 #include <string.h>

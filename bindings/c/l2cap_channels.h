@@ -101,7 +101,7 @@ enum l2cap_refusal {
     L2CAP_CONNECT_ERROR = 17,        /* the peer refused our request, with a result code: l2cap_signal leaves the slot failed, l2cap_opened has freed it */
     L2CAP_DISCONNECTED = 18,         /* the link or the channel is down; where it wasn't before, l2cap_opened has freed the slot */
     L2CAP_SHORT_FRAME = 19,          /* a job's first frame without its two length octets: the channel is disconnecting */
-    L2CAP_BAD_MPS = 20,              /* the peer's MPS is under 23: only of a table that no call wrote */
+    L2CAP_BAD_MPS = 20,              /* the peer's MPS is under 23: only of a table that no call wrote, or that is kept from an older archive */
     L2CAP_QUEUE_FULL = 21,           /* a job is complete, but d wait already: it is dropped, and its credit used */
     L2CAP_HELD = 22,                 /* the hold count isn't what the step needs, or would pass 0 or 255 */
     L2CAP_TOO_LONG = 23,             /* a job of 65,534 or 65,535 octets */

@@ -277,7 +277,7 @@ fn past_a_length(slot: &SlotView, payload: &[u8]) -> bool {
     }
 }
 
-/// A payload that no packet holds never reaches the original's channels. It is past every length that document 01 allows: 9 at the latest.
+/// A payload that no packet holds never reaches the original's channels. It is longer than every MPS of ours: 9 at the latest.
 fn no_packet(view: &View, link: u16, cid: u16) -> Option<Verdict> {
     let (number, parts) = match view.slot_of(cid).map(|slot| &view.slots[slot]) {
         None => (7, false),

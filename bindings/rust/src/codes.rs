@@ -204,8 +204,8 @@ pub enum Refusal {
     Disconnected,
     /// 19: a job's first frame without its two length octets. Its credit is used, and the channel is disconnecting.
     ShortFrame,
-    /// 20: the peer's MPS is under [`SIZE_LEAST`]. No call leaves such a channel, so that only octets which no call wrote give it
-    /// ([`Table::from_octets`](crate::Table::from_octets)).
+    /// 20: the peer's MPS is under [`SIZE_LEAST`]. No call leaves such a channel, so that only octets which no call wrote give it, or
+    /// which are kept from an older archive ([`Table::from_octets`](crate::Table::from_octets)).
     BadMps,
     /// 21: a job is complete but as many as can wait do so already: it is dropped, and its credit used.
     QueueFull,

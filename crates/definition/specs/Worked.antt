@@ -334,6 +334,10 @@ peripheral link pdu = ask (signals link true false pdu)
 abbrev half : Slot
 half = channel Connected 1 1 (every 1 2 1) (peer 3) (partly 2 5) (one 4)
 
+-- an attempt as no run has it: half a job is there, and another waits
+abbrev begun : Slot → Slot
+begun x = record { state = x .state; link = x .link; spsm = x .spsm; mps = x .mps; mtu = x .mtu; account = x .account; hold = x .hold; peer = x .peer; assembly = partly 2 5; queue = one 4; job = x .job }
+
 record Signal-lines : Type 0 where
   -- every header first: in these a good request for a channel stands before the bad header, and nothing comes of it
   headers : Hold (
@@ -401,6 +405,7 @@ record Signal-lines : Type 0 where
       two (ours 1 7 1) (ours 1 8 0) ⊢ hear 1 (responseOf 22 23 7 0) ⇒ no 9 & slots (attempt (Disconnecting false) 1 1 (peerOf 22 23)) (ours 1 8 0)  -- MTU
       ∷ two (ours 1 7 1) (ours 1 8 0) ⊢ hear 1 (responseOf 23 22 8 0) ⇒ no 9 & slots (ours 1 7 1) (attempt (Disconnecting false) 1 0 (peerOf 23 22))  -- MPS
       ∷ two (ours 1 7 1) (ours 1 8 0) ⊢ hear 1 (responseOf 23 23 7 0) ⇒ yes Done & slots (attempt Connected 1 1 (peerOf 23 23)) (ours 1 8 0)
+      ∷ two (begun (ours 1 7 1)) (free 0) ⊢ hear 1 (responseOf 30 10 7 0) ⇒ no 9 & slots (begun (attempt (Disconnecting false) 1 1 (peerOf 30 10))) (free 0)  -- an assembly is left alone
       ∷ two (ours 1 7 1) (ours 1 8 0) ⊢ hear 1 (responseOf 0 0 7 4) ⇒ no 17 & slots (failed 1 NoResources 1) (ours 1 8 0)  -- the result before it
       ∷ two (ours 1 7 1) (ours 2 8 0) ⊢ hear 1 (responseOf 10 10 8 0) ⇒ no 8 & slots (free 1) (ours 2 8 0) & wiped0  -- the match before it
       ∷ [])
@@ -538,6 +543,7 @@ record Frame-lines : Type 0 where
       ∷ two (narrow 0 (at 0 3 idle none)) (free 0) ⊢ frame 1 0x40 (5 ∷ []) ⇒ no 10  -- credit before it
       ∷ two (narrow 0 (at 3 0 idle none)) (free 0) ⊢ frame 1 0x40 (5 ∷ []) ⇒ no 9 & slots (narrow 0 (ended none)) (free 0) & cleared0  -- before 19
       ∷ two (narrow 1 (at 3 0 idle (both 4 4))) (free 0) ⊢ frame 1 0x40 (0 ∷ 0 ∷ []) ⇒ no 9 & slots (narrow 1 (ended (both 4 4))) (free 0) & cleared0  -- before 21
+      ∷ two (narrow 1 (at 3 0 (partly 2 4) (both 4 4))) (free 0) ⊢ frame 1 0x40 (7 ∷ 8 ∷ []) ⇒ no 9 & slots (narrow 1 (ended (both 4 4))) (free 0) & cleared0
       ∷ two (narrow 0 (at 3 0 idle none)) (free 0) ⊢ frame 1 0x40 [] ⇒ no 19 & slots (narrow 0 (ended none)) (free 0) & cleared0
       ∷ [])
 
@@ -886,12 +892,12 @@ making-lines = record { limits = refl; short = refl; no-slots = refl; left = ref
 -- 0x14           body > all 18; SPSM 1, spsms, > listening 2; listening 3, > peer CID 4; peer CID 5, 13, > no slot 6, not Disconnected 11, link 10, 12; no slot 14.
 --                least-request: MTU 1, MPS 2, neither at 23 3; SPSM > least 4; listening > least 5; least > peer CID 6, > no slot 7
 -- 0x15           body, code > match 9, 8; Connecting 7; link 1, 5; identifier 2; none > result 6; result 4; freed: link 5, Connecting 7.
---                least-response: MTU 1, MPS 2, neither at 23 3; result > least 4; none > least 5
+--                least-response: MTU 1, MPS 2, neither at 23 3; an assembly 4; result > least 5; none > least 6
 -- 0x16           body 8; Connected 5; link 1; peer CID 4; none > sum 5; sum 6, 7
 -- 0x06           body 8; CID 4, 5; link 6; not Disconnected 7. 0x07: body 9; CID 3, 4; Disconnecting 5, 6, 8; link 7
 -- 0x12           Central 1, > body 2; body 3; the seven conditions: invalid, and their limits 4 to 6. 0x01, 0x13: bodies codes 1 to 5
 -- frame in       CID 1, 2, > state 3; state 4, > link 5; link 6, > credit 7; credit 8, > 19 9.
---                long-frames: MPS 1, 3, at the limit 2, 4, 10; state > MPS 5; link > MPS 6; credit > MPS 7; MPS > 19 8, > 21 9
+--                long-frames: MPS 1, 3, at the limit 2, 4, 11; state > MPS 5; link > MPS 6; credit > MPS 7; MPS > 19 8, > 21 9, 10
 -- first frame    idle 12, 13; 19 1, > MTU 2; MTU 3, 4; more 5, > 21 6; fewer 7, > 21 8; 21 9. Joining: not idle 3, 4, 6; overrun 1, > 21 2; fewer 3, > 21 3; 21 5
 -- send           11 1, > 12 2; 12 3, > 23 4; 23 5, > 20 6; 20 7, > 14 8; 14 9, > 3 10; 3 11
 -- take           each state > none: states 1 to 4; none 5; grants Connected only 7, 8; never 0 policies 3, 6; Every 1, 2; MinThreshold 4, 5

@@ -133,7 +133,7 @@ due-off (Disconnecting a) e = refl
 
 -- ---- "Core sets 23 as the least for MTU and for MPS" (document 02)
 
--- "a PeerConnecting or Connected slot": a connection that the peer asks for, or that stands
+-- a slot that is PeerConnecting or Connected: a connection that the peer asks for, or that stands
 abbrev pub offered : ChannelState → Bool
 offered k = isPeerConnecting k || isConnected k
 

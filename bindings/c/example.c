@@ -1,5 +1,5 @@
 /* A small printer. `packet` takes a whole L2CAP packet that came on a link, and sends and prints all that it calls for: responses, credits, disconnects, jobs; `reply` sends a sheet of the printer's own, a line at a time. It needs no heap and no C library, so that a firmware can take
- * it over; `main` plays two phones with it, and looks at what comes out. */
+ * it over; `main` plays two phones and an old handset with it, and looks at what comes out. */
 #include "l2cap_channels.h"
 #include <stdio.h>
 #include <string.h>
@@ -157,6 +157,7 @@ int main(void) {
     static const uint8_t whole[] = {10, 0, 0x40, 0, 8, 0, 't', 'i', 'c', 'k', 'e', 't', ' ', '2'}, bad[] = {1, 0, 0x40, 0, 9};
     static const uint8_t ours[] = {8, 0, 5, 0, 0x06, 3, 4, 0, 0x50, 0, 0x40, 0}, response[] = {8, 0, 5, 0, 0x07, 3, 4, 0, 0x50, 0, 0x40, 0};
     static const uint8_t last[] = {4, 0, 0x50, 0, '9', ':', '3', '0'};
+    static const uint8_t handset[] = {14, 0, 5, 0, 0x14, 7, 10, 0, SPSM, 0, 0x50, 0, 100, 0, 10, 0, 5, 0}, unsuitable[] = {14, 0, 5, 0, 0x15, 7, 10, 0, 0, 0, 0, 0, 0, 0, 0, 0, L2CAP_RESULT_UNACCEPTABLE_PARAMETERS, 0};
 
     uint8_t run[PACKET];
     size_t at = 0;
@@ -197,6 +198,11 @@ int main(void) {
     packets = 0;
     check(reply(0, 3) == 0 && went(3, 1, IN(last)), "a reply sheet, in three frames");
     check(reply(0, 3) == L2CAP_BUSY && reply(0, 1) == 0 && packets == 1, "of five credits two are left: one line goes out");
+
+    /* An old handset asks for a channel, with frames of 10 octets. Core has 23 as the least: it is told so, and gets no slot. */
+    packets = 0;
+    packet(3, IN(handset));
+    check(went(1, 3, IN(unsuitable)) && !held[1], "a phone with frames below 23 octets is turned down");
 
     /* A link goes down. */
     packets = 0;

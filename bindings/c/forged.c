@@ -5,7 +5,7 @@
 #include <stdio.h>
 #include <string.h>
 
-enum { N = 16, D = 4, M = 300, PLACE = M - 6, ROOM = N * (D + 1) * PLACE, SPSM = 0x80, HEAD = 48, COLUMNS = 47, BEHIND = 16, PAINT = 0xa5, CALLS = 9, MANY = 8000 };
+enum { N = 16, D = 4, M = 300, PLACE = M - 6, ROOM = N * (D + 1) * PLACE, SPSM = 0x80, HEAD = 48, COLUMNS = 47, BEHIND = 16, PAINT = 0xa5, CALLS = 9, MANY = 8000, LONG = 41 };
 
 /* The calls by value, of the same parameters. */
 uint32_t whole_dispatch(uint8_t *, size_t, uint8_t *, size_t, uint8_t *, size_t, uint16_t, uint16_t, const uint8_t *, size_t);
@@ -26,7 +26,10 @@ typedef struct {
 static const char *const names[CALLS] = {"l2cap_dispatch", "l2cap_send", "l2cap_receive", "l2cap_signal", "l2cap_dispatch_run", "l2cap_send_run", "l2cap_start_job", "l2cap_give_portion", "l2cap_cancel_job"};
 static memory bases[2], was, placed, whole;
 static size_t table_len = L2CAP_TABLE_OCTETS, room_len = ROOM;
-static unsigned passed, failed, compared, refused, differing, fault, fault_at, done[CALLS], turned_down[CALLS];
+static unsigned passed, failed, compared, refused, differing, fault, fault_at, done[CALLS], turned_down[CALLS], above, below;
+
+/* How many forms each call has. */
+static const unsigned forms[CALLS] = {3, 2, 2, 4, 1, 1, 2, 2, 1};
 
 /* ---- the tables */
 
@@ -183,15 +186,33 @@ static void by_its_words(memory *m, unsigned k, uint8_t slot, size_t n) {
     if (k == 7) m->answer[8] = (uint8_t)takes, m->answer[10] = (uint8_t)full, m->answer[2] = (uint8_t)(full ? 4 + size : 0);
 }
 
+/* A frame's payload: of one octet, of a whole job, and of a job of LONG octets with its length. Our MPS is 296 in the tables, and 40 where its upper octet is changed: then that one is longer. */
+static size_t payload(unsigned form, uint8_t octets[LONG]) {
+    size_t n = form == 0 ? sizeof rest : form == 1 ? sizeof job : LONG;
+    memset(octets, 3, LONG), octets[0] = LONG - 2, octets[1] = 0;
+    if (form < 2) memcpy(octets, form ? job : rest, n);
+    return n;
+}
+
+/* A signal: one credit, 65,535 of them, a response that accepts the slot's attempt with an MPS of 22, and a request with one. */
+static size_t signalled(uint8_t slot, unsigned form, uint8_t octets[14]) {
+    const uint8_t credits[] = {0x16, 9, 4, 0, was.table[cell(slot, 18)], was.table[cell(slot, 19)], (uint8_t)(form ? 0xFF : 1), (uint8_t)(form ? 0xFF : 0)};
+    const uint8_t response[] = {0x15, was.table[cell(slot, 1)], 10, 0, 0x60, 0, 100, 0, 22, 0, 5, 0, 0, 0}, request[] = {0x14, 9, 10, 0, SPSM, 0, 0x70, 0, 100, 0, 22, 0, 5, 0};
+    size_t n = form < 2 ? sizeof credits : sizeof response;
+    memcpy(octets, form < 2 ? credits : form == 2 ? response : request, n);
+    return n;
+}
+
 /* Call k for a slot, of this form: where it stands, or by value. */
 static void call(memory *m, int by_value, unsigned k, uint8_t slot, unsigned form) {
-    uint8_t credits[] = {0x16, 9, 4, 0, was.table[cell(slot, 18)], was.table[cell(slot, 19)], (uint8_t)(form ? 0xFF : 1), (uint8_t)(form ? 0xFF : 0)};
+    uint8_t octets[LONG];
+    size_t n = k == 0 ? payload(form, octets) : k == 3 ? signalled(slot, form, octets) : 0;
     uint16_t link = slot < N ? number(&was, slot, 2) : 1, cid = (uint16_t)(L2CAP_CID_BASE + slot);
     switch (k) {
-        case 0: m->number = (by_value ? whole_dispatch : l2cap_dispatch)(LENT(m), m->room, room_len, link, cid, form ? job : rest, form ? sizeof job : sizeof rest); break;
+        case 0: m->number = (by_value ? whole_dispatch : l2cap_dispatch)(LENT(m), m->room, room_len, link, cid, octets, n); break;
         case 1: m->number = (by_value ? whole_send : l2cap_send)(LENT(m), IN(m->out), slot, sdu, form ? sizeof sdu : 3); break;
         case 2: m->number = (by_value ? whole_receive : l2cap_receive)(LENT(m), m->room, room_len, IN(m->signal), m->job, form ? sizeof m->job : 2, slot); break;
-        case 3: m->number = (by_value ? whole_signal : l2cap_signal)(LENT(m), m->room, room_len, IN(m->signal), link, 1, 0, IN(credits)); break;
+        case 3: m->number = (by_value ? whole_signal : l2cap_signal)(LENT(m), m->room, room_len, IN(m->signal), link, 1, 0, octets, n); break;
         case 4:
         case 5: run_call(m, by_value, k == 5, slot, link); break;
         default:
@@ -214,7 +235,7 @@ static void calls(uint8_t slot, const char *what, size_t place) {
     unsigned k, form, bad = l2cap_attention(was.table, table_len, IN(answer)) == L2CAP_BAD_TABLE;
     refused += bad;
     for (k = 0; k < CALLS; k++)
-        for (form = 0; form < (k < 4 || k == 6 || k == 7 ? 2u : 1u); form++) {
+        for (form = 0; form < forms[k]; form++) {
             int same;
             placed = whole = was;
             call(&placed, 0, k, slot, form);
@@ -226,6 +247,8 @@ static void calls(uint8_t slot, const char *what, size_t place) {
                 same = same && !memcmp(&placed, &was, sizeof placed);
             } else {
                 placed.number ? turned_down[k]++ : done[k]++;
+                above += k == 0 && form == 2 && placed.number == L2CAP_INVALID_VALUE && number(&was, slot, 6) < LONG;
+                below += k == 3 && form == 2 && placed.number == L2CAP_INVALID_VALUE;
             }
             compared++;
             if (!same && differing++ < 3 && !fault) printf("%s of slot %u, form %u: %s %u\n", names[k], slot, form, what, (unsigned)place);
@@ -292,6 +315,7 @@ int main(void) {
         check(!differing && refused > 1000, k ? "several octets of a full table, and other lengths" : "several octets of a busy table, and other lengths");
     }
     for (k = 0; k < CALLS; k++) check(done[k] > 1000 && (k == 4 || k == 5 || turned_down[k] > 1000), names[k]);
+    check(above > 50 && below > 1000, "frames above our MPS, and responses below the least");
     printf("%u calls compared\n", compared);
     for (fault = 1; fault <= 18; fault++) {
         differing = compared = 0, fault_at = 40 + fault;

@@ -25,6 +25,8 @@
  * Null. A memory of length 0 may be a null pointer: it is not looked at. (A room or signal of length 0 is refused by its length, as above.)
  * Limits. n 1 to 16 slots, d 1 to 4 waiting jobs a slot, packets of m 29 to 1,024 octets; links 0 to 0x0EFF, a higher one is refusal 4; slots 0 to n - 1, a higher one is refusal 6;
  * a slot's CID is L2CAP_CID_BASE + slot. A flag is 0 for no; every other number is yes.
+ * The least MTU and MPS. Core has 23 octets for both, L2CAP_SIZE_LEAST, and a peer is held to it: its connect request with less is refused by result 11 (l2cap_signal, 0x14), and its response with less ends the channel (0x15). So no call
+ * leaves an open channel on which nothing can be sent. Our own numbers are not tested: a peer that keeps to Core refuses a request of ours with less, and disconnects a channel that we accept with less. The defaults are never less.
  *
  * Refusals. Each call's comment has them in the order in which they are tested: the first that fits is given; a number stands twice where it is tested twice. Where the comment says no more, a refused call has changed
  * nothing but the answer. docs/REFUSALS.md has what to do next.
@@ -62,6 +64,9 @@ extern "C" {
 #define L2CAP_SIGNAL_OCTETS 18
 #define L2CAP_CID_BASE 0x40
 
+/* The least MTU and MPS of a peer (Core, Vol 3 Part A, 4.22 and 4.23). */
+#define L2CAP_SIZE_LEAST 23
+
 /* The octets of a run: of each frame link, CID and length before the payload; of each job slot and length before its own. */
 #define L2CAP_RUN_FRAME_HEAD 6
 #define L2CAP_RUN_JOB_HEAD 3
@@ -85,7 +90,7 @@ enum l2cap_refusal {
     L2CAP_BAD_SLOT = 6,              /* the table has no such slot */
     L2CAP_INVALID_CHANNEL_ID = 7,    /* a frame's CID is no slot's */
     L2CAP_NOT_FOUND = 8,             /* no slot fits, or no job is open in it; an unmatched connect response has freed every attempt of its link */
-    L2CAP_INVALID_VALUE = 9,         /* a signal longer than its PDU: a reject is written; credits above 65,535, a job above our MTU or a frame past its job's end: the channel is disconnecting */
+    L2CAP_INVALID_VALUE = 9,         /* a signal longer than its PDU: a reject is written; a response with an MTU or MPS under 23, credits above 65,535, a frame above our MPS, a job above our MTU or a frame past its job's end: the channel is disconnecting */
     L2CAP_OUT_OF_MEMORY = 10,        /* a frame for which the peer had no credit */
     L2CAP_CHANNEL_CLOSED = 11,       /* the channel isn't open */
     L2CAP_INSUFFICIENT_SPACE = 12,   /* our MPS above m - 4 or our MTU above m - 6; a job above the peer's MTU; a create has used an identifier */
@@ -96,7 +101,7 @@ enum l2cap_refusal {
     L2CAP_CONNECT_ERROR = 17,        /* the peer refused our request, with a result code: l2cap_signal leaves the slot failed, l2cap_opened has freed it */
     L2CAP_DISCONNECTED = 18,         /* the link or the channel is down; where it wasn't before, l2cap_opened has freed the slot */
     L2CAP_SHORT_FRAME = 19,          /* a job's first frame without its two length octets: the channel is disconnecting */
-    L2CAP_BAD_MPS = 20,              /* the peer's MPS is under 23 */
+    L2CAP_BAD_MPS = 20,              /* the peer's MPS is under 23: only of a table that no call wrote, or that is kept from an older archive */
     L2CAP_QUEUE_FULL = 21,           /* a job is complete, but d wait already: it is dropped, and its credit used */
     L2CAP_HELD = 22,                 /* the hold count isn't what the step needs, or would pass 0 or 255 */
     L2CAP_TOO_LONG = 23,             /* a job of 65,534 or 65,535 octets */
@@ -259,9 +264,10 @@ uint32_t l2cap_register_spsm(uint8_t *table, size_t table_len, uint8_t *answer, 
  * Refusals: 1 2 3 4 15 9 16 15 8 17 9. First every header of the PDU is checked: 15 where fewer than 4 octets are left for one, 9 where a signal is longer than what is left, with a reject as reply; after these two nothing of the
  * PDU is handled. Then by the signal's code, where a body of the wrong length is 15 with a reject as reply:
  *   0x14  connect request: Done. A pending slot, and nothing goes back before l2cap_accept_pending or l2cap_reject_pending; or a refused response as reply: result 2 for an SPSM that isn't registered, 4 where nobody listens,
- *         10 where the peer's CID is in use on this link, 4 where no slot is free
- *   0x15  connect response: Done, the attempt with this identifier is open; 8 where there is none: every attempt of this link is freed; 17: the attempt has failed (l2cap_opened tells it, and frees the slot). A result that is no
- *         result code is 15 with a reject
+ *         11 for an MTU or MPS under L2CAP_SIZE_LEAST, 10 where the peer's CID is in use on this link, 4 where no slot is free. With such a response nothing is stored
+ *   0x15  connect response: Done, the attempt with this identifier is open; 8 where there is none: every attempt of this link is freed; 17: the attempt has failed (l2cap_opened tells it, and frees the slot); 9 where the peer accepts with an
+ *         MTU or MPS under L2CAP_SIZE_LEAST: the slot is disconnecting, with the peer's CID and numbers; room and holds stay as they were, and there is no reply. The peer believes in the channel: l2cap_next_disconnect writes our request, and has to be
+ *         asked before l2cap_opened, which would free the slot (18) and leave that request unwritten. A result that is no result code is 15 with a reject
  *   0x16  credits: Done, we have more; 8 where no open channel has this peer CID; 9 where they pass 65,535, with those set aside for an open job: the channel is disconnecting, and the job that arrives is wiped
  *   0x06  disconnect request: Done. A disconnect is due (l2cap_next_disconnect), the job that arrives is wiped, and waiting jobs can be taken until then; or a reject as reply where the CID is no slot's of this link
  *   0x07  disconnect response: Done. The slot that was disconnecting is freed; nothing for a CID of no such slot
@@ -301,6 +307,7 @@ uint32_t l2cap_next_pending(uint8_t *table, size_t table_len, uint8_t *answer, s
 
 /* Opens the pending channel of a slot, with our numbers. The pending's hold stays: whoever uses the channel releases it by l2cap_dec_ref, which lets the channel disconnect, and also after the channel has ended.
  * mtu, mps, credits: up to 65,535, or L2CAP_DEFAULT. kind, value: enum l2cap_policy; another kind than 0 is L2CAP_MIN_THRESHOLD. A job that needs more frames than the peer has credits is never finished: see Credits above.
+ * An mtu or mps under L2CAP_SIZE_LEAST is not refused; a peer that keeps to Core disconnects such a channel. mps is what l2cap_dispatch holds the peer's frames to.
  * Refusals: 1 3 6 12 12 8 22. 12 for mps, then for mtu; 8 where nothing is pending in this slot, 22 where nobody holds it.
  * Writes: table; signal, the response.
  * Answer: Link. */
@@ -327,7 +334,8 @@ uint32_t l2cap_drop_pending(uint8_t *table, size_t table_len, uint8_t *answer, s
 /* ---- channels that we open */
 
 /* Takes the lowest free slot and writes a connect request. Nobody holds the slot until l2cap_opened finds the channel open. The SPSM is not tested.
- * mtu, mps, credits, kind, value: as in l2cap_accept_pending. A job that needs more frames than the peer has credits is never finished: see Credits above.
+ * mtu, mps, credits, kind, value: as in l2cap_accept_pending. A job that needs more frames than the peer has credits is never finished: see Credits above. A peer that keeps to Core refuses an mtu or mps under L2CAP_SIZE_LEAST, by
+ * result 11 (l2cap_signal then gives 17).
  * Refusals: 1 3 4 12 12 13. 12 for mps, then for mtu; 13 where no slot is free. 12 and 13 have used an identifier: the table is written.
  * Writes: table; signal, the request, which goes out on the link that was given.
  * Answer: At. */
@@ -336,7 +344,8 @@ uint32_t l2cap_create(uint8_t *table, size_t table_len, uint8_t *answer, size_t 
 /* Is the channel that we asked for open? Where it is, it is held once from now on: whoever uses it releases the hold by l2cap_dec_ref, which lets the channel disconnect, and also after the channel has ended.
  * up: is the link up?
  * Refusals: 1 2 4 6 18 8 18 17 22. 18 where the slot has no channel, 8 where it is another link's; then 18 where the link is down or the channel is disconnecting, and 17 where the peer refused: these two have freed the slot and
- * zeroed its part of the room, a disconnect that was due is written no more, and holds stay; 22 where it is open and held already.
+ * zeroed its part of the room, a disconnect that was due is written no more, and holds stay; 22 where it is open and held already. So ask l2cap_next_disconnect until it is Done before this: else a peer that accepted with numbers under
+ * L2CAP_SIZE_LEAST (l2cap_signal, 9) is never told, and keeps a channel that isn't there.
  * Writes: the table, the hold.
  * Answer: Opened; Done where the peer hasn't answered yet, and in a pending slot. */
 uint32_t l2cap_opened(uint8_t *table, size_t table_len, uint8_t *answer, size_t answer_len, uint8_t *room, size_t room_len, uint8_t slot, uint16_t link, uint8_t up);
@@ -391,15 +400,15 @@ uint32_t l2cap_next_disconnect(uint8_t *table, size_t table_len, uint8_t *answer
 /* ---- jobs */
 
 /* Takes in a frame that came on a link: its CID, and its payload behind the L2CAP header.
- * Refusals: 1 2 4 7 8 10 19 9 9 21. 7 for a CID of no slot; where the channel isn't open the frame is dropped, Done; 8 where it is another link's, 10 where the peer has no credit. Then a credit is used, and the table written: 19 for
- * a job's first frame under 2 octets, 9 for a job above our MTU, then for more octets than the job has: these leave the channel disconnecting, and the job that arrives zeroed; waiting jobs stay. 21 where the job is complete and d
- * wait already: it is dropped and zeroed, and the channel stays open. A payload above our MPS is not refused.
+ * Refusals: 1 2 4 7 8 10 9 19 9 9 21. 7 for a CID of no slot; where the channel isn't open the frame is dropped, Done; 8 where it is another link's, 10 where the peer has no credit. Then a credit is used, and the table written: 9 for
+ * a payload above our MPS (l2cap_mps), its two length octets counted, be it a job's first or a later one; 19 for a job's first frame under 2 octets, 9 for a job above our MTU, then for more octets than the job has: these leave the
+ * channel disconnecting, and the job that arrives zeroed; waiting jobs stay. 21 where the job is complete and d wait already: it is dropped and zeroed, and the channel stays open.
  * Writes: table; room.
  * Answer: Done, whether a job is complete or not: l2cap_attention tells. */
 uint32_t l2cap_dispatch(uint8_t *table, size_t table_len, uint8_t *answer, size_t answer_len, uint8_t *room, size_t room_len, uint16_t link, uint16_t cid, const uint8_t *payload, size_t payload_len);
 
 /* Cuts a job into frames, each with its L2CAP header, one behind the other, and uses a credit for each.
- * Refusals: 1 6 11 24 12 23 20 14 3. 11 where the channel isn't open, 24 where a job is open in this slot (l2cap_start_job), 12 where the job is above the peer's MTU, 23 for 65,534 and 65,535 octets, 20 where the peer's MPS is under 23, 14 where the frames are more than our credits,
+ * Refusals: 1 6 11 24 12 23 20 14 3. 11 where the channel isn't open, 24 where a job is open in this slot (l2cap_start_job), 12 where the job is above the peer's MTU, 23 for 65,534 and 65,535 octets, 20 where the peer's MPS is under L2CAP_SIZE_LEAST, as no call leaves one, 14 where the frames are more than our credits,
  * 3 where out has fewer octets than the job, its 2 length octets and 4 a frame. Nothing is sent by halves.
  * Writes: table; out.
  * Answer: Frames. */
@@ -470,17 +479,17 @@ uint32_t l2cap_spsm(const uint8_t *table, size_t table_len, uint8_t *answer, siz
  * Answer: Number. */
 uint32_t l2cap_mtu(const uint8_t *table, size_t table_len, uint8_t *answer, size_t answer_len, uint8_t slot);
 
-/* The longest frame payload that we announce in a slot; a longer one is not refused. 0 where it has no channel, or a pending one.
+/* The longest frame payload that we take in a slot; a longer one ends the channel (l2cap_dispatch, 9). 0 where it has no channel, or a pending one.
  * Refusals: 1 6.
  * Answer: Number. */
 uint32_t l2cap_mps(const uint8_t *table, size_t table_len, uint8_t *answer, size_t answer_len, uint8_t slot);
 
-/* The longest job that a slot's peer takes; 0 where it has no channel, or our attempt isn't open.
+/* The longest job that a slot's peer takes; 0 where it has no channel, or the peer hasn't accepted our attempt.
  * Refusals: 1 6.
  * Answer: Number. */
 uint32_t l2cap_peer_mtu(const uint8_t *table, size_t table_len, uint8_t *answer, size_t answer_len, uint8_t slot);
 
-/* The longest frame payload that a slot's peer takes; 0 where it has no channel, or our attempt isn't open.
+/* The longest frame payload that a slot's peer takes; 0 where it has no channel, or the peer hasn't accepted our attempt.
  * Refusals: 1 6.
  * Answer: Number. */
 uint32_t l2cap_peer_mps(const uint8_t *table, size_t table_len, uint8_t *answer, size_t answer_len, uint8_t slot);

@@ -1,4 +1,4 @@
-/* The archive from C and from C++: a phone connects, a job comes in and is taken, the link goes down; a channel of our own; runs of frames and jobs; jobs in portions; then the refusals that no script reaches. Every reader of an answer is used. */
+/* The archive from C and from C++: a phone connects, a job comes in and is taken, the link goes down; a channel of our own; runs of frames and jobs; jobs in portions; Core's least MTU and MPS, and frames at our own; then the refusals that no script reaches. Every reader of an answer is used. */
 #include "l2cap_channels.h"
 #include <stdio.h>
 #include <string.h>
@@ -270,6 +270,179 @@ static void portions(void) {
     check(refused(l2cap_give_portion(LENT, IN(other), 1, sdu, 1), L2CAP_CHANNEL_CLOSED), "and the job went with the channel");
 }
 
+/* ---- the least MTU and MPS of a peer, and our own MPS: what a call leaves is compared with the octets that it must leave, in table, room and buffers */
+
+static uint8_t expected[L2CAP_TABLE_OCTETS], places[ROOM], payload[64];
+
+/* Where a column of a slot's row stands in a table. */
+static size_t cell(uint8_t slot, unsigned column) { return 48 + 16 * (size_t)column + slot; }
+
+static void put(uint8_t *in, uint8_t slot, unsigned column, size_t n) { in[cell(slot, column)] = (uint8_t)n, in[cell(slot, column + 1)] = (uint8_t)(n >> 8); }
+static void put_state(uint8_t *in, uint8_t slot, uint8_t state, uint8_t value) { in[cell(slot, 0)] = state, in[cell(slot, 1)] = value; }
+static void put_peer(uint8_t *in, uint8_t slot, uint16_t cid, uint16_t mps, uint16_t mtu, uint16_t credits) { put(in, slot, 18, cid), put(in, slot, 20, mps), put(in, slot, 22, mtu), put(in, slot, 24, credits); }
+
+static int all(const uint8_t *p, size_t n, uint8_t octet) {
+    while (n--)
+        if (*p++ != octet) return 0;
+    return 1;
+}
+
+/* From here on these are what must be left. */
+static void expect(void) { memcpy(expected, table, sizeof table), memcpy(places, room, sizeof room); }
+static int as_expected(void) { return !memcmp(table, expected, sizeof table) && !memcmp(room, places, sizeof room); }
+
+/* A new table; what is lent is painted. */
+static int anew(void) {
+    int made = l2cap_make(LENT, IN(room), N, D, M) == 0 && l2cap_register_spsm(LENT, 128) == 0;
+    memset(room, 7, sizeof room), memset(signal, 9, sizeof signal), memset(out, 9, sizeof out);
+    return expect(), made;
+}
+
+/* An attempt of ours on link 1, in slot 0. */
+static int attempt(void) {
+    int made = l2cap_create(LENT, IN(signal), 1, 128, L2CAP_DEFAULT, L2CAP_DEFAULT, L2CAP_EVERY, 1, L2CAP_DEFAULT) == 0 && l2cap_answer_slot(answer) == 0;
+    memset(signal, 9, sizeof signal);
+    return expect(), made;
+}
+
+/* A request or a response on link 1, whose MTU and MPS stand `at` octets behind its header. */
+static uint32_t says(const uint8_t *pdu, size_t at, uint16_t mtu, uint16_t mps) {
+    uint8_t octets[14];
+    memcpy(octets, pdu, sizeof octets);
+    octets[4 + at] = (uint8_t)mtu, octets[5 + at] = (uint8_t)(mtu >> 8), octets[6 + at] = (uint8_t)mps, octets[7 + at] = (uint8_t)(mps >> 8);
+    return l2cap_signal(LENT, IN(room), IN(signal), 1, 1, 0, IN(octets));
+}
+
+static const uint16_t edge[] = {10, L2CAP_SIZE_LEAST - 1, L2CAP_SIZE_LEAST, L2CAP_SIZE_LEAST + 1};
+enum { EDGES = sizeof edge / sizeof *edge };
+
+/* A request below the least is told so, and leaves nothing; at the least it waits. */
+static void least_requests(void) {
+    static const uint8_t request[] = {0x14, 7, 10, 0, 0x80, 0, 0x50, 0, 0, 0, 0, 0, 5, 0}, second[] = {0x14, 8, 10, 0, 0x80, 0, 0x51, 0, 0, 0, 0, 0, 5, 0};
+    uint8_t small[] = {0x14, 7, 10, 0, 0x81, 0, 0x50, 0, 100, 0, 10, 0, 5, 0}, told[] = {14, 0, 5, 0, 0x15, 7, 10, 0, 0, 0, 0, 0, 0, 0, 0, 0, L2CAP_RESULT_UNACCEPTABLE_PARAMETERS, 0};
+    unsigned i, k;
+    for (i = 0; i < EDGES; i++)
+        for (k = 0; k < EDGES; k++) {
+            int below = edge[i] < 23 || edge[k] < 23, made = anew();
+            if (!below) put_state(expected, 0, 2, 7), put(expected, 0, 2, 1), put(expected, 0, 4, 128), put_peer(expected, 0, 0x50, edge[k], edge[i], 5);
+            check(made && says(request, 4, edge[i], edge[k]) == 0 && is(L2CAP_ANSWER_DONE) && as_expected() && (below ? wrote(signal, IN(told)) : !l2cap_answer_written(answer) && all(IN(signal), 9)), "a request waits, or is told result 11");
+        }
+
+    /* Which result is told first: 2, 4, 11, 10, 4. */
+    check(anew() && (told[16] = 2, l2cap_signal(LENT, IN(room), IN(signal), 1, 0, 0, IN(small)) == 0) && wrote(signal, IN(told)) && as_expected(), "an SPSM that isn't registered");
+    check((told[16] = 4, small[4] = 0x80, l2cap_signal(LENT, IN(room), IN(signal), 1, 0, 0, IN(small)) == 0) && wrote(signal, IN(told)) && as_expected(), "nobody listens");
+    check(says(request, 4, 100, 23) == 0 && says(second, 4, 23, 100) == 0 && !l2cap_answer_written(answer), "both slots are pending");
+    check((expect(), told[16] = 11, says(request, 4, 22, 23) == 0) && wrote(signal, IN(told)) && as_expected(), "below the least, a CID in use, and no slot free: 11");
+    check((told[16] = 10, says(request, 4, 23, 23) == 0) && wrote(signal, IN(told)) && as_expected(), "at the least: 10");
+}
+
+/* A response that accepts below the least leaves the slot disconnecting, with the peer's numbers in it. */
+static void least_responses(void) {
+    static const uint8_t accepts[] = {0x15, 1, 10, 0, 0x50, 0, 0, 0, 0, 0, 5, 0, 0, 0}, refuses[] = {0x15, 1, 10, 0, 0x50, 0, 0, 0, 0, 0, 5, 0, 4, 0}, unread[] = {0x15, 1, 10, 0, 0x50, 0, 0, 0, 0, 0, 5, 0, 3, 0};
+    static const uint8_t request[] = {8, 0, 5, 0, 6, 2, 4, 0, 0x50, 0, 0x40, 0}, response[] = {7, 2, 4, 0, 0x50, 0, 0x40, 0};
+    unsigned i, k, forged;
+    for (i = 0; i < EDGES; i++)
+        for (k = 0; k < EDGES; k++)
+            for (forged = 0; forged < 2; forged++) {
+                int below = edge[i] < 23 || edge[k] < 23, made = anew() && attempt();
+                /* An attempt has no half job and none that waits. Where octets say so, a response leaves them alone. */
+                if (forged) put(table, 0, 26, 3), put(table, 0, 28, 4), table[cell(0, 30)] = 1, put(table, 0, 31, 2), expect();
+                put_state(expected, 0, below ? 6 : 3, 0), put_peer(expected, 0, 0x50, edge[k], edge[i], 5);
+                check(made && (below ? refused(says(accepts, 2, edge[i], edge[k]), L2CAP_INVALID_VALUE) : says(accepts, 2, edge[i], edge[k]) == 0 && is(L2CAP_ANSWER_DONE)) && as_expected() && !l2cap_answer_written(answer) && all(IN(signal), 9), "a response opens the slot, or leaves it disconnecting");
+                if (!below || forged) continue;
+                expected[5] = 3, put_state(expected, 0, 6, 1);
+                check(l2cap_next_disconnect(LENT, IN(room), IN(signal)) == 0 && is(L2CAP_ANSWER_DUE) && l2cap_answer_link(answer) == 1 && wrote(signal, IN(request)) && as_expected(), "our request names the peer's CID");
+                check(l2cap_signal(LENT, IN(room), IN(signal), 1, 0, 0, IN(response)) == 0 && l2cap_spsm(LENT, 0) == 0 && !l2cap_answer_value(answer) && zeros(room, ROOM / N), "the peer's response frees the slot");
+            }
+
+    /* The opened query first: our request is never written. */
+    check(anew() && attempt() && refused(says(accepts, 2, 100, 22), L2CAP_INVALID_VALUE) && refused(l2cap_give_up(LENT, IN(room), 0), L2CAP_NOT_FOUND), "it is no attempt to give up any more");
+    check(refused(l2cap_opened(LENT, IN(room), 0, 1, 1), L2CAP_DISCONNECTED) && l2cap_next_disconnect(LENT, IN(room), IN(signal)) == 0 && is(L2CAP_ANSWER_DONE), "opened frees it, and no disconnect is due");
+
+    /* Decoding, matching and a refused result come first. */
+    check(anew() && attempt() && refused(says(unread, 2, 22, 22), L2CAP_DECODE) && as_expected(), "a result that is none");
+    check(refused(says(refuses, 2, 0, 0), L2CAP_CONNECT_ERROR) && l2cap_answer_result(answer) == L2CAP_RESULT_NO_RESOURCES, "a peer that refuses is believed");
+    check(refused(says(accepts, 2, 22, 22), L2CAP_NOT_FOUND), "no attempt is left that a response answers");
+}
+
+/* A phone's channel in slot 0, with this MPS of ours. A job of 4 octets waits there, put by hand: an MPS of 0 lets no frame in. */
+static int accepted(uint16_t mps, uint16_t credits) {
+    static const uint8_t request[] = {0x14, 7, 10, 0, 0x80, 0, 0x50, 0, 100, 0, 23, 0, 5, 0};
+    int made = anew() && l2cap_signal(LENT, IN(room), IN(signal), 1, 1, 0, IN(request)) == 0 && l2cap_next_pending(LENT, 1, 1) == 0 && l2cap_accept_pending(LENT, IN(signal), 0, L2CAP_DEFAULT, mps, L2CAP_EVERY, 1, credits) == 0;
+    memset(room, 0, sizeof room), memset(room + M - 6, 0xAA, 4);
+    table[cell(0, 30)] = 1, put(table, 0, 31, 4);
+    return expect(), made;
+}
+
+/* A payload of n octets, which is a whole job where it is a job's first. */
+static uint32_t comes(uint16_t link, uint16_t cid, size_t n) {
+    memset(payload, 0xCC, sizeof payload), payload[0] = (uint8_t)(n < 2 ? 0 : n - 2), payload[1] = 0;
+    return l2cap_dispatch(LENT, IN(room), link, cid, payload, n);
+}
+
+/* A frame uses a credit of 9; and one that ends the channel leaves nothing of the job that arrives. */
+static void used(void) { put(expected, 0, 13, 8), put(expected, 0, 15, 1); }
+static void ended(void) { used(), put_state(expected, 0, 6, 0), put(expected, 0, 26, 0), put(expected, 0, 28, 0), memset(places, 0, M - 6); }
+
+/* Frames of our own MPS, of one octet less and of one more: a job's first, and a later one. */
+static void own_mps(void) {
+    static const uint16_t own[] = {0, 1, 2, 22, 23, 24, 40};
+    uint8_t run[160], answers[3 * L2CAP_ANSWER_OCTETS];
+    size_t i, n, at = 0;
+    for (i = 0; i < sizeof own / sizeof *own; i++)
+        for (n = own[i] ? own[i] - 1u : 0u; n <= own[i] + 1u; n++) {
+            int above = n > own[i], made = accepted(own[i], 9);
+            if (above || n < 2) ended();
+            else used(), expected[cell(0, 30)] = 2, put(expected, 0, 33, n - 2), memset(places + 2 * (M - 6), 0xCC, n - 2);
+            check(made && comes(1, L2CAP_CID_BASE, n) == (uint32_t)(above ? 9 : n < 2 ? 19 : 0) && as_expected(), "a job's first frame above our MPS is refusal 9, before 19");
+
+            made = accepted(own[i], 9); /* 1 octet of 58 is here */
+            put(table, 0, 26, 1), put(table, 0, 28, M - 6), room[0] = 0xBB, expect();
+            if (above) ended();
+            else used(), put(expected, 0, 26, 1 + n), memset(places + 1, 0xCC, n), places[1] = (uint8_t)(n < 2 ? 0 : n - 2), places[2] = 0;
+            check(made && comes(1, L2CAP_CID_BASE, n) == (uint32_t)(above ? 9 : 0) && as_expected(), "so is a later one");
+        }
+
+    /* Behind a CID of no slot, another link's channel and a missing credit; before a full queue. */
+    check(accepted(23, 0) && comes(1, L2CAP_CID_BASE + N, 24) == L2CAP_INVALID_CHANNEL_ID && comes(2, L2CAP_CID_BASE, 24) == L2CAP_NOT_FOUND && comes(1, L2CAP_CID_BASE, 24) == L2CAP_OUT_OF_MEMORY && as_expected(), "7, 8 and 10 come first, and nothing changes");
+    check(accepted(23, 9) && (table[cell(0, 30)] = 2, expect(), ended(), comes(1, L2CAP_CID_BASE, 24) == L2CAP_INVALID_VALUE) && as_expected(), "9 where the queue is full");
+    check(comes(1, L2CAP_CID_BASE, 24) == 0 && as_expected(), "then the channel isn't open, and a frame is gone");
+
+    /* In a run it is that frame's own answer. */
+    check(accepted(23, 9) && (ended(), payload[0] = 22, 1), "a channel for a run");
+    at += l2cap_run_frame(run + at, sizeof run - at, 1, L2CAP_CID_BASE + N, payload, 24);
+    at += l2cap_run_frame(run + at, sizeof run - at, 1, L2CAP_CID_BASE, payload, 24);
+    at += l2cap_run_frame(run + at, sizeof run - at, 1, L2CAP_CID_BASE, payload, 24);
+    check(l2cap_dispatch_run(LENT, IN(room), run, at, IN(answers)) == 0 && l2cap_answer_run_count(answer) == 3 && as_expected(), "a run of three frames above our MPS");
+    check(l2cap_answer_refusal(answers) == L2CAP_INVALID_CHANNEL_ID && l2cap_answer_refusal(l2cap_run_answer(answers, 1)) == L2CAP_INVALID_VALUE && l2cap_answer_refusal(l2cap_run_answer(answers, 2)) == 0, "7, 9, and a frame that is gone");
+}
+
+/* Refusal 20 is of octets that no call wrote: no peer gets a channel with an MPS below the least. */
+static void forged_mps(void) {
+    uint8_t run[8], answers[L2CAP_ANSWER_OCTETS];
+    size_t n = l2cap_run_job(IN(run), 0, payload, 3);
+    check(accepted(60, 9) && (put(table, 0, 20, 22), expect(), 1) && refused(l2cap_send(LENT, IN(out), 0, payload, 3), L2CAP_BAD_MPS) && as_expected() && all(IN(out), 9), "a send to a peer whose MPS is 22");
+    check(refused(l2cap_start_job(LENT, IN(out), 0, 3), L2CAP_BAD_MPS) && as_expected() && all(IN(out), 9), "a start");
+    check(l2cap_send_run(LENT, IN(out), run, n, IN(answers)) == 0 && l2cap_answer_refusal(answers) == L2CAP_BAD_MPS && as_expected() && all(IN(out), 9), "a run of one job");
+    check((put(table, 0, 24, 0), refused(l2cap_send(LENT, IN(out), 0, payload, 3), L2CAP_BAD_MPS)) && refused(l2cap_start_job(LENT, IN(out), 0, 3), L2CAP_BAD_MPS), "20 comes before 14");
+    check((put(table, 0, 20, 23), refused(l2cap_send(LENT, IN(out), 0, payload, 3), L2CAP_BUSY)) && refused(l2cap_start_job(LENT, IN(out), 0, 3), L2CAP_BUSY), "23 is enough");
+}
+
+/* Our own numbers below the least are written all the same. The peer is a table as ours, and refuses them. */
+static void own_offers(void) {
+    static const uint8_t request[] = {14, 0, 5, 0, 0x14, 1, 10, 0, 0x80, 0, 0x40, 0, 22, 0, 22, 0, 1, 0};
+    static uint8_t peer[L2CAP_TABLE_OCTETS], its_answer[L2CAP_ANSWER_OCTETS], its_room[ROOM], its_signal[L2CAP_SIGNAL_OCTETS];
+    check(anew() && l2cap_make(IN(peer), IN(its_answer), IN(its_room), N, D, M) == 0 && l2cap_register_spsm(IN(peer), IN(its_answer), 128) == 0, "a peer");
+    check(l2cap_create(LENT, IN(signal), 1, 128, 22, 22, L2CAP_EVERY, 1, 1) == 0 && wrote(signal, IN(request)), "we ask with 22 and 22");
+    check(l2cap_signal(IN(peer), IN(its_answer), IN(its_room), IN(its_signal), 1, 1, 0, signal + 4, 14) == 0 && l2cap_answer_written(its_answer) == 18, "and are answered");
+    check(refused(l2cap_signal(LENT, IN(room), IN(signal), 1, 1, 0, its_signal + 4, 14), L2CAP_CONNECT_ERROR) && l2cap_answer_result(answer) == L2CAP_RESULT_UNACCEPTABLE_PARAMETERS, "with result 11");
+    check(l2cap_create(IN(peer), IN(its_answer), IN(its_signal), 1, 128, L2CAP_DEFAULT, L2CAP_DEFAULT, L2CAP_EVERY, 1, L2CAP_DEFAULT) == 0 && l2cap_signal(LENT, IN(room), IN(signal), 1, 1, 0, its_signal + 4, 14) == 0, "the peer asks");
+    check(l2cap_next_pending(LENT, 1, 1) == 0 && l2cap_answer_slot(answer) == 1 && l2cap_accept_pending(LENT, IN(signal), 1, 22, 22, L2CAP_EVERY, 1, 1) == 0, "we accept with 22 and 22");
+    check(l2cap_signal(IN(peer), IN(its_answer), IN(its_room), IN(its_signal), 1, 1, 0, signal + 4, 14) == L2CAP_INVALID_VALUE && l2cap_next_disconnect(IN(peer), IN(its_answer), IN(its_room), IN(its_signal)) == 0, "and the peer disconnects");
+    check(l2cap_signal(LENT, IN(room), IN(signal), 1, 1, 0, its_signal + 4, 8) == 0 && l2cap_next_disconnect(LENT, IN(room), IN(signal)) == 0 && l2cap_answer_slot(answer) == 1, "we respond");
+    check(l2cap_signal(IN(peer), IN(its_answer), IN(its_room), IN(its_signal), 1, 1, 0, signal + 4, 8) == 0 && l2cap_spsm(IN(peer), IN(its_answer), 0) == 0 && l2cap_answer_value(its_answer) == 0, "and both slots have no channel any more");
+}
+
 /* The octets of an answer, each number above what one octet holds. */
 static void readers(void) {
     static const uint8_t octets[L2CAP_ANSWER_OCTETS] = {L2CAP_ANSWER_DUE, 2, 0x01, 0x02, 0x03, 0x84, 0x11, 0x12, 0x13, 0x14, 0x15, 0x16, 0x17, 0x98, 0, 0};
@@ -290,6 +463,11 @@ int main(void) {
     our_own();
     runs();
     portions();
+    least_requests();
+    least_responses();
+    own_mps();
+    forged_mps();
+    own_offers();
     readers();
     printf("%d passed, %d failed\n", passed, failed);
     return failed != 0;

@@ -1,6 +1,7 @@
 //! What deep places a run reached, counted: the list of issue texts and bench cases that a generator has to meet to be worth its time.
 
-use language::{signals, Answer, Call, Reply, State, View};
+use crate::kinds::{fields, signal_verdict};
+use language::{signals, Answer, Call, Reply, State, View, SIZE_LEAST};
 
 /// The notable things about one call, from the table before it and what the original answered.
 pub fn marks(view: &View, call: &Call, reply: &Reply) -> Vec<&'static str> {
@@ -10,7 +11,7 @@ pub fn marks(view: &View, call: &Call, reply: &Reply) -> Vec<&'static str> {
     let named = call.slot().and_then(|slot| view.slots.get(usize::from(slot)));
     let columns = &reply.rows[0].columns;
     match call {
-        Call::Frame { cid, payload, .. } => {
+        Call::Frame { link, cid, payload } => {
             let slot = view.slot_of(*cid).map(|slot| &view.slots[slot]);
             let joins = slot.is_some_and(|slot| slot.state == State::Connected && slot.want > 0);
             let ends = slot.is_some_and(|slot| usize::from(slot.have) + payload.len() == usize::from(slot.want));
@@ -22,6 +23,14 @@ pub fn marks(view: &View, call: &Call, reply: &Reply) -> Vec<&'static str> {
             }
             if answered == Some(Answer::Number(21)) {
                 marks.push("a job dropped at a full queue");
+            }
+            let open = slot.filter(|slot| slot.state == State::Connected && slot.link == *link && slot.credits > 0);
+            match open.map(|slot| payload.len().checked_sub(slot.mps.into())) {
+                Some(Some(0)) => marks.push(if joins { "a joining frame of exactly our MPS" } else { "a first frame of exactly our MPS" }),
+                Some(Some(1)) => {
+                    marks.push(if joins { "a joining frame one octet past our MPS" } else { "a first frame one octet past our MPS" })
+                }
+                _ => {}
             }
         }
         Call::Take { .. } if ok && columns.len() == 3 => {
@@ -67,8 +76,9 @@ pub fn marks(view: &View, call: &Call, reply: &Reply) -> Vec<&'static str> {
         Call::LinkDown { link } if view.slots.iter().any(|slot| slot.is_of(*link) && slot.state == State::Connected && slot.want > 0) => {
             marks.push("a link down in the middle of a job");
         }
-        Call::Signal { link, pdu, .. } => {
+        Call::Signal { link, listening, pdu, .. } => {
             let parts = signals(pdu).unwrap_or_default();
+            marks.extend(parts.iter().filter_map(|part| sizes(view, *link, *listening, part)));
             if parts.len() > 1 {
                 marks.push("several signals in one PDU");
             }
@@ -113,4 +123,24 @@ pub fn marks(view: &View, call: &Call, reply: &Reply) -> Vec<&'static str> {
         marks.push("identifier 255 before a request, grant or attempt");
     }
     marks
+}
+
+/// What an opening tells of its sender's MTU and MPS, where they are 23 or below.
+fn sizes(view: &View, link: u16, listening: bool, signal: &[u8]) -> Option<&'static str> {
+    let (mtu, mps, good) = match (signal[0], &fields(signal)?[..]) {
+        (0x14, [_, _, mtu, mps, _]) => (*mtu, *mps, true),
+        (0x15, [_, mtu, mps, _, result]) => (*mtu, *mps, *result == 0),
+        _ => return None,
+    };
+    let one = |of_request, of_response| Some(if signal[0] == 0x14 { of_request } else { of_response });
+    match (mtu < SIZE_LEAST, mps < SIZE_LEAST) {
+        (false, false) if !good || mtu.min(mps) > SIZE_LEAST => None,
+        (false, false) => one("a request at 23", "a response at 23"),
+        _ if signal_verdict(view, link, listening, signal).is_none() => {
+            one("a request below 23 that an earlier test refuses", "a response below 23 that an earlier test refuses")
+        }
+        (true, false) => one("a request with its MTU below 23", "a response with its MTU below 23"),
+        (false, true) => one("a request with its MPS below 23", "a response with its MPS below 23"),
+        (true, true) => one("a request with both below 23", "a response with both below 23"),
+    }
 }

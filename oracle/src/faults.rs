@@ -1,8 +1,9 @@
 //! Planted faults: a port that prints what it must, but for one slip. The comparison has to find every one of them, or it could not have
 //! found such a slip in the port either. The first is the client's: the line that clears an assembly when its slot opens again is lost.
 
+use crate::kinds::Kind;
 use crate::port::Port;
-use crate::script::Script;
+use crate::script::{Script, Step};
 use language::{played, Call, Manner};
 
 #[derive(Clone, Copy, Debug, PartialEq, Eq)]
@@ -28,10 +29,13 @@ pub enum Fault {
     TakenAll,
     AsideKept,
     LastFrameOpen,
+    SmallWrongResult,
+    SmallOpened,
+    MpsForgotten,
 }
 
 impl Fault {
-    pub const ALL: [Fault; 20] = [
+    pub const ALL: [Fault; 23] = [
         Fault::LostLine,
         Fault::TakenOctet,
         Fault::CidsTurned,
@@ -52,6 +56,9 @@ impl Fault {
         Fault::TakenAll,
         Fault::AsideKept,
         Fault::LastFrameOpen,
+        Fault::SmallWrongResult,
+        Fault::SmallOpened,
+        Fault::MpsForgotten,
     ];
 
     pub fn title(self) -> &'static str {
@@ -77,10 +84,14 @@ impl Fault {
             Fault::TakenAll => "a portion says that it took all, though a frame was full before",
             Fault::AsideKept => "an open job's credits set aside show one too many behind a frame",
             Fault::LastFrameOpen => "a job's last octet gives out no frame",
+            Fault::SmallWrongResult => "a request below 23 is refused by result 4",
+            Fault::SmallOpened => "a response below 23 is answered 0",
+            Fault::MpsForgotten => "a frame longer than our MPS is answered 0",
         }
     }
 
-    fn slip(self, call: &Call, lines: &mut Vec<String>, last_identifier: &mut u8) {
+    fn slip(self, step: &Step, lines: &mut Vec<String>, last_identifier: &mut u8) {
+        let call = &step.call;
         match (self, call) {
             (Fault::TakenOctet, Call::Take { .. }) => change_words(&mut lines[0], |words| {
                 if words.len() > 2 && words[1].len() > 2 {
@@ -153,6 +164,13 @@ impl Fault {
                     (words[1], words[3]) = ("-".to_string(), "0".to_string());
                 }
             }),
+            (Fault::SmallWrongResult, Call::Signal { .. }) => {
+                lines.iter_mut().filter(|line| line.ends_with("00000b00")).for_each(|line| *line = line.replace("00000b00", "00000400"));
+            }
+            (Fault::SmallOpened, Call::Signal { .. }) if step.kinds.contains(&Kind::BelowLeast) => {
+                lines.iter_mut().filter(|line| *line == "9 -").for_each(|line| *line = "0 -".to_string());
+            }
+            (Fault::MpsForgotten, Call::Frame { .. }) if step.kinds.contains(&Kind::LongerThanMps) => lines[0] = "0 -".to_string(),
             (_, Call::View) => lines.iter_mut().skip(1).for_each(|line| change_words(line, |words| self.slip_in_view(words))),
             _ => {}
         }
@@ -225,7 +243,7 @@ impl Port for Faulty {
             for step in &script.steps {
                 let lines = step.port.iter().zip(&step.original).map(|(port, original)| port.as_ref().unwrap_or(original).clone());
                 let mut lines: Vec<String> = lines.collect();
-                self.0.slip(&step.call, &mut lines, &mut last_identifier);
+                self.0.slip(step, &mut lines, &mut last_identifier);
                 rows.extend(lines);
             }
         }

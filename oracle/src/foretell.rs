@@ -1,6 +1,6 @@
-//! What stands after a call at which the tables part: document 01's rule alone, as the original went another way. Such a call ends its script.
+//! What stands after a call at which the tables part: the documents' rule alone, as the original went another way. Such a call ends its script.
 
-use crate::kinds::Kind;
+use crate::kinds::{attempt, fields, Kind};
 use language::{signals, Call, JobView, Sight, SlotView, State};
 
 /// Table and room after a call, or after signal `at` of an `S` line, from those before it. A refusal leaves both as they were, unless a line below says more.
@@ -15,7 +15,7 @@ pub fn foretold(before: Sight, call: &Call, at: usize, kind: Kind) -> Sight {
         // "A create refused by 12 or 13 has used an identifier."
         (Kind::LocalMtu, Call::Create { .. }) => after.view.next_identifier = after.view.next_identifier.checked_add(1).unwrap_or(1),
         (Kind::DropElsewhere, _) => after.view.slots[slot].hold -= 1,
-        (Kind::ShortFrame | Kind::LongerThanLength | Kind::NoPacket, _) => disconnected(&mut after, slot),
+        (Kind::ShortFrame | Kind::LongerThanLength | Kind::LongerThanMps | Kind::NoPacket, _) => disconnected(&mut after, slot),
         (Kind::LongFrame, Call::Send { sdu, .. }) => {
             let record = &mut after.view.slots[slot];
             record.peer_credits -= (sdu.len() + 2).div_ceil(usize::from(record.peer_mps)) as u16;
@@ -29,6 +29,7 @@ pub fn foretold(before: Sight, call: &Call, at: usize, kind: Kind) -> Sight {
             left(&mut after, slot);
         }
         (Kind::LateCancel, _) => left(&mut after, slot),
+        (Kind::BelowLeast, Call::Signal { link, pdu, .. }) => answered(&mut after, *link, signals(pdu).unwrap_or_default()[at]),
         (Kind::TakeWhileClosing | Kind::ZeroGrant, _) => taken(&mut after, slot),
         _ => {}
     }
@@ -49,6 +50,16 @@ fn left(sight: &mut Sight, slot: usize) {
     let d = sight.view.d;
     record.settle_places(sight.places_mut(slot), d);
     sight.view.slots[slot] = record;
+}
+
+/// A good response below 23 leaves its attempt to be disconnected, with the peer's numbers; a request below it has a reply and nothing more.
+fn answered(sight: &mut Sight, link: u16, signal: &[u8]) {
+    let attempt = attempt(&sight.view, link, signal[1]).filter(|_| signal[0] == 0x15);
+    let Some(record) = attempt.map(|slot| &mut sight.view.slots[slot]) else { return };
+    if let [dcid, mtu, mps, credits, _] = fields(signal).unwrap_or_default()[..] {
+        (record.peer_cid, record.peer_mtu, record.peer_mps, record.peer_credits) = (dcid, mtu, mps, credits);
+    }
+    record.state = State::Disconnecting { announced: false };
 }
 
 /// A job in portions is begun: its credits are set aside, and the first six octets of its first frame stand in the buffer.

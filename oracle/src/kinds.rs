@@ -1,8 +1,8 @@
-//! The list of differences, as a decision: given the table before a call, does document 01 have another row than the original, which one,
+//! The list of differences, as a decision: given the table before a call, do documents 01 and 02 have another row than the original, which one,
 //! and can the two tables still be compared after it? A call without a verdict is in the domain: both must print the same row.
 //! The numbers are those of docs/DIFFERENCES.md.
 
-use language::{hex, signals, Call, Config, Policy, Row, SlotView, Stale, State, View, BASE_ID};
+use language::{hex, signals, Call, Config, Policy, Row, SlotView, Stale, State, View, BASE_ID, SIZE_LEAST};
 
 #[derive(Clone, Copy, Debug, PartialEq, Eq, PartialOrd, Ord)]
 pub enum Kind {
@@ -18,7 +18,6 @@ pub enum Kind {
     FrameAnyLink = 10,
     ShortFrame = 11,
     LongerThanLength = 12,
-    SmallMps = 13,
     TooLong = 14,
     LongFrame = 15,
     TakeWhileClosing = 16,
@@ -33,10 +32,12 @@ pub enum Kind {
     JobOpen = 46,
     SetAside = 47,
     LateCancel = 48,
+    BelowLeast = 50,
+    LongerThanMps = 51,
 }
 
 impl Kind {
-    pub const ALL: [Kind; 27] = [
+    pub const ALL: [Kind; 28] = [
         Kind::SpsmIgnored,
         Kind::SlotPanic,
         Kind::HeldPanic,
@@ -49,7 +50,6 @@ impl Kind {
         Kind::FrameAnyLink,
         Kind::ShortFrame,
         Kind::LongerThanLength,
-        Kind::SmallMps,
         Kind::TooLong,
         Kind::LongFrame,
         Kind::TakeWhileClosing,
@@ -64,6 +64,8 @@ impl Kind {
         Kind::JobOpen,
         Kind::SetAside,
         Kind::LateCancel,
+        Kind::BelowLeast,
+        Kind::LongerThanMps,
     ];
 
     pub fn number(self) -> usize {
@@ -84,7 +86,6 @@ impl Kind {
             Kind::FrameAnyLink => "a frame is taken from any link",
             Kind::ShortFrame => "a first frame under 2 octets panics",
             Kind::LongerThanLength => "a first frame longer than its length opens an assembly",
-            Kind::SmallMps => "a peer MPS below 23 is sent with, or panics at 0 and 1",
             Kind::TooLong => "an SDU of 65,534 or 65,535 octets is counted short",
             Kind::LongFrame => "a frame longer than the packet is refused",
             Kind::TakeWhileClosing => "finished jobs can't be taken while disconnecting",
@@ -99,6 +100,8 @@ impl Kind {
             Kind::JobOpen => "a job is sent while another one is open",
             Kind::SetAside => "credits set aside don't count in the sum of a credit signal",
             Kind::LateCancel => "a job that is let go of behind its first frame gives credits back, and the channel stays",
+            Kind::BelowLeast => "a peer's MTU or MPS below 23 is taken",
+            Kind::LongerThanMps => "a frame longer than our MPS is taken",
         }
     }
 }
@@ -107,7 +110,7 @@ impl Kind {
 #[derive(Clone, Debug, PartialEq, Eq)]
 pub struct Verdict {
     pub kind: Kind,
-    /// What document 01 has the port print.
+    /// What the documents have the port print.
     pub row: String,
     /// The tables differ from here on.
     pub parts: bool,
@@ -246,7 +249,13 @@ fn frame(view: &View, link: u16, cid: u16, payload: &[u8]) -> Option<Verdict> {
     if slot.link != link {
         return refusal(Kind::FrameAnyLink, 8, slot.credits > 0);
     }
-    if slot.credits == 0 || slot.want > 0 {
+    if slot.credits == 0 {
+        return None;
+    }
+    if payload.len() > usize::from(slot.mps) {
+        return if past_a_length(slot, payload) { None } else { refusal(Kind::LongerThanMps, 9, true) };
+    }
+    if slot.want > 0 {
         return None;
     }
     let [low, high, job @ ..] = payload else {
@@ -259,7 +268,16 @@ fn frame(view: &View, link: u16, cid: u16, payload: &[u8]) -> Option<Verdict> {
     None
 }
 
-/// A payload that no packet holds never reaches the original's channels. It is past every length that document 01 allows: 9 at the latest.
+/// A frame that the original answers by 9 itself: past the open job's end, or of a job that is longer than our MTU.
+fn past_a_length(slot: &SlotView, payload: &[u8]) -> bool {
+    match payload {
+        _ if slot.want > 0 => usize::from(slot.have) + payload.len() > usize::from(slot.want),
+        [low, high, ..] => u16::from_le_bytes([*low, *high]) > slot.mtu,
+        _ => false,
+    }
+}
+
+/// A payload that no packet holds never reaches the original's channels. It is longer than every MPS of ours: 9 at the latest.
 fn no_packet(view: &View, link: u16, cid: u16) -> Option<Verdict> {
     let (number, parts) = match view.slot_of(cid).map(|slot| &view.slots[slot]) {
         None => (7, false),
@@ -289,17 +307,16 @@ fn sending(view: &View, slot: &SlotView, length: usize) -> Option<(Kind, u16, bo
     if slot.state != State::Connected || !(passes || slot.job.is_some()) {
         return None;
     }
+    // Not below 23: an opening that would make it so ends its script.
     let mps = usize::from(slot.peer_mps);
     // The original's own count: its length sum stops at 65,535.
-    let paid = mps > 0 && (length + 2).min(65_535).div_ceil(mps) <= usize::from(slot.peer_credits);
+    let paid = (length + 2).min(65_535).div_ceil(mps) <= usize::from(slot.peer_credits);
     let fits = (length + 2).min(mps) + 4 <= usize::from(view.m);
-    let sent = passes && mps >= 2 && paid && fits;
+    let sent = passes && paid && fits;
     if slot.job.is_some() {
         Some((Kind::JobOpen, 24, sent))
     } else if length >= 65_534 {
         Some((Kind::TooLong, 23, sent))
-    } else if mps < 23 {
-        Some((Kind::SmallMps, 20, sent))
     } else if paid && !fits {
         Some((Kind::LongFrame, 0, false))
     } else {
@@ -353,9 +370,39 @@ fn grants(slot: &SlotView) -> bool {
 }
 
 /// The verdicts on the signals of an `S` line, one each, from the tables before each.
-pub fn signal_verdicts<'a>(link: u16, pdu: &[u8], before: impl Iterator<Item = &'a View>) -> Vec<Option<Verdict>> {
+pub fn signal_verdicts<'a>(link: u16, listening: bool, pdu: &[u8], before: impl Iterator<Item = &'a View>) -> Vec<Option<Verdict>> {
     let parts = signals(pdu).unwrap_or_default();
-    parts.iter().zip(before).map(|(part, view)| signal_verdict(view, link, part)).collect()
+    parts.iter().zip(before).map(|(part, view)| signal_verdict(view, link, listening, part)).collect()
+}
+
+/// The 16-bit fields of a signal's body, where its octets are even in number.
+pub fn fields(signal: &[u8]) -> Option<Vec<u16>> {
+    signal[4..].chunks(2).map(|two| two.try_into().ok().map(u16::from_le_bytes)).collect()
+}
+
+pub fn signal_verdict(view: &View, link: u16, listening: bool, signal: &[u8]) -> Option<Verdict> {
+    let identifier = signal[1];
+    match (signal[0], &fields(signal)?[..]) {
+        (0x06, [dcid, _]) => disconnect_request(view, link, identifier, *dcid),
+        (0x07, [_, scid]) => {
+            let record = &view.slots[view.slot_of(*scid)?];
+            let other = matches!(record.state, State::Disconnecting { .. }) && record.link != link;
+            if other {
+                refusal(Kind::ResponseAnyLink, 0, true)
+            } else {
+                None
+            }
+        }
+        (0x14, [spsm, scid, mtu, mps, _]) if registered(view, *spsm) && listening && below_least(*mtu, *mps) => {
+            Some(small_request(view, link, identifier, *scid))
+        }
+        (0x15, [_, mtu, mps, _, 0]) if below_least(*mtu, *mps) => {
+            attempt(view, link, identifier)?;
+            refusal(Kind::BelowLeast, 9, true)
+        }
+        (0x16, [cid, given]) => credits(view, link, *cid, *given),
+        _ => None,
+    }
 }
 
 /// The CID that the original has stored in a slot: 0 once it was closed.
@@ -367,41 +414,43 @@ fn stored_cid(slot: usize, record: &SlotView) -> u16 {
     }
 }
 
-pub fn signal_verdict(view: &View, link: u16, signal: &[u8]) -> Option<Verdict> {
-    let (code, identifier, body) = (signal[0], signal[1], &signal[4..]);
-    let [dcid_low, dcid_high, scid_low, scid_high] = *body else {
-        return None;
-    };
-    match code {
-        0x06 => {
-            let dcid = u16::from_le_bytes([dcid_low, dcid_high]);
-            let hit = view.slots.iter().enumerate().find(|(slot, record)| stored_cid(*slot, record) == dcid);
-            let (_, record) = hit.filter(|(_, record)| !record.is_of(link))?;
-            let kind = if record.free() { Kind::ClosedHit } else { Kind::DisconnectAnyLink };
-            let reject = Row::number(0).octets(vec![0x06, 0x00, 0x05, 0x00, 0x01, identifier, 0x02, 0x00, 0x02, 0x00]);
-            Some(Verdict { kind, row: reject.to_string(), parts: true })
-        }
-        0x16 => {
-            let (cid, given) = (u16::from_le_bytes([dcid_low, dcid_high]), u16::from_le_bytes([scid_low, scid_high]));
-            let open = |record: &&SlotView| record.state == State::Connected && record.link == link && record.peer_cid == cid;
-            let record = view.slots.iter().find(open)?;
-            let (sum, aside) = (u32::from(record.peer_credits) + u32::from(given), u32::from(record.job?.aside));
-            if sum <= 65_535 && sum + aside > 65_535 {
-                refusal(Kind::SetAside, 9, true)
-            } else {
-                None
-            }
-        }
-        0x07 => {
-            let record = &view.slots[view.slot_of(u16::from_le_bytes([scid_low, scid_high]))?];
-            let other = matches!(record.state, State::Disconnecting { .. }) && record.link != link;
-            if other {
-                refusal(Kind::ResponseAnyLink, 0, true)
-            } else {
-                None
-            }
-        }
-        _ => None,
+fn disconnect_request(view: &View, link: u16, identifier: u8, dcid: u16) -> Option<Verdict> {
+    let hit = view.slots.iter().enumerate().find(|(slot, record)| stored_cid(*slot, record) == dcid);
+    let (_, record) = hit.filter(|(_, record)| !record.is_of(link))?;
+    let kind = if record.free() { Kind::ClosedHit } else { Kind::DisconnectAnyLink };
+    let reject = Row::number(0).octets(vec![0x06, 0x00, 0x05, 0x00, 0x01, identifier, 0x02, 0x00, 0x02, 0x00]);
+    Some(Verdict { kind, row: reject.to_string(), parts: true })
+}
+
+fn registered(view: &View, spsm: u16) -> bool {
+    view.spsms.get(usize::from(spsm / 8)).is_some_and(|octet| octet & 1 << (spsm % 8) != 0)
+}
+
+pub fn below_least(mtu: u16, mps: u16) -> bool {
+    mtu < SIZE_LEAST || mps < SIZE_LEAST
+}
+
+/// A request below 23: document 02 has it refused by result 0x0B, before the original's tests of the peer's CID and for a free slot.
+fn small_request(view: &View, link: u16, identifier: u8, scid: u16) -> Verdict {
+    let reply = [0x0e, 0, 5, 0, 0x15, identifier, 10, 0, 0, 0, 0, 0, 0, 0, 0, 0, 0x0b, 0];
+    let used = view.slots.iter().any(|slot| slot.is_of(link) && slot.peer_cid == scid);
+    let free = view.slots.iter().any(|slot| slot.free() && slot.hold == 0);
+    Verdict { kind: Kind::BelowLeast, row: Row::number(0).octets(reply.to_vec()).to_string(), parts: free && !used }
+}
+
+/// The attempt that a response answers.
+pub fn attempt(view: &View, link: u16, identifier: u8) -> Option<usize> {
+    view.slots.iter().position(|slot| slot.state == State::Connecting(identifier) && slot.link == link)
+}
+
+fn credits(view: &View, link: u16, cid: u16, given: u16) -> Option<Verdict> {
+    let open = |record: &&SlotView| record.state == State::Connected && record.link == link && record.peer_cid == cid;
+    let record = view.slots.iter().find(open)?;
+    let (sum, aside) = (u32::from(record.peer_credits) + u32::from(given), u32::from(record.job?.aside));
+    if sum <= 65_535 && sum + aside > 65_535 {
+        refusal(Kind::SetAside, 9, true)
+    } else {
+        None
     }
 }
 

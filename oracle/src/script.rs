@@ -184,9 +184,9 @@ impl Before {
     fn verdicts(&self, reply: &Reply) -> Vec<Option<Verdict>> {
         match &self.call {
             Call::Signal { link, .. } if *link > HIGHEST_LINK => Vec::new(),
-            Call::Signal { link, pdu, .. } => {
+            Call::Signal { link, listening, pdu, .. } => {
                 let before = std::iter::once(&self.sight).chain(&reply.between);
-                signal_verdicts(*link, pdu, before.map(|sight| &sight.view))
+                signal_verdicts(*link, *listening, pdu, before.map(|sight| &sight.view))
             }
             call if call.link().is_some_and(|link| link > HIGHEST_LINK) => Vec::new(),
             call => vec![verdict(&self.sight.view, self.oldest_job.as_deref(), call)],

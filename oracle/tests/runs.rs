@@ -2,7 +2,7 @@
 //! it must, and the findings that are too long for a file.
 
 use language::{hex, Answer, Call, Manner, Reply};
-use oracle::compare::batch;
+use oracle::compare::{batch, Counts};
 use oracle::faults::{Fault, Faulty};
 use oracle::generate::{Generator, Plan};
 use oracle::kinds::Kind;
@@ -134,7 +134,8 @@ fn an_undefined_result_code_never_reaches_the_original() {
 #[test]
 fn the_list_is_numbered_in_order() {
     let numbers: Vec<usize> = Kind::ALL.iter().map(|kind| kind.number()).collect();
-    assert!(numbers[..24].iter().copied().eq(1..=24) && numbers.windows(2).all(|two| two[0] < two[1]));
+    // 13 went into 50.
+    assert!(numbers[..23].iter().copied().eq((1..=12).chain(14..=24)) && numbers.windows(2).all(|two| two[0] < two[1]));
 }
 
 #[test]
@@ -144,6 +145,26 @@ fn a_script_is_made_again_from_its_number() {
         assert_eq!(script(&wanted, number).text(), script(&wanted, number).text());
     }
     assert_ne!(script(&wanted, 0).text(), script(&wanted, 1).text());
+}
+
+/// The places of document 02 (ii) that a run has to reach, and what it must not do: end a script of the domain there.
+#[test]
+fn sizes_around_23_and_frames_around_our_mps_are_met() {
+    quiet();
+    let mut counts = Counts::default();
+    (0..900).for_each(|number| counts.add(&script(&extent(1, 0), number)));
+    let sizes = ["at 23", "with its MTU below 23", "with its MPS below 23", "with both below 23", "below 23 that an earlier test refuses"];
+    let openings = ["request", "response"].map(|opening| sizes.map(|sizes| format!("a {opening} {sizes}")));
+    let lengths = ["of exactly our MPS", "one octet past our MPS"];
+    let frames = ["first", "joining"].map(|frame| lengths.map(|length| format!("a {frame} frame {length}")));
+    for mark in openings.as_flattened().iter().chain(frames.as_flattened()) {
+        assert!(counts.marks.contains_key(&mark[..]), "{mark}");
+    }
+    assert!([Kind::BelowLeast, Kind::LongerThanMps].iter().all(|kind| counts.kinds.contains_key(kind)));
+    let domain = Extent { outside: 0, ..extent(1, 0) };
+    let mut counts = Counts::default();
+    (0..300).for_each(|number| counts.add(&script(&domain, number)));
+    assert!(![Kind::BelowLeast, Kind::LongerThanMps].iter().any(|kind| counts.kinds.contains_key(kind)));
 }
 
 /// What a script says must stand after a call, against the lines that show it.

@@ -2,7 +2,7 @@
 
 use crate::refusals::result;
 use crate::seen::Seen;
-use crate::signal::{parameters_result, signal, Writer};
+use crate::signal::{parameters_result, signal, too_small, Writer};
 use crate::words::{count, parameters, phone, policy};
 use language::{signals, Call, Config, State};
 
@@ -72,6 +72,7 @@ fn said(pdu: &[u8], before: &Seen) -> String {
 fn circumstances(pdu: &[u8], listening: bool, central: bool) -> &'static str {
     match pdu.first() {
         Some(0x14) if !listening => " (nobody listens)",
+        Some(0x14 | 0x15) if too_small(pdu) => " (Bluetooth's least is 23)",
         Some(0x12) if central => " (we are the central)",
         Some(0x12) => " (we are the peripheral)",
         _ => "",
@@ -100,6 +101,9 @@ fn brought(link: u16, cid: u16, payload: &[u8], before: &Seen) -> String {
     let Some(slot) = slot.filter(|slot| slot.state == State::Connected && slot.link == link) else {
         return octets;
     };
+    if payload.len() > usize::from(slot.mps) {
+        return format!("{octets}, where a frame to us has at most {}", slot.mps);
+    }
     if slot.want > 0 {
         return format!("{octets} more of the job");
     }

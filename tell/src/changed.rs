@@ -62,7 +62,7 @@ impl Step<'_> {
         let facts = [self.state(), self.arrival(), self.taken(), self.job(), self.credits(), self.peer_credits(), self.holds()];
         let facts = facts.into_iter().flatten().collect::<Vec<_>>().join("; ");
         let facts = Some(facts).filter(|facts| !facts.is_empty());
-        let told = [self.lost_arrival(), self.lost_jobs(), self.lost_open_job(), facts, self.left_behind()];
+        let told = [self.lost_arrival(), self.lost_jobs(), self.lost_open_job(), self.lost_disconnect(), facts, self.left_behind()];
         let mut lines: Vec<String> = told.into_iter().flatten().collect();
         let room = |seen: &Seen| seen.rooms.get(self.slot).cloned();
         if lines.is_empty() && (self.old != self.new || room(self.before) != room(self.after)) {
@@ -126,6 +126,17 @@ impl Step<'_> {
             count(job.length, "octet"),
             count(job.aside, "credit")
         ))
+    }
+
+    /// A disconnect that was due when the slot was freed, of a phone that is still there: it goes on as if there were a channel.
+    fn lost_disconnect(&self) -> Option<String> {
+        let due = match self.old.state {
+            State::PeerDisconnecting(_) => "response",
+            State::Disconnecting { announced: false } => "request",
+            _ => return None,
+        };
+        let lost = self.new.free() && matches!(self.call, Call::Opened { up: true, .. });
+        lost.then(|| format!("our {due} was due and is never written: the phone isn't told"))
     }
 
     /// A job in portions that was begun, came on, or is closed.

@@ -20,7 +20,7 @@ pub const REFUSALS: [Refusal; 25] = [
     refusal(6, "BadSlot", "the table has no such slot"),
     refusal(7, "InvalidChannelId", "no slot has this CID"),
     refusal(8, "NotFound", "no slot fits, or no job is open in it"),
-    refusal(9, "InvalidValue", "a length or a sum of credits goes past what can be"),
+    refusal(9, "InvalidValue", "a length or a sum of credits goes past what can be, or a size falls below 23"),
     refusal(10, "OutOfMemory", "the phone had no credit left for this frame"),
     refusal(11, "ChannelClosed", "the channel isn't open"),
     refusal(12, "InsufficientSpace", "larger than our packets hold, or than the phone takes"),

@@ -3,6 +3,7 @@
 use crate::refusals::result;
 use crate::seen::Seen;
 use crate::words::{count, parameters, sizes};
+use language::SIZE_LEAST;
 
 /// Who wrote a signal: CIDs and credits are told by whose they are.
 #[derive(Clone, Copy, PartialEq, Eq)]
@@ -27,7 +28,7 @@ pub fn signal(octets: &[u8], writer: Writer, seen: &Seen) -> String {
         0x16 => ("credit signal", 4),
         _ => return format!("signal {identifier} of code {code}, which is unknown here"),
     };
-    let fields: Vec<u16> = body.chunks_exact(2).map(|two| u16::from_le_bytes([two[0], two[1]])).collect();
+    let fields = fields(body);
     // A reject may say more behind its reason.
     let fits = body.len() == length || *code == 0x01 && body.len() > length;
     let says = if fits { fields_in_words(*code, &fields, writer, seen) } else { None };
@@ -37,6 +38,22 @@ pub fn signal(octets: &[u8], writer: Writer, seen: &Seen) -> String {
             let least = if *code == 0x01 { "at least " } else { "" };
             format!("{name} {identifier} with {} in its body, where {least}{length} belong", count(body.len(), "octet"))
         }
+    }
+}
+
+/// The numbers of a body, of two octets each.
+fn fields(body: &[u8]) -> Vec<u16> {
+    body.chunks_exact(2).map(|two| u16::from_le_bytes([two[0], two[1]])).collect()
+}
+
+/// Whether a connect request, or a response that accepts one, says a size below the least.
+pub fn too_small(octets: &[u8]) -> bool {
+    let [code, _, 10, 0, body @ ..] = octets else {
+        return false;
+    };
+    match (code, &fields(body)[..]) {
+        (0x14, [_, _, mtu, mps, _]) | (0x15, [_, mtu, mps, _, 0]) => *mtu.min(mps) < SIZE_LEAST,
+        _ => false,
     }
 }
 
@@ -129,6 +146,27 @@ mod tests {
             ("0105", "2 octets, too few for a signal"),
         ] {
             assert_eq!(signal(&unhex(octets).unwrap(), Writer::Phone, &seen()), told);
+        }
+    }
+
+    #[test]
+    fn sizes_below_the_least_are_seen() {
+        for (octets, small) in [
+            ("14070a008000500064000a000500", true),
+            ("14070a0080005000640016000500", true),
+            ("14070a0080005000160017000500", true),
+            ("14070a0080005000170017000500", false),
+            ("14070a0000000000170017000000", false),
+            ("15030a0070006400160003000000", true),
+            ("15030a0070001600170003000000", true),
+            ("15030a0070001700170000000000", false),
+            // One that refuses mostly has zeros there.
+            ("15030a0000000000000000000400", false),
+            ("16030a0000000000000000000000", false),
+            ("14070900800050000a000a0005", false),
+            ("1407", false),
+        ] {
+            assert_eq!(too_small(&unhex(octets).unwrap()), small, "{octets}");
         }
     }
 

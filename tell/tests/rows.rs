@@ -197,6 +197,86 @@ fn an_attempt_of_ours_is_refused() {
     );
 }
 
+/// What decides is told beside the numbers: a request and a response below 23, and who comes before them.
+#[test]
+fn an_old_handset() {
+    let told = |line: &str, row: &str| steps(&[(line, row, FREE, [NONE; 2])]);
+    assert_eq!(
+        told("S 1 1 c 14070a008000500064000a000500", "0 0e00050015070a0000000000000000000b00"),
+        "   2  S 1 1 c 14070a008000500064000a000500
+      asked    the phone on link 1 sends connect request 7 for SPSM 128: its CID 80, jobs up to 100
+               octets in frames up to 10, 5 credits for us (Bluetooth's least is 23)
+      answer   0 done
+      out      to the phone on link 1: connect response 7: refused, result 11 UnacceptableParameters
+      changed  nothing
+"
+    );
+    let deaf = told("S 1 0 c 14070a008000500064000a000500", "0 0e00050015070a0000000000000000000400");
+    assert!(deaf.contains("5 credits for us (nobody listens)\n") && !deaf.contains("least"), "{deaf}");
+    let enough = told("S 1 1 c 14070a0080005000170017000500", "0 -");
+    assert!(enough.contains("5 credits for us\n"), "{enough}");
+}
+
+#[test]
+fn a_phone_opens_with_frames_that_are_too_small() {
+    let attempt = "connecting:1 1 64 129 25 23 e1 1 0 0 0 0 0 0 0 0 0";
+    let closing = "disconnecting 1 64 129 25 23 e1 1 0 80 22 100 5 0 0 0 0";
+    let asked = ("C 1 129 - - - -", "0 - 0", attempt, [NONE; 2]);
+    let answered = ("S 1 1 c 15010a0050006400160005000000", "9 -", closing, [NONE; 2]);
+    let text = steps(&[asked, answered, ("O 0 1 1", "18 -", FREE, [NONE; 2])]);
+    let start = text.find("   3  ").expect("a third line");
+    assert_eq!(
+        &text[start..],
+        "   3  S 1 1 c 15010a0050006400160005000000
+      asked    the phone on link 1 sends connect response 1: accepted; its CID 80, jobs up to 100
+               octets in frames up to 22, 5 credits for us (Bluetooth's least is 23)
+      answer   9 InvalidValue: a length or a sum of credits goes past what can be, or a size falls
+               below 23
+      changed  slot 0: an attempt of ours → closing, our request is due
+   4  O 0 1 1
+      asked    is our channel to the phone on link 1 (slot 0) open? (the link is up)
+      answer   18 Disconnected: the link or the channel is down
+      changed  slot 0: our request was due and is never written: the phone isn't told
+               slot 0: closing → free
+"
+    );
+    // Where the phone is gone, or our request is out, nothing is lost; our response to a phone can be lost too.
+    let out = closing.replace("disconnecting", "disconnecting:announced");
+    for (from, line) in [(closing, "O 0 1 0"), (closing, "W 1"), (&out, "O 0 1 1")] {
+        let text = step((from, [NONE; 2]), (line, "18 -", FREE, [NONE; 2]));
+        assert!(text.ends_with("changed  slot 0: closing → free\n"), "{text}");
+    }
+    let theirs = closing.replace("disconnecting", "peer-disconnecting:9");
+    let text = step((&theirs, [NONE; 2]), ("O 0 1 1", "18 -", FREE, [NONE; 2]));
+    assert!(text.contains("changed  slot 0: our response was due and is never written: the phone isn't told\n"), "{text}");
+}
+
+#[test]
+fn a_frame_above_our_mps() {
+    let closing = "disconnecting 1 64 128 25 23 e1 7 2 80 23 100 5 1 0 0 0";
+    let (long, most) = ("dd".repeat(26), "dd".repeat(25));
+    assert_eq!(
+        step((HALF, [ARRIVED, NONE]), (&format!("F 1 64 {long}"), "9 -", closing, [NONE; 2])),
+        format!(
+            "   3  F 1 64 {long}
+      asked    the phone on link 1 sends a frame to CID 64 (slot 0): 26 octets, where a frame to us
+               has at most 25
+      answer   9 InvalidValue: a length or a sum of credits goes past what can be, or a size falls
+               below 23
+      changed  slot 0: the job is broken off: 3 of 4 octets were here, 3 octets wiped
+               slot 0: open → closing, our request is due; the phone's credits 8 → 7
+"
+        )
+    );
+    let first = step((OPEN, [NONE; 2]), (&format!("F 1 64 {long}"), "9 -", closing, [NONE; 2]));
+    assert!(first.contains("(slot 0): 26 octets, where a frame to us\n               has at most 25\n"), "{first}");
+    let joins = step((HALF, [ARRIVED, NONE]), (&format!("F 1 64 {most}"), "9 -", closing, [NONE; 2]));
+    assert!(joins.contains("(slot 0): 25 octets more of the job\n"), "{joins}");
+    // It says nothing of another phone's channel.
+    let other = step((HALF, [ARRIVED, NONE]), (&format!("F 2 64 {long}"), "8 -", HALF, [ARRIVED, NONE]));
+    assert!(other.contains("(slot 0): 26 octets\n"), "{other}");
+}
+
 #[test]
 fn a_frame_of_another_phone_says_nothing_of_the_job() {
     let text = step((HALF, [ARRIVED, NONE]), ("F 2 64 dd", "8 -", HALF, [ARRIVED, NONE]));

@@ -5,7 +5,7 @@
 
 use l2cap_channels::{
     room_octets, ChannelIndex, ChannelManager, ChannelState, Cid, ConnHandle, CreditFlowPolicy, Hold, L2capChannelConfig, LeConnRole,
-    LeCreditConnResultCode, Refusal, Slot, CID_BASE, SIGNAL_OCTETS, SLOTS,
+    LeCreditConnResultCode, Refusal, Slot, CID_BASE, SIGNAL_OCTETS, SIZE_LEAST, SLOTS,
 };
 
 const CHANNELS: u16 = 16;
@@ -198,7 +198,8 @@ impl<'r> Printer<'r> {
         let (mut job, mut signal) = ([0; PACKET as usize], [0; SIGNAL_OCTETS]);
         for index in self.channels.attention()?.set {
             // An attempt of the printer's own that failed calls too, and has no job: that is 11, and the rest is due all the same. Whoever made it asks
-            // `opened`, which tells why and closes the slot. Other refusals come again below.
+            // `opened` later, which tells why and closes the slot; before the disconnects below it would close a slot whose request isn't out yet. Other
+            // refusals come again below.
             while let Ok(Some(taken)) = self.channels.receive(index, &mut job, &mut signal) {
                 out.print(taken.handle, taken.sdu);
                 if !taken.credits.is_empty() {
@@ -263,7 +264,12 @@ fn packet(cid: u16, payload: &[u8]) -> Vec<u8> {
 
 /// A phone's connect request, from its own CID 0x50: jobs up to 100 octets, frames of 23, five credits.
 fn connect() -> Vec<u8> {
-    packet(5, &[0x14, 7, 10, 0, 0x80, 0, 0x50, 0, 100, 0, 23, 0, 5, 0])
+    connect_with(SIZE_LEAST as u8)
+}
+
+/// The same with other frames.
+fn connect_with(mps: u8) -> Vec<u8> {
+    packet(5, &[0x14, 7, 10, 0, 0x80, 0, 0x50, 0, 100, 0, mps, 0, 5, 0])
 }
 
 const RESPONSE: u8 = 0x15;
@@ -341,6 +347,23 @@ pub fn main() {
     assert_eq!(desk.codes(anna), [DISCONNECT_RESPONSE]);
     assert!(printer.holds.iter().all(Option::is_none));
     assert_eq!(printer.channels.opened(attempt, anna, true), Err(no_resources));
+
+    // She accepts the next, with frames of 22 octets: nothing could be sent to her so. The printer's disconnect goes out with the packet that brought her response,
+    // and only then does somebody ask `opened`; her response frees the slot.
+    let request = printer.channels.create(anna, SPSM, &CONFIG, &mut signal).expect("a free slot");
+    let (attempt, identifier) = (request.index, request.octets[5]);
+    let accepts = [0x15, identifier, 10, 0, 0x51, 0, 100, 0, 22, 0, 5, 0, 0, 0];
+    assert_eq!(printer.packet(anna, &packet(5, &accepts), &mut desk), Err(Fault::Refused(Refusal::InvalidValue)));
+    assert_eq!(desk.codes(anna), [DISCONNECT_REQUEST]);
+    assert_eq!(printer.packet(anna, &packet(5, &[0x07, 9, 4, 0, 0x51, 0, attempt.cid().0 as u8, 0]), &mut desk), Ok(()));
+    assert_eq!(printer.channels.opened(attempt, anna, true), Err(Refusal::Disconnected));
+
+    // Dora's old handset asks for frames of 10 octets. It is told that this is too little, and gets no slot.
+    let dora = ConnHandle::from(4);
+    assert_eq!(printer.packet(dora, &connect_with(10), &mut desk), Ok(()));
+    let (_, response) = desk.sent.pop().expect("a response");
+    assert_eq!((response[4], response[16]), (RESPONSE, LeCreditConnResultCode::UnacceptableParameters as u8));
+    assert!(printer.holds.iter().all(Option::is_none));
 
     // Anna's link goes down. Nothing is left: no job, no packet, no hold, and every slot is free again.
     assert_eq!(printer.packet(anna, &connect(), &mut desk), Ok(()));

@@ -270,11 +270,16 @@ impl Default for CreditFlowPolicy {
 /// than the peer has credits is never finished, nothing is ever there to take, and the channel sticks until somebody closes it. An MPS of 23 with one
 /// credit and one waiting job is such a configuration. [`checked`](Self::checked) refuses those, and [`least_credits`](crate::least_credits) gives the
 /// rule; by the defaults the longest job is one frame, for a peer that fills its frames, and nothing sticks.
+///
+/// An MTU or MPS under [`SIZE_LEAST`](crate::SIZE_LEAST) is written as it is asked for; the defaults are never less. But a peer that keeps to Core, and this manager
+/// is one, refuses such a request by [`UnacceptableParameters`](LeCreditConnResultCode::UnacceptableParameters), and disconnects a channel that is accepted so.
+/// [`checked`](Self::checked) refuses those too.
 #[derive(Clone, Copy, Debug, Default, PartialEq, Eq)]
 pub struct L2capChannelConfig {
     /// The longest job that we take. Defaults to the packet size less 6.
     pub mtu: Option<u16>,
-    /// The longest frame payload that we announce; a longer one is not refused. Defaults to the packet size less 4.
+    /// The longest frame payload that we take: a longer one ends the channel ([`dispatch`](crate::ChannelManager::dispatch), 9). Defaults to the packet size
+    /// less 4.
     pub mps: Option<u16>,
     /// How the peer gets new credits.
     pub flow_policy: CreditFlowPolicy,

@@ -9,6 +9,13 @@ pub const CID_BASE: u16 = 0x40;
 /// The most slots that a table has.
 pub const SLOTS: u8 = 16;
 
+/// The least MTU and the least MPS of a channel (Core, Vol 3 Part A, 4.22 and 4.23).
+///
+/// A peer is held to it: its connect request with less is told [`UnacceptableParameters`](LeCreditConnResultCode::UnacceptableParameters), and its response with
+/// less ends the channel ([`signal`](crate::ChannelManager::signal)). What we ask for ourselves isn't tested by a call;
+/// [`checked`](crate::L2capChannelConfig::checked) does.
+pub const SIZE_LEAST: u16 = 23;
+
 /// A slot's number in the table. It names a channel in every call that is ours; [`Cid`] names it on the air.
 #[derive(Clone, Copy, Debug, PartialEq, Eq, PartialOrd, Ord, Hash)]
 pub struct ChannelIndex(pub u8);
@@ -108,7 +115,7 @@ pub enum LeCreditConnResultCode {
     InvalidSourceId = 9,
     /// 10: the source CID is in use.
     ScidAlreadyAllocated = 10,
-    /// 11: the parameters can't be accepted.
+    /// 11: the parameters can't be accepted. An MTU or MPS under [`SIZE_LEAST`] can't.
     UnacceptableParameters = 11,
 }
 
@@ -171,8 +178,9 @@ pub enum Refusal {
     InvalidChannelId,
     /// 8: no slot fits, or no job is open in it. An unmatched connect response has closed the slot of every attempt of that link.
     NotFound,
-    /// 9: a signal longer than its PDU (a reject is written); credits above 65,535 (they are kept), or a frame that its job has no place for (its
-    /// credit is used): the channel is disconnecting.
+    /// 9: a signal longer than its PDU (a reject is written); a connect response that accepts with an MTU or MPS under [`SIZE_LEAST`] (they are kept, so that
+    /// our disconnect request can go out), credits above 65,535 (those before are kept), a frame above our MPS, or one that its job has no place for (its
+    /// credit is used): the channel is disconnecting, and [`next_disconnect`](crate::ChannelManager::next_disconnect) comes next.
     InvalidValue,
     /// 10: a frame for which the peer had no credit.
     OutOfMemory,
@@ -196,7 +204,8 @@ pub enum Refusal {
     Disconnected,
     /// 19: a job's first frame without its two length octets. Its credit is used, and the channel is disconnecting.
     ShortFrame,
-    /// 20: the peer's MPS is under 23.
+    /// 20: the peer's MPS is under [`SIZE_LEAST`]. No call leaves such a channel, so that only octets which no call wrote give it, or
+    /// which are kept from an older archive ([`Table::from_octets`](crate::Table::from_octets)).
     BadMps,
     /// 21: a job is complete but as many as can wait do so already: it is dropped, and its credit used.
     QueueFull,

@@ -4,9 +4,7 @@ use core::error::Error;
 use core::fmt;
 
 use crate::answer::{CreditFlowPolicy, L2capChannelConfig};
-
-/// The least MTU and MPS of a channel (Core, Vol 3 Part A, 4.22).
-const LEAST: u16 = 23;
+use crate::codes::SIZE_LEAST;
 
 /// The frames of a job of `len` octets, each but the last with a payload of `mps`: they carry the job and its two length octets. None under an MPS of
 /// 2, in which the length octets have no place.
@@ -63,7 +61,7 @@ pub enum ConfigError {
     NoTable,
     /// The MPS is above the packet size less 4, or the MTU above it less 6. The call would refuse by 12.
     TooLarge,
-    /// MTU or MPS is under 23: peers that keep to Core refuse such a channel or send nothing on it.
+    /// MTU or MPS is under [`SIZE_LEAST`]: peers that keep to Core refuse such a request and disconnect such a channel. No call refuses it.
     TooSmall,
     /// The peer would start with fewer credits than this, the least that suffice.
     FewCredits(u16),
@@ -110,7 +108,7 @@ impl L2capChannelConfig {
         if mps > packet - 4 || mtu > packet - 6 {
             return Err(ConfigError::TooLarge);
         }
-        if mps < LEAST || mtu < LEAST {
+        if mps < SIZE_LEAST || mtu < SIZE_LEAST {
             return Err(ConfigError::TooSmall);
         }
         match least_credits(mtu, mps, self.flow_policy) {

@@ -68,7 +68,7 @@ pub use answer::{
     Attention, ChannelSignal, ChannelState, ConnParamUpdateReq, CreditFlowPolicy, FrameIter, Frames, Given, L2capChannelConfig, Outgoing,
     Received, Signalled, ANSWER_OCTETS,
 };
-pub use codes::{ChannelIndex, Cid, ConnHandle, LeConnRole, LeCreditConnResultCode, Refusal, CID_BASE, SLOTS};
+pub use codes::{ChannelIndex, Cid, ConnHandle, LeConnRole, LeCreditConnResultCode, Refusal, CID_BASE, SIZE_LEAST, SLOTS};
 pub use credits::{frames, least_credits, ConfigError};
 pub use hold::{Hold, StillHeld};
 pub use manager::{ChannelManager, SIGNAL_OCTETS};

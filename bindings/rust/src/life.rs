@@ -13,6 +13,8 @@
 //! 2. disconnects: [`next_disconnect`] until none is due; what it writes goes out;
 //! 3. holds: [`dec_ref`] on every slot that [`Table::held`] names.
 //!
+//! [`opened`] is asked behind these three: of a channel that is disconnecting it closes the slot, and a request that was still due is never written.
+//!
 //! `examples/printer.rs` is such a loop. Packets that came together can go in together: their frames by [`dispatch_run`], in the order in which they came and up to the next
 //! packet of signals, then the three steps once. As no job is taken meanwhile, such a run brings a slot no more jobs than can still wait there.
 //!
@@ -21,6 +23,7 @@
 //! | what happens | call | slot | holds |
 //! |---|---|---|---|
 //! | its connect request comes | [`signal`] | `PeerConnecting` | 0 |
+//! | or one with an MTU or MPS under [`SIZE_LEAST`] | [`signal`]; the reply tells it, by result 11 | free | 0 |
 //! | we see it | [`next_pending`] gives a [`Hold`] | the same | 1 |
 //! | we take it | [`accept_pending`] | `Connected` | 1 |
 //! | or we refuse it | [`reject_pending`] takes the hold | free | 0 |
@@ -53,7 +56,8 @@
 //! | we answer | [`next_disconnect`]; jobs that still wait are zeroed | `Disconnected`, still held | 1 |
 //! | we give the slot back | [`dec_ref`] takes the hold | free | 0 |
 //!
-//! A frame that breaks its job (refusals 9 and 19), and credits above 65,535 (9), leave `Disconnecting`: [`next_disconnect`] writes our request then.
+//! A frame above our MPS or one that breaks its job (refusals 9 and 19), and credits above 65,535 (9), leave `Disconnecting`: [`next_disconnect`] writes our
+//! request then.
 //!
 //! A phone that closes before it was accepted leaves `PeerDisconnecting` too. [`accept_pending`] and [`reject_pending`] refuse by 8, and the hold of
 //! [`next_pending`] ends by [`dec_ref`] or [`drop_pending`].
@@ -79,6 +83,17 @@
 //! | it opens | [`signal`], then [`opened`] gives a [`Hold`] | `Connected` | 1 |
 //! | or it fails | [`signal`] gives 17 and leaves `ConnectFailed`, then [`opened`] gives 17 | free | 0 |
 //! | or we give up | [`give_up`] | free | 0 |
+//!
+//! A peer that opens it with an MTU or MPS under [`SIZE_LEAST`] believes in a channel on which we could never send, and has to be told:
+//!
+//! | what happens | call | slot | holds |
+//! |---|---|---|---|
+//! | its response comes | [`signal`] gives 9 | `Disconnecting(false)`: a disconnect is due | 0 |
+//! | our request goes out, once | [`next_disconnect`] | `Disconnecting(true)` | 0 |
+//! | the peer's response comes | [`signal`] | free | 0 |
+//! | or it doesn't answer: after a timeout of yours | [`opened`] gives 18 | free | 0 |
+//!
+//! [`opened`] before [`next_disconnect`] gives 18 too and closes the slot, but our request is never written: the peer keeps a channel that isn't there.
 //!
 //! An attempt has no hold before [`opened`] gives one: once it is closed its slot can be another's. An unmatched connect response (8) and a link that
 //! goes down close it too, and [`opened`] gives 18 then. From [`opened`] on it is as a phone's channel.
@@ -130,5 +145,6 @@
 //! [`receive`]: crate::ChannelManager::receive
 //! [`reject_pending`]: crate::ChannelManager::reject_pending
 //! [`signal`]: crate::ChannelManager::signal
+//! [`SIZE_LEAST`]: crate::SIZE_LEAST
 //! [`Slot::hold`]: crate::Slot::hold
 //! [`Table::held`]: crate::Table::held

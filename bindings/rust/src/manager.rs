@@ -82,10 +82,41 @@ impl<'r> ChannelManager<'r> {
     /// The reply, where there is one, goes out whether the signal was refused or not. Call again with the rest until that is empty, or let
     /// [`feed_pdu`](Self::feed_pdu) do so.
     ///
-    /// Refusals: 1, 2, 3, 4; 15 and 9 by the header check, which leave no rest; then by the signal 15 for a bad body and 16 for an unknown code; 8
-    /// for credits that fit no channel, and for a connect response that fits no attempt, which has closed the slot of every attempt of this link; 9 for
-    /// credits above 65,535, with those set aside for an open job, which leave the channel disconnecting; 17 for a connect response that refuses, which leaves the slot
-    /// [`ConnectFailed`](crate::ChannelState::ConnectFailed) until [`opened`](Self::opened) or [`give_up`](Self::give_up) closes it.
+    /// A connect request that we turn down isn't refused: the reply says so to the peer. Its result is 2 where the SPSM isn't registered, 4 where nobody listens, 11
+    /// where its MTU or MPS is under [`SIZE_LEAST`](crate::SIZE_LEAST), 10 where its CID is in use on this link, 4 where no slot is free: the first that applies.
+    ///
+    /// Refusals: 1, 2, 3, 4; 15 and 9 by the header check, which leave no rest; then by the signal 16 for an unknown code and 15 for a bad body; 8
+    /// for credits that fit no channel, and for a connect response that fits no attempt, which has closed the slot of every attempt of this link; 17 for a connect
+    /// response that refuses, which leaves the slot [`ConnectFailed`](crate::ChannelState::ConnectFailed) until [`opened`](Self::opened) or
+    /// [`give_up`](Self::give_up) closes it; 9 for one that accepts with an MTU or MPS under [`SIZE_LEAST`](crate::SIZE_LEAST), and for credits above 65,535, with
+    /// those set aside for an open job, which leave the channel disconnecting.
+    ///
+    /// After 9 the peer still believes in the channel: [`next_disconnect`](Self::next_disconnect) writes the request that tells it, and has to be called before
+    /// [`opened`](Self::opened), which would close the slot and leave that request unwritten.
+    ///
+    /// An old handset that asks for frames of 10 octets:
+    ///
+    /// ```
+    /// # use l2cap_channels::*;
+    /// # fn main() -> Result<(), Refusal> {
+    /// # let mut room = [0; room_octets(2, 1, 64)];
+    /// # let mut channels = ChannelManager::new(2, 1, 64, &mut room)?;
+    /// # channels.register_spsm(0x80)?;
+    /// # let (handset, mut reply) = (ConnHandle(1), [0; SIGNAL_OCTETS]);
+    /// let request = [0x14, 7, 10, 0, 0x80, 0, 0x50, 0, 100, 0, 10, 0, 5, 0];
+    /// let told = channels.signal(handset, true, LeConnRole::Peripheral, &request, &mut reply);
+    /// assert_eq!(told.outcome, Ok(None));
+    /// assert_eq!(told.reply, [14, 0, 5, 0, 0x15, 7, 10, 0, 0, 0, 0, 0, 0, 0, 0, 0, 0x0B, 0]); // result 0x000B, UnacceptableParameters
+    /// assert_eq!(channels.next_pending(handset, true), Ok(None)); // and nothing waits
+    ///
+    /// // It asks once more, with the least that Core allows: now there is something to accept.
+    /// let request = [0x14, 8, 10, 0, 0x80, 0, 0x50, 0, 100, 0, SIZE_LEAST as u8, 0, 5, 0];
+    /// assert_eq!(channels.signal(handset, true, LeConnRole::Peripheral, &request, &mut reply).reply, []);
+    /// let hold = channels.next_pending(handset, true)?.expect("a pending channel");
+    /// # hold.into_index();
+    /// # Ok(())
+    /// # }
+    /// ```
     pub fn signal<'p, 'b>(
         &mut self,
         handle: ConnHandle,
@@ -175,6 +206,8 @@ impl<'r> ChannelManager<'r> {
 
     /// Opens a pending channel. The hold stays, for whoever uses the channel: [`dec_ref`](Self::dec_ref) ends it, and with it the channel.
     ///
+    /// Our own MTU or MPS under [`SIZE_LEAST`](crate::SIZE_LEAST) is not refused: a peer that keeps to Core disconnects such a channel.
+    ///
     /// Refusals: 1, 3, 6; 12 for MPS, then MTU; 8 where nothing is pending in this slot; 22 without a hold.
     pub fn accept_pending<'b>(
         &mut self,
@@ -236,6 +269,9 @@ impl<'r> ChannelManager<'r> {
     /// Takes a slot and writes a connect request. Nobody holds the slot yet: [`opened`](Self::opened) gives the hold once the peer has accepted, and
     /// [`give_up`](Self::give_up) ends the attempt.
     ///
+    /// Our own MTU or MPS under [`SIZE_LEAST`](crate::SIZE_LEAST) is not refused: a peer that keeps to Core refuses such a request, by
+    /// [`UnacceptableParameters`](LeCreditConnResultCode::UnacceptableParameters).
+    ///
     /// Refusals: 1, 3, 4; 12 for MPS, then MTU; 13 where no slot is free. 12 and 13 have used an identifier.
     pub fn create<'b>(
         &mut self,
@@ -255,6 +291,27 @@ impl<'r> ChannelManager<'r> {
     ///
     /// Refusals: 1, 2, 4, 6; 18 where the slot is closed; 8 where it is another link's; 18 where the link is down or the channel disconnects, and 17
     /// where the peer refused: these two have closed the slot, and a disconnect that was due is written no more; 22 where it is held already.
+    ///
+    /// So [`next_disconnect`](Self::next_disconnect) comes first, until none is due. A phone that accepts with frames of 22 octets, under
+    /// [`SIZE_LEAST`](crate::SIZE_LEAST), would else never hear that there is no channel:
+    ///
+    /// ```
+    /// # use l2cap_channels::*;
+    /// # fn main() -> Result<(), Refusal> {
+    /// # let mut room = [0; room_octets(2, 1, 64)];
+    /// # let mut channels = ChannelManager::new(2, 1, 64, &mut room)?;
+    /// # let (phone, mut signal) = (ConnHandle(1), [0; SIGNAL_OCTETS]);
+    /// let attempt = channels.create(phone, 0x80, &L2capChannelConfig::default(), &mut signal)?.index;
+    /// let response = [0x15, 1, 10, 0, 0x50, 0, 100, 0, 22, 0, 5, 0, 0, 0]; // accepted, from the phone's CID 0x50
+    /// let told = channels.signal(phone, true, LeConnRole::Central, &response, &mut signal);
+    /// assert_eq!(told.outcome, Err(Refusal::InvalidValue));
+    ///
+    /// let request = channels.next_disconnect(&mut signal)?.expect("a disconnect that is due");
+    /// assert_eq!(request.octets, [8, 0, 5, 0, 0x06, 2, 4, 0, 0x50, 0, 0x40, 0]); // it names the phone's channel
+    /// assert_eq!(channels.opened(attempt, phone, true), Err(Refusal::Disconnected)); // the slot is free
+    /// # Ok(())
+    /// # }
+    /// ```
     pub fn opened(&mut self, index: ChannelIndex, handle: ConnHandle, up: bool) -> Result<Option<Hold>, Refusal> {
         let answer = entries::opened(&mut self.table.0, self.room, index.0, handle.0, up.into()).told()?;
         Ok(answer.is_opened().then(|| Hold::of(index)))
@@ -328,11 +385,11 @@ impl<'r> ChannelManager<'r> {
 
     // ---- jobs
 
-    /// Takes in a frame that came on a link: its CID, and its payload behind the L2CAP header. Nothing where the channel isn't open. A payload above our
-    /// MPS is not refused: a job's length and our MTU alone say what is too long.
+    /// Takes in a frame that came on a link: its CID, and its payload behind the L2CAP header. Nothing where the channel isn't open.
     ///
-    /// Refusals: 1, 2, 4; 7 for a CID of no slot; 8 for another link's open channel; 10 without a credit; then, with the credit used, 19 and 9, which
-    /// leave the channel disconnecting, and 21, which drops the job.
+    /// Refusals: 1, 2, 4; 7 for a CID of no slot; 8 for another link's open channel; 10 without a credit; then, with the credit used, 9 for a payload above our
+    /// MPS, be it a job's first, whose two length octets count, or a later one, 19 for a job's first of less than two octets, 9 for a job above our MTU and for more
+    /// octets than the job has: these leave the channel disconnecting, and nothing of the job; jobs that wait stay. 21 drops the job, and the channel stays open.
     pub fn dispatch(&mut self, handle: ConnHandle, cid: Cid, payload: &[u8]) -> Result<(), Refusal> {
         entries::dispatch(&mut self.table.0, self.room, handle.0, cid.0, payload).told().map(|_| ())
     }
@@ -340,7 +397,7 @@ impl<'r> ChannelManager<'r> {
     /// Cuts a job into frames, and uses a credit for each.
     ///
     /// Refusals: 1, 6; 11 where the channel isn't open; 24 where a job is open in this slot; 12 above the peer's MTU; 23 above 65,533 octets; 20 where the
-    /// peer's MPS is under 23; 14 where the credits don't suffice; 3 where `out` is too short.
+    /// peer's MPS is under 23, as no call leaves one; 14 where the credits don't suffice; 3 where `out` is too short.
     pub fn send<'b>(&mut self, index: ChannelIndex, sdu: &[u8], out: &'b mut [u8]) -> Result<Frames<'b>, Refusal> {
         let answer = entries::send(&mut self.table.0, out, index.0, sdu).told()?;
         Ok(answer.frames(out))
@@ -350,7 +407,7 @@ impl<'r> ChannelManager<'r> {
     /// `buffer`, of [`job_buffer_octets`](crate::job_buffer_octets) octets or more, which the [`OpenJob`] borrows until its end. Nothing goes out yet.
     ///
     /// Refusals: 1, 6; 11 where the channel isn't open; 24 where a job is open in this slot; 12 above the peer's MTU; 23 above 65,533 octets; 20 where the
-    /// peer's MPS is under 23; 14 where the credits don't suffice; 3 where `buffer` is too short.
+    /// peer's MPS is under 23, as no call leaves one; 14 where the credits don't suffice; 3 where `buffer` is too short.
     pub fn start_job<'b>(&mut self, index: ChannelIndex, len: usize, buffer: &'b mut [u8]) -> Result<OpenJob<'b>, Refusal> {
         entries::start_job(&mut self.table.0, buffer, index.0, len).told()?;
         Ok(OpenJob::of(index, self.table.standing(index), buffer))
@@ -510,22 +567,22 @@ impl<'r> ChannelManager<'r> {
         self.asked(entries::mtu, index)
     }
 
-    /// The longest frame payload that we announce on this channel; a longer one is not refused. 0 where the slot is closed, and for a peer's request
-    /// that was never accepted.
+    /// The longest frame payload that we take on this channel; a longer one ends it ([`dispatch`](Self::dispatch), 9). 0 where the slot is closed, and for a
+    /// peer's request that was never accepted.
     ///
     /// Refusals: 1, 6.
     pub fn mps(&self, index: ChannelIndex) -> Result<u16, Refusal> {
         self.asked(entries::mps, index)
     }
 
-    /// The longest job that the peer takes; 0 where the slot is closed, and for an attempt of ours that never opened.
+    /// The longest job that the peer takes; 0 where the slot is closed, and for an attempt of ours that it never accepted.
     ///
     /// Refusals: 1, 6.
     pub fn peer_mtu(&self, index: ChannelIndex) -> Result<u16, Refusal> {
         self.asked(entries::peer_mtu, index)
     }
 
-    /// The longest frame payload that the peer takes; 0 where the slot is closed, and for an attempt of ours that never opened.
+    /// The longest frame payload that the peer takes; 0 where the slot is closed, and for an attempt of ours that it never accepted.
     ///
     /// Refusals: 1, 6.
     pub fn peer_mps(&self, index: ChannelIndex) -> Result<u16, Refusal> {

@@ -152,7 +152,7 @@ pub struct Slot {
     pub handle: ConnHandle,
     /// The channel's SPSM.
     pub spsm: u16,
-    /// Our MPS: what we announce, and no more.
+    /// Our MPS: the longest frame payload that we take.
     pub mps: u16,
     /// Our MTU.
     pub mtu: u16,

@@ -71,7 +71,8 @@ fn connect(peer_cid: u8) -> Vec<u8> {
 /// A packet of some kind from a link whose channel has, or had, this CID; now and then it is for another channel, comes cut, or is too long.
 fn some_packet(numbers: &mut Numbers, link: ConnHandle, its: u8) -> Vec<u8> {
     let cid = if numbers.below(8) == 0 { 0x3E + numbers.below(20) as u8 } else { its };
-    let count = numbers.below(22) as usize;
+    // With a job's length a frame has up to 25 octets; the printer takes 23.
+    let count = numbers.below(24) as usize;
     let mut packet = match numbers.below(12) {
         0 => connect(0x50),
         1 => packet(5, &[0x06, 9, 4, 0, cid, 0, 0x50, 0]),

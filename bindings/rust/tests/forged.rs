@@ -5,11 +5,6 @@ mod common;
 use common::*;
 use l2cap_channels::*;
 
-/// Where column `c` of a slot's row stands.
-fn cell(slot: usize, column: usize) -> usize {
-    48 + 16 * column + slot
-}
-
 /// A table with an open channel, a waiting job and half of another.
 fn busy() -> ([u8; TABLE_OCTETS], Vec<u8>) {
     let mut room = [0; ROOM];
@@ -113,7 +108,7 @@ fn forged_jobs() {
     let with = |[length, taken, filled, aside, credits]: [u16; 5]| {
         let mut octets = octets;
         for (column, number) in [(39, length), (41, taken), (43, filled), (45, aside), (24, credits)] {
-            [octets[cell(0, column)], octets[cell(0, column + 1)]] = number.to_le_bytes();
+            put(&mut octets, 0, column, number);
         }
         octets
     };
@@ -158,7 +153,7 @@ fn portions_of_forged_jobs() {
         for aside in [1_u16, 2, 65_530] {
             let mut octets = octets;
             for (column, number) in [(39, length), (41, taken), (43, filled), (45, aside)] {
-                [octets[cell(0, column)], octets[cell(0, column + 1)]] = u16::to_le_bytes(number);
+                put(&mut octets, 0, column, number);
             }
             let mut its_room = room.clone();
             let mut channels = ChannelManager::from_parts(Table::from_octets(octets), &mut its_room);

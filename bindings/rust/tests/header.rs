@@ -1,6 +1,6 @@
 //! The entries and the numbers with names are declared twice, for C and for Rust: the two must say the same.
 
-use l2cap_channels::{FrameRun, JobRun, LeCreditConnResultCode, Refusal, ANSWER_OCTETS, CID_BASE, SIGNAL_OCTETS, TABLE_OCTETS};
+use l2cap_channels::{FrameRun, JobRun, LeCreditConnResultCode, Refusal, ANSWER_OCTETS, CID_BASE, SIGNAL_OCTETS, SIZE_LEAST, TABLE_OCTETS};
 use std::collections::BTreeMap;
 use std::path::Path;
 
@@ -158,6 +158,7 @@ fn sizes_are_the_same() {
     assert_eq!(define("L2CAP_RUN_FRAME_HEAD"), FrameRun::HEAD);
     assert_eq!(define("L2CAP_RUN_JOB_HEAD"), JobRun::HEAD);
     assert_eq!(define("L2CAP_CID_BASE"), usize::from(CID_BASE));
+    assert_eq!(define("L2CAP_SIZE_LEAST"), usize::from(SIZE_LEAST));
 }
 
 /// The refusals of each entry, in order, as its comment has them.

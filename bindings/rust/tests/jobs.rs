@@ -265,19 +265,6 @@ fn what_is_asked_for() {
     }
 }
 
-/// Our MPS is what we announce: a frame above it is taken, as long as its job has a place.
-#[test]
-fn a_frame_above_our_mps() {
-    let mut room = [0; ROOM];
-    let mut channels = made(&mut room);
-    let config = L2capChannelConfig { mps: Some(23), ..Default::default() };
-    let index = open(&mut channels, PHONE, &request(0x50, 100, 23, 5), &config);
-    assert_eq!(channels.mps(index), Ok(23));
-    channels.dispatch(PHONE, index.cid(), &[&[26, 0][..], &[b'j'; 26]].concat()).unwrap();
-    let (mut job, mut signal) = ([0; PLACE], [0; SIGNAL_OCTETS]);
-    assert_eq!(channels.receive(index, &mut job, &mut signal).unwrap().unwrap().sdu, [b'j'; 26]);
-}
-
 /// When MTUs and MPSs are 0: all of a closed slot; ours before an accept, and where none came; the peer's of an attempt that never opened.
 #[test]
 fn numbers_that_are_not_there_yet() {
@@ -297,6 +284,11 @@ fn numbers_that_are_not_there_yet() {
     assert_eq!(asked(&channels), [58, 60, 0, 0]);
     feed(&mut channels, PHONE, "15010a0000000000000000000400");
     assert_eq!(asked(&channels), [58, 60, 0, 0]);
+    // One that the peer accepted under 23 never opened, and has them.
+    channels.disconnected(PHONE).unwrap();
+    channels.create(PHONE, SPSM, &L2capChannelConfig::default(), &mut [0; SIGNAL_OCTETS]).unwrap();
+    feed(&mut channels, PHONE, "15020a0050006400160005000000");
+    assert_eq!((slot(&channels, SLOT).state, asked(&channels)), (ChannelState::Disconnecting(false), [58, 60, 100, 22]));
 }
 
 /// A manager's parts are kept and taken up again.

@@ -107,7 +107,7 @@ fn stated_lengths() {
 #[test]
 fn buffers() {
     let mut room = [0; ROOM];
-    let mut channels = two(&mut room, 100, 22, 5);
+    let mut channels = with_peer_mps(two(&mut room, 100, 23, 5), SECOND, 22);
     let mut buffer = [0x77; 64];
     for (index, len, most) in [(SLOT, 5, 10), (SLOT, 21, 26), (SLOT, 101, 64), (SLOT, 100, 26), (SECOND, 1, 64), (ChannelIndex(2), 1, 64)] {
         let before = state(&channels);

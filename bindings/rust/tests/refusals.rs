@@ -225,11 +225,20 @@ fn refusal_09_invalid_value() {
     let left = slot(&channels, index);
     assert_eq!((left.state, left.peer_credits, left.have, left.want), (ChannelState::Disconnecting(false), 65535, 0, 0));
     assert!(channels.room().iter().all(|octet| *octet == 0));
-    // A frame: longer than our MTU, than the job's length, or than what is left of the job. The credit is used.
-    for frames in [&[&[59, 0][..]][..], &[&[1, 0, 1, 2]], &[&[4, 0, 1, 2], &[3, 4, 5]]] {
+    // A response that accepts under 23: disconnecting, and the peer's numbers are there for our request.
+    let mut room = [0; ROOM];
+    let mut channels = made(&mut room);
+    channels.create(PHONE, SPSM, &L2capChannelConfig::default(), &mut BUFFER.clone()).unwrap();
+    assert_eq!(feed(&mut channels, PHONE, "15010a0050006400160005000000"), [(Err(Refusal::InvalidValue), String::new())]);
+    let left = slot(&channels, SLOT);
+    assert_eq!((left.state, left.hold), (ChannelState::Disconnecting(false), 0));
+    assert_eq!((left.peer_cid, left.peer_mtu, left.peer_mps, left.peer_credits), (0x50, 100, 22, 5));
+    // A frame: longer than our MPS or our MTU, than the job's length, or than what is left of the job. The credit is used.
+    let long = [&[22, 0][..], &[1; 22]].concat();
+    for frames in [&[&long[..]][..], &[&[40, 0, 1, 2], &[3; 24]], &[&[59, 0]], &[&[1, 0, 1, 2]], &[&[4, 0, 1, 2], &[3, 4, 5]]] {
         let mut room = [0; ROOM];
         let mut channels = made(&mut room);
-        let index = opened(&mut channels);
+        let index = open(&mut channels, PHONE, &request(0x50, 100, 23, 5), &config(None, Some(23), None));
         let (last, first) = frames.split_last().unwrap();
         for frame in first {
             channels.dispatch(PHONE, index.cid(), frame).unwrap();
@@ -403,12 +412,22 @@ fn refusal_19_short_frame() {
 
 #[test]
 fn refusal_20_bad_mps() {
+    // No call leaves such a channel: the octets are changed.
     let mut room = [0; ROOM];
     let mut channels = made(&mut room);
-    let index = open(&mut channels, PHONE, &request(0x50, 100, 22, 5), &L2capChannelConfig::default());
+    let index = opened(&mut channels);
+    let mut channels = with_peer_mps(channels, index, 22);
     let mut out = [0x77; 64];
     unchanged(&mut channels, Refusal::BadMps, |channels| channels.send(index, &[1], &mut out).map(|_| ()));
+    unchanged(&mut channels, Refusal::BadMps, |channels| channels.start_job(index, 1, &mut out).map(|_| ()));
+    let (mut run, mut answers) = ([0; 8], [[0; ANSWER_OCTETS]]);
+    let mut run = one_job(&mut run, index);
+    let before = state(&channels);
+    assert_eq!(channels.send_run(&mut run, &mut out, &mut answers).unwrap().next(), Some(Err(Refusal::BadMps)));
+    assert!(before == state(&channels));
     assert_eq!(out, [0x77; 64]);
+    let mut channels = with_peer_mps(channels, index, 23);
+    assert_eq!(channels.send(index, &[1], &mut out).unwrap().count, 1);
 }
 
 #[test]

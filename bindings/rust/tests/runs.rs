@@ -113,9 +113,15 @@ fn any_table(chance: &mut Chance) -> (Table, Vec<u8>) {
     let mut channels = made(&mut room);
     for cid in [0x50, 0x51] {
         if chance.of(&[true, true, true, false]) {
-            let wanted = request(cid, chance.of(&[100, 65535]), chance.of(&[22, 23, 60]), chance.of(&[0, 2, 9]));
-            let config = L2capChannelConfig { initial_credits: chance.of(&[None, Some(9)]), ..Default::default() };
+            let wanted = request(cid, chance.of(&[100, 65535]), chance.of(&[23, 60]), chance.of(&[0, 2, 9]));
+            // An MPS of 3 is less than some frames have.
+            let (mps, initial_credits) = (chance.of(&[None, None, Some(3)]), chance.of(&[None, Some(9)]));
+            let config = L2capChannelConfig { mps, initial_credits, ..Default::default() };
             let index = open(&mut channels, chance.of(&[PHONE, OTHER]), &wanted, &config);
+            // No call leaves an MPS under 23, which a job is refused by.
+            if chance.of(&[true, false, false]) {
+                channels = with_peer_mps(channels, index, 22);
+            }
             let payload: &[u8] = chance.of(&[&[2, 0, 1, 2], &[4, 0, 3], &[9, 0]]);
             let _ = channels.dispatch(slot(&channels, index).handle, index.cid(), payload);
         }

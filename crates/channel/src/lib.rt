@@ -2,6 +2,7 @@
 // the crate `definition`, and the code over them stands in the crates above it.
 use codes::LeCreditConnResultCode;
 use codes::Refusal;
+pub use codes::SIZE_LEAST;
 use credit::CreditFlowControl;
 use credit::CreditFlowPolicy;
 use sar_join::Assembly;

@@ -1,7 +1,10 @@
-// The numbers of document 01 that are enums here: the refusals, and the result codes of a connect response (Core Vol 3 Part A 4.23).
-// What each stands for is in specs/Codes.antt; every crate above uses these two enums.
+// The numbers of document 01 that every crate above uses: the refusals, the result codes of a connect response (Core Vol 3 Part A 4.23), and the least
+// MTU and MPS. What each stands for is in specs/.
 ghost use mathlib.Core.Path.{_≡_};
 ghost use Rattle.codes.specs.Codes.{resultNumber, resultOf, refusalNumber, resultIn};
+
+// The least MTU, and the least MPS, that a side of a channel may have (4.22, 4.23).
+pub const SIZE_LEAST: u16 = 23;
 
 // The result of a connect response.
 pub enum LeCreditConnResultCode {

@@ -187,7 +187,7 @@ module _ (t : Table) (fit : Fit t) (link : ℕ) where
   unfolding onConnReq
   connReq-apart listening id LeCreditConnReq.Decode = still-does on itself
   connReq-apart listening id (LeCreditConnReq.Is req) =
-      else-does on _ _ _ itself λ _. else-does on _ _ _ itself λ _. else-does on _ _ _ itself λ _. else-does on _ _ _ itself λ a.
+      else-does on _ _ _ itself λ _. else-does on _ _ _ itself λ _. else-does on _ _ _ itself λ _. else-does on _ _ _ itself λ _. else-does on _ _ _ itself λ a.
       change-does on _ itself a (free (free-slot t fit a))
 
   connRes-apart : (id : ℕ) (b : LeCreditConnResRead) → Does (ApartSlot link) t (onConnRes t link id b)
@@ -197,7 +197,7 @@ module _ (t : Table) (fit : Fit t) (link : ℕ) where
       if-does on (λ _. sweep-does on (attemptOf link) (λ x e. its (of isConnecting refl x link e))) λ a.
       let s : ℕ = found (attemptBy link id) t in
       let h = of isConnecting refl (slotAt t s) link (and-left (attemptOf link (slotAt t s)) _ (found-passes t fit (attemptBy link id) a)) in
-      if-does on (λ _. change-does on s itself a (its h)) λ _. change-does on s itself a (its h)
+      if-does on (λ _. change-does on s itself a (its h)) λ _. if-does on (λ _. change-does on s itself a (its h)) λ _. change-does on s itself a (its h)
 
   credits-apart : (id : ℕ) (b : LeCreditFlowIndRead) → Does (ApartSlot link) t (onCredits t link id b)
   unfolding onCredits

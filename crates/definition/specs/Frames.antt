@@ -83,7 +83,8 @@ abbrev pub arriving : Table → Slot → (head : List ℕ) (count : ℕ) → Arr
 arriving t x head count =
     record { mtu = x .mtu; mps = x .mps; depth = t .d; assembly = x .assembly; queued = x .queue .count; payload = length head + count; said = u16At head 0 }
 
--- "Frame in (CID, payload): 7; not Connected: dropped, answer 0; another link's slot 8; no credit 10; one credit used."
+-- "Frame in (CID, payload): 7; not Connected: dropped, answer 0; another link's slot 8; no credit 10; one credit used." A frame longer than our MPS "gives 9 right
+-- after the credit is used" (document 02): the join step's first test.
 
 -- Behind the first refusals.
 abbrev pub admitted : Table → (link cid : ℕ) (head : List ℕ) (count : ℕ) → Outcome

@@ -213,12 +213,12 @@ module _ (t : Table) where
   connReq-quiet : (link : ℕ) (listening : Bool) (id : ℕ) (b : LeCreditConnReqRead) → Quiet (onConnReq t link listening id b)
   unfolding onConnReq
   connReq-quiet link listening id LeCreditConnReq.Decode = leaf refl refl
-  connReq-quiet link listening id (LeCreditConnReq.Is f) = either _ (leaf refl refl) (either _ (leaf refl refl) (either _ (leaf refl refl) (either _ (leaf refl refl) (leaf refl refl))))
+  connReq-quiet link listening id (LeCreditConnReq.Is f) = either _ (leaf refl refl) (either _ (leaf refl refl) (either _ (leaf refl refl) (either _ (leaf refl refl) (either _ (leaf refl refl) (leaf refl refl)))))
 
   connRes-quiet : (link id : ℕ) (b : LeCreditConnResRead) → Quiet (onConnRes t link id b)
   unfolding onConnRes
   connRes-quiet link id LeCreditConnRes.Decode = leaf refl refl
-  connRes-quiet link id (LeCreditConnRes.Is f) = either _ (leaf refl refl) (either _ (leaf refl refl) (leaf refl refl))
+  connRes-quiet link id (LeCreditConnRes.Is f) = either _ (leaf refl refl) (either _ (leaf refl refl) (either _ (leaf refl refl) (leaf refl refl)))
 
   credits-quiet : (link id : ℕ) (b : LeCreditFlowIndRead) → Quiet (onCredits t link id b)
   unfolding onCredits

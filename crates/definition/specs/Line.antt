@@ -166,6 +166,10 @@ ask r = plain r (window 0 18) (window 18 4)
 abbrev pub peer : (credits : ℕ) → Peer
 peer n = record { cid = 0x40; mps = 23; mtu = 30; credits = n }
 
+-- .. or with that MTU and MPS, and 3 credits
+abbrev pub peerOf : (mtu mps : ℕ) → Peer
+peerOf mtu mps = record { cid = 0x40; mps = mps; mtu = mtu; credits = 3 }
+
 abbrev pub nobody : Peer
 nobody = record { cid = 0; mps = 0; mtu = 0; credits = 0 }
 
@@ -228,6 +232,10 @@ quiet k l h = channel k l h (every 1 3 0) (peer 3) idle none
 abbrev pub connected : (link hold : ℕ) → Slot
 connected l h = quiet Connected l h
 
+-- a slot with another MPS of ours
+abbrev pub narrow : (mps : ℕ) → Slot → Slot
+narrow mps x = record { state = x .state; link = x .link; spsm = x .spsm; mps = mps; mtu = x .mtu; account = x .account; hold = x .hold; peer = x .peer; assembly = x .assembly; queue = x .queue; job = x .job }
+
 -- Past N stands a channel of link 1 in which everything waits.
 abbrev pub two : Slot → Slot → Table
 two x y = three x y (channel Connected 1 1 (every 1 3 0) (peer 65535) (partly 1 2) (one 1))
@@ -249,13 +257,19 @@ sized mtu mps = record { mtu = Setting.Is mtu; mps = Setting.Is mps; policy = Mi
 
 -- ---- signals that come, and replies
 
--- 0x14: MTU 30, MPS 23, 3 credits
-abbrev pub request : (id spsm scid : ℕ) → List ℕ
-request id spsm scid = 0x14 ∷ id ∷ 10 ∷ 0 ∷ le16 spsm ++ le16 scid ++ (30 ∷ 0 ∷ 23 ∷ 0 ∷ 3 ∷ 0 ∷ [])
+-- 0x14: 3 credits, with that MTU and MPS; with MTU 30 and MPS 23
+abbrev pub requestOf : (mtu mps id spsm scid : ℕ) → List ℕ
+requestOf mtu mps id spsm scid = 0x14 ∷ id ∷ 10 ∷ 0 ∷ le16 spsm ++ le16 scid ++ (mtu ∷ 0 ∷ mps ∷ 0 ∷ 3 ∷ 0 ∷ [])
 
--- 0x15: CID 0x40, MTU 30, MPS 23, 3 credits
+abbrev pub request : (id spsm scid : ℕ) → List ℕ
+request id spsm scid = requestOf 30 23 id spsm scid
+
+-- 0x15: CID 0x40, 3 credits, with that MTU and MPS; with MTU 30 and MPS 23
+abbrev pub responseOf : (mtu mps id result : ℕ) → List ℕ
+responseOf mtu mps id result = 0x15 ∷ id ∷ 10 ∷ 0 ∷ 0x40 ∷ 0 ∷ mtu ∷ 0 ∷ mps ∷ 0 ∷ 3 ∷ 0 ∷ result ∷ 0 ∷ []
+
 abbrev pub response : (id result : ℕ) → List ℕ
-response id result = 0x15 ∷ id ∷ 10 ∷ 0 ∷ 0x40 ∷ 0 ∷ 30 ∷ 0 ∷ 23 ∷ 0 ∷ 3 ∷ 0 ∷ result ∷ 0 ∷ []
+response id result = responseOf 30 23 id result
 
 -- 0x16
 abbrev pub credits : (cid n : ℕ) → List ℕ

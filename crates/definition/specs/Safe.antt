@@ -226,7 +226,7 @@ module _ (t : Table) (fit : Fit t) where
   unfolding onConnReq
   connReq-safe link listening id LeCreditConnReq.Decode = still-does on itself
   connReq-safe link listening id (LeCreditConnReq.Is req) =
-      else-does on _ _ _ itself λ _. else-does on _ _ _ itself λ _. else-does on _ _ _ itself λ _. else-does on _ _ _ itself λ a.
+      else-does on _ _ _ itself λ _. else-does on _ _ _ itself λ _. else-does on _ _ _ itself λ _. else-does on _ _ _ itself λ _. else-does on _ _ _ itself λ a.
       change-does on _ itself a (allotted (free-slot t fit a) refl)
 
   connRes-safe : {l : Holder} (link id : ℕ) (b : LeCreditConnResRead) → Safe t l (onConnRes t link id b)
@@ -237,7 +237,7 @@ module _ (t : Table) (fit : Fit t) where
       let s : ℕ = found (attemptBy link id) t in
       let x : Slot = slotAt t s in
       let e = own isConnecting refl s (and-left (isConnecting (x .state)) _ (and-left (attemptOf link x) _ (found-passes t fit (attemptBy link id) a))) in
-      if-does on (λ _. change-does on s itself a (kept e refl)) λ _. change-does on s itself a (kept e refl)
+      if-does on (λ _. change-does on s itself a (kept e refl)) λ _. if-does on (λ _. change-does on s itself a (kept e refl)) λ _. change-does on s itself a (kept e refl)
 
   credits-safe : {l : Holder} (link id : ℕ) (b : LeCreditFlowIndRead) → Safe t l (onCredits t link id b)
   unfolding onCredits

@@ -20,6 +20,7 @@ use Rattle.channel.specs.Limits.{creditsMost}
 use Rattle.channel.specs.declared.Answer.the-variants.{Done, Refused, Event}
 use Rattle.channel.specs.declared.ChannelState.the-variants.{PeerConnecting, Connected, ConnectFailed, PeerDisconnecting, Disconnecting}
 use Rattle.channel.specs.declared.Given.the-variants.{Nothing, Is}
+use Rattle.channel.specs.declared.Peer.{Peer}
 use Rattle.channel.specs.declared.Slot.{Slot}
 use Rattle.channel.specs.declared.Table.{Table}
 use Rattle.definition.specs.Readers.{CommandRejectResRead, DisconnectionReqRead, DisconnectionResRead, ConnParamUpdateReqRead, ConnParamUpdateResRead, LeCreditConnReqRead, LeCreditConnResRead, LeCreditFlowIndRead}
@@ -28,7 +29,7 @@ use Rattle.definition.specs.Readers.{commandRejectRes, disconnectionReq,
 use Rattle.definition.specs.Mem.{Fill, given}
 use Rattle.definition.specs.States.{isDisconnecting}
 use Rattle.definition.specs.Slots.{inState, withPeer, withPeerCredits}
-use Rattle.definition.specs.Table.{if_then_else_, slotAt, found, fresh, isFree, ofLink, attemptOf, attemptBy, connectedTo, usesPeer, isCid, slotOf, isRegistered}
+use Rattle.definition.specs.Table.{if_then_else_, slotAt, found, fresh, isFree, ofLink, attemptOf, attemptBy, connectedTo, usesPeer, belowLeast, isCid, slotOf, isRegistered}
 use Rattle.definition.specs.Outcome.{Outcome, still, change, sweep, refuse, done, freeing, leaving, gate}
 use Rattle.definition.specs.Pending.{refusedResponse}
 
@@ -48,7 +49,12 @@ onBody t id bad rule = badBody t id
 onBody t id (read x) rule = rule x
 
 -- ---- 0x14 (4.22): "SPSM not registered → result 2; not listening → 4; peer CID used on this link by a slot not Disconnected → 10 ..;
--- no free slot → 4. Else the lowest free slot becomes PeerConnecting. All of these answer 0."
+-- no free slot → 4. Else the lowest free slot becomes PeerConnecting. All of these answer 0." "A connect request below either [least] gets result 0x000B ..
+-- the request test follows the listening test" (document 02).
+
+-- The sender's side of the channel, as its request tells it.
+abbrev pub requester : LeCreditConnReq → Peer
+requester req = record { cid = req .scid; mps = req .mps; mtu = req .mtu; credits = req .credits }
 
 abbrev pub pending : (link id : ℕ) → LeCreditConnReq → Slot
 pending link id req =
@@ -60,7 +66,7 @@ pending link id req =
       mtu = 0;
       account = fresh 0 .account;
       hold = 0;
-      peer = record { cid = req .scid; mps = req .mps; mtu = req .mtu; credits = req .credits };
+      peer = requester req;
       assembly = fresh 0 .assembly;
       queue = fresh 0 .queue;
       job = fresh 0 .job;
@@ -72,18 +78,26 @@ onConnReq t link listening id b =
     let s = found isFree t in
     if not (isRegistered t (req .spsm)) then still t Done (refusedResponse id Result.SpsmNotSupported)
     else if not listening then still t Done (refusedResponse id Result.NoResources)
+    else if belowLeast (requester req) then still t Done (refusedResponse id Result.UnacceptableParameters)
     else if ltb (found (usesPeer link (req .scid)) t) (t .n) then still t Done (refusedResponse id Result.ScidAlreadyAllocated)
     else if leb (t .n) s then still t Done (refusedResponse id Result.NoResources)
     else change t s (pending link id req) [] Done []
 
 -- ---- 0x15 (4.23): "matched to the lowest Connecting slot with that identifier and link"; row 8: "unmatched connect response frees all
--- Connecting slots of that link"; row 17: "a response leaves ConnectFailed"
+-- Connecting slots of that link"; row 17: "a response leaves ConnectFailed". "A good response below either [least] leaves the slot Disconnecting, its numbers
+-- stored", and gives 9 (document 02).
+
+-- The sender's side of the channel, as its response tells it.
+abbrev pub responder : LeCreditConnRes → Peer
+responder res = record { cid = res .dcid; mps = res .mps; mtu = res .mtu; credits = res .credits }
 
 abbrev pub answered : Table → (slot : ℕ) → LeCreditConnRes → Outcome
 answered t s res =
     let x = slotAt t s in
-    if eqb (resultNumber (res .result)) 0 then change t s (inState Connected (withPeer (record { cid = res .dcid; mps = res .mps; mtu = res .mtu; credits = res .credits }) x)) [] Done []
-    else change t s (inState (ConnectFailed (res .result)) x) [] (Refused (ConnectError (res .result))) []
+    let y = withPeer (responder res) x in
+    if not (eqb (resultNumber (res .result)) 0) then change t s (inState (ConnectFailed (res .result)) x) [] (Refused (ConnectError (res .result))) []
+    else if belowLeast (responder res) then change t s (inState (Disconnecting false) y) [] (Refused InvalidValue) []
+    else change t s (inState Connected y) [] Done []
 
 unfoldable pub onConnRes : Table → (link id : ℕ) → LeCreditConnResRead → Outcome
 onConnRes t link id b =

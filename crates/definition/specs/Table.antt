@@ -11,11 +11,12 @@ use Rattle.lists.specs.Every.{every}
 use Rattle.credit.specs.declared.CreditFlowPolicy.the-variants.{Every}
 use Rattle.credit.specs.Account.{newAccount, creditSum}
 use Rattle.sar_join.specs.Joining.{idle}
-use Rattle.channel.specs.Limits.{slotsMost, depthMost, packetLeast, packetMost, frameHead, jobHead, cidBase, identifierMost, spsmMost, creditsMost}
+use Rattle.channel.specs.Limits.{slotsMost, depthMost, packetLeast, packetMost, frameHead, jobHead, cidBase, identifierMost, spsmMost, creditsMost, sizeLeast}
 use Rattle.channel.specs.declared.ChannelIndex.{ChannelIndex}
 use Rattle.channel.specs.declared.Cid.{Cid}
 use Rattle.channel.specs.declared.ChannelState.the-variants.{Disconnected}
 use Rattle.channel.specs.declared.OpenJob.{OpenJob}
+use Rattle.channel.specs.declared.Peer.{Peer}
 use Rattle.channel.specs.declared.Queue.{Queue}
 use Rattle.channel.specs.declared.Slot.{Slot}
 use Rattle.channel.specs.declared.Table.{Table}
@@ -133,6 +134,12 @@ dueSlot x = isDue (x .state)
 -- "a job waits, a disconnect is due or ConnectFailed stands"
 abbrev pub calls : Slot → Bool
 calls x = ltb 0 (x .queue .count) || (isDue (x .state) || isConnectFailed (x .state))
+
+-- ---- "Core sets 23 as the least for MTU and for MPS" (document 02; Core Vol 3 Part A 4.22, 4.23)
+
+-- a peer "below either"
+abbrev pub belowLeast : Peer → Bool
+belowLeast p = ltb (p .mtu) sizeLeast || ltb (p .mps) sizeLeast
 
 -- ---- the table with other slots
 

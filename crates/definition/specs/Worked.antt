@@ -48,7 +48,7 @@ use Rattle.definition.specs.Asking.{make, registerSpsm, attention, lowes
 use Rattle.definition.specs.Calls.{Call, Request, frame, sends, down, plain, register, signals, pends, rejectsAll, accepts, rejects, drops, creates, opens, gives, holds, releases, leaves, leavesCid, announces, takes, attends, asks, sendsSignal, jobs, bare, serve, decide}
 use Rattle.definition.specs.Numbers.{answerNumber}
 use Rattle.definition.specs.Run.{State, outcome, after, made, run, outcomes}
-use Rattle.definition.specs.Line.{_⊢_⇒_, _&_, Hold, Agree, Told, refused, answered, told, ask, start, window, three, two, counting, knowing, place, begins, no, yes, slots, next, part0, part1, wiped0, wiped1, cleared0, cleared1, writes, hands, peer, every, threshold, idle, partly, none, one, both, free, wish, asked, ours, failed, granted, channel, quiet, connected, usual, sized, request, response, credits, leaving, gone, parameters, reject, refusal}
+use Rattle.definition.specs.Line.{_⊢_⇒_, _&_, Hold, Agree, Told, refused, answered, told, ask, start, window, three, two, counting, knowing, place, begins, no, yes, slots, next, part0, part1, wiped0, wiped1, cleared0, cleared1, writes, hands, peer, peerOf, every, threshold, idle, partly, none, one, both, free, wish, asked, attempt, ours, failed, granted, channel, quiet, connected, narrow, usual, sized, requestOf, request, responseOf, response, credits, leaving, gone, parameters, reject, refusal}
 
 -- ---- a run: two phones, each on its link, with the same identifier and the same CID. The first's job comes in three frames, the second's
 -- between them; the first is sent a job in three frames. What a phone says of the CID that both use, or of the other's slot, touches its
@@ -334,6 +334,10 @@ peripheral link pdu = ask (signals link true false pdu)
 abbrev half : Slot
 half = channel Connected 1 1 (every 1 2 1) (peer 3) (partly 2 5) (one 4)
 
+-- an attempt as no run has it: half a job is there, and another waits
+abbrev begun : Slot → Slot
+begun x = record { state = x .state; link = x .link; spsm = x .spsm; mps = x .mps; mtu = x .mtu; account = x .account; hold = x .hold; peer = x .peer; assembly = partly 2 5; queue = one 4; job = x .job }
+
 record Signal-lines : Type 0 where
   -- every header first: in these a good request for a channel stands before the bad header, and nothing comes of it
   headers : Hold (
@@ -372,6 +376,16 @@ record Signal-lines : Type 0 where
       ∷ two (free 0) (free 0) ⊢ hear 1 (request 7 0x180 0x40) ⇒ yes Done & writes (refusal 7 2)
       ∷ two (free 0) (free 0) ⊢ deaf 1 (0x14 ∷ 7 ∷ 9 ∷ 0 ∷ replicate 9 0) ⇒ no 15 & writes (reject 7 0)  -- bad body, before all
       ∷ [])
+  -- the least MTU and MPS, between listening and the peer's CID
+  least-request : Hold (
+      two (free 0) (free 0) ⊢ hear 1 (requestOf 22 23 7 0x80 0x40) ⇒ yes Done & writes (refusal 7 11)  -- MTU
+      ∷ two (free 0) (free 0) ⊢ hear 1 (requestOf 23 22 7 0x80 0x40) ⇒ yes Done & writes (refusal 7 11)  -- MPS
+      ∷ two (free 0) (free 0) ⊢ hear 1 (requestOf 23 23 7 0x80 0x40) ⇒ yes Done & slots (wish (PeerConnecting 7) 1 0 (peerOf 23 23)) (free 0)
+      ∷ two (free 0) (free 0) ⊢ hear 1 (requestOf 10 10 7 0x81 0x40) ⇒ yes Done & writes (refusal 7 2)  -- SPSM before it
+      ∷ two (free 0) (free 0) ⊢ deaf 1 (requestOf 10 10 7 0x80 0x40) ⇒ yes Done & writes (refusal 7 4)  -- listening before it
+      ∷ two (connected 1 1) (free 0) ⊢ hear 1 (requestOf 30 10 7 0x80 0x40) ⇒ yes Done & writes (refusal 7 11)  -- before peer CID
+      ∷ two (connected 1 1) (connected 2 1) ⊢ hear 1 (requestOf 0 23 7 0x80 0x41) ⇒ yes Done & writes (refusal 7 11)  -- before no free slot
+      ∷ [])
   -- with every bit set: of the SPSMs 0, 1, 255 and 256 those that are registered
   spsms : map (λ n. slotAt (outcome (start (knowing (replicate 32 255) (two (free 0) (free 0)))) (hear 1 (request 7 n 0x40)) .table) 0 .state) (0 ∷ 1 ∷ 255 ∷ 256 ∷ [])
       ≡ Disconnected ∷ PeerConnecting 7 ∷ PeerConnecting 7 ∷ Disconnected ∷ []
@@ -385,6 +399,15 @@ record Signal-lines : Type 0 where
       ∷ two (asked 1 7 0) (ours 1 8 0) ⊢ hear 1 (response 7 0) ⇒ no 8 & slots (asked 1 7 0) (free 0) & wiped1  -- Connecting alone
       ∷ two (ours 1 7 0) (ours 1 8 0) ⊢ hear 1 (response 9 3) ⇒ no 15 & writes (reject 9 0)  -- no result code, before the match
       ∷ two (ours 1 7 0) (ours 1 8 0) ⊢ hear 1 (0x15 ∷ 9 ∷ 11 ∷ 0 ∷ replicate 11 0) ⇒ no 15 & writes (reject 9 0)  -- bad body, before the match
+      ∷ [])
+  -- .. of a good response: its numbers are stored, nothing is written, and the room stays
+  least-response : Hold (
+      two (ours 1 7 1) (ours 1 8 0) ⊢ hear 1 (responseOf 22 23 7 0) ⇒ no 9 & slots (attempt (Disconnecting false) 1 1 (peerOf 22 23)) (ours 1 8 0)  -- MTU
+      ∷ two (ours 1 7 1) (ours 1 8 0) ⊢ hear 1 (responseOf 23 22 8 0) ⇒ no 9 & slots (ours 1 7 1) (attempt (Disconnecting false) 1 0 (peerOf 23 22))  -- MPS
+      ∷ two (ours 1 7 1) (ours 1 8 0) ⊢ hear 1 (responseOf 23 23 7 0) ⇒ yes Done & slots (attempt Connected 1 1 (peerOf 23 23)) (ours 1 8 0)
+      ∷ two (begun (ours 1 7 1)) (free 0) ⊢ hear 1 (responseOf 30 10 7 0) ⇒ no 9 & slots (begun (attempt (Disconnecting false) 1 1 (peerOf 30 10))) (free 0)  -- an assembly is left alone
+      ∷ two (ours 1 7 1) (ours 1 8 0) ⊢ hear 1 (responseOf 0 0 7 4) ⇒ no 17 & slots (failed 1 NoResources 1) (ours 1 8 0)  -- the result before it
+      ∷ two (ours 1 7 1) (ours 2 8 0) ⊢ hear 1 (responseOf 10 10 8 0) ⇒ no 8 & slots (free 1) (ours 2 8 0) & wiped0  -- the match before it
       ∷ [])
   -- 17 comes with the code
   code : outcome (start (two (ours 1 7 0) (free 0))) (hear 1 (response 7 10)) .answer ≡ Refused (ConnectError ScidAlreadyAllocated)
@@ -441,8 +464,10 @@ signal-lines =
       headers = refl;
       codes = refl;
       connect-request = refl;
+      least-request = refl;
       spsms = refl;
       connect-response = refl;
+      least-response = refl;
       code = refl;
       credit-signal = refl;
       disconnect-request = refl;
@@ -505,10 +530,26 @@ record Frame-lines : Type 0 where
       ∷ two (at 3 0 (partly 2 5) (one 4)) (free 0) ⊢ frame 1 0x40 (3 ∷ 0 ∷ 9 ∷ []) ⇒ yes Done & slots (at 2 1 idle (both 4 5)) (free 0)
       & part0 (place 0) (place 2) (begins (1 ∷ 1 ∷ 3 ∷ 0 ∷ 9 ∷ []) 3)  -- exact: no octet of it is a length
       ∷ [])
+  -- held to our own MPS, the length octets of a first frame counted: behind the credit, before all that joining asks
+  long-frames : Hold (
+      two (narrow 3 (at 3 0 idle (one 4))) (free 0) ⊢ frame 1 0x40 (9 ∷ 0 ∷ 7 ∷ 8 ∷ []) ⇒ no 9 & slots (narrow 3 (ended (one 4))) (free 0) & cleared0  -- a first frame
+      ∷ two (narrow 4 (at 3 0 idle (one 4))) (free 0) ⊢ frame 1 0x40 (9 ∷ 0 ∷ 7 ∷ 8 ∷ []) ⇒ yes Done & slots (narrow 4 (at 2 1 (partly 2 9) (one 4))) (free 0)
+      & part0 (begins (7 ∷ 8 ∷ []) 1) (place 2) (place 3)
+      ∷ two (narrow 2 (at 3 0 (partly 2 9) none)) (free 0) ⊢ frame 1 0x40 (7 ∷ 8 ∷ 9 ∷ []) ⇒ no 9 & slots (narrow 2 (ended none)) (free 0) & cleared0  -- a joining frame
+      ∷ two (narrow 2 (at 3 0 (partly 2 9) none)) (free 0) ⊢ frame 1 0x40 (7 ∷ 8 ∷ []) ⇒ yes Done & slots (narrow 2 (at 2 1 (partly 4 9) none)) (free 0)
+      & part0 (begins (1 ∷ 1 ∷ 7 ∷ 8 ∷ []) 1) (place 2) (place 3)
+      ∷ two (narrow 0 (quiet (Disconnecting false) 1 1)) (free 0) ⊢ frame 1 0x40 (5 ∷ []) ⇒ yes Done  -- state before it
+      ∷ two (narrow 0 (at 3 0 idle none)) (free 0) ⊢ frame 2 0x40 (5 ∷ []) ⇒ no 8  -- link before it
+      ∷ two (narrow 0 (at 0 3 idle none)) (free 0) ⊢ frame 1 0x40 (5 ∷ []) ⇒ no 10  -- credit before it
+      ∷ two (narrow 0 (at 3 0 idle none)) (free 0) ⊢ frame 1 0x40 (5 ∷ []) ⇒ no 9 & slots (narrow 0 (ended none)) (free 0) & cleared0  -- before 19
+      ∷ two (narrow 1 (at 3 0 idle (both 4 4))) (free 0) ⊢ frame 1 0x40 (0 ∷ 0 ∷ []) ⇒ no 9 & slots (narrow 1 (ended (both 4 4))) (free 0) & cleared0  -- before 21
+      ∷ two (narrow 1 (at 3 0 (partly 2 4) (both 4 4))) (free 0) ⊢ frame 1 0x40 (7 ∷ 8 ∷ []) ⇒ no 9 & slots (narrow 1 (ended (both 4 4))) (free 0) & cleared0
+      ∷ two (narrow 0 (at 3 0 idle none)) (free 0) ⊢ frame 1 0x40 [] ⇒ no 19 & slots (narrow 0 (ended none)) (free 0) & cleared0
+      ∷ [])
 
 frame-lines : Frame-lines
 unfolding after decide serve jobs bare dispatch joined joinStep firstStep reached assembled verdict wellFormed slotFits Each.every first only choose parts moves move fill fills written
-frame-lines = record { refusals = refl; first-frames = refl; joining-frames = refl }
+frame-lines = record { refusals = refl; first-frames = refl; joining-frames = refl; long-frames = refl }
 
 -- ---- sending
 
@@ -848,20 +889,23 @@ making-lines = record { limits = refl; short = refl; no-slots = refl; left = ref
 -- link down      not Disconnected 3; link 2
 -- next disconnect  announced 1; none > PeerDisconnecting 2; PeerDisconnecting 3, 5
 -- headers        empty 1; under 4 > past 3; past 4. Codes: each in its own lines; unknown codes 6, 7
--- 0x14           body > all 18; SPSM 1, spsms, > listening 2; listening 3, > peer CID 4; peer CID 5, 13, > no slot 6, not Disconnected 11, link 10, 12; no slot 14
--- 0x15           body, code > match 9, 8; Connecting 7; link 1, 5; identifier 2; none > result 6; result 4; freed: link 5, Connecting 7
+-- 0x14           body > all 18; SPSM 1, spsms, > listening 2; listening 3, > peer CID 4; peer CID 5, 13, > no slot 6, not Disconnected 11, link 10, 12; no slot 14.
+--                least-request: MTU 1, MPS 2, neither at 23 3; SPSM > least 4; listening > least 5; least > peer CID 6, > no slot 7
+-- 0x15           body, code > match 9, 8; Connecting 7; link 1, 5; identifier 2; none > result 6; result 4; freed: link 5, Connecting 7.
+--                least-response: MTU 1, MPS 2, neither at 23 3; an assembly 4; result > least 5; none > least 6
 -- 0x16           body 8; Connected 5; link 1; peer CID 4; none > sum 5; sum 6, 7
 -- 0x06           body 8; CID 4, 5; link 6; not Disconnected 7. 0x07: body 9; CID 3, 4; Disconnecting 5, 6, 8; link 7
 -- 0x12           Central 1, > body 2; body 3; the seven conditions: invalid, and their limits 4 to 6. 0x01, 0x13: bodies codes 1 to 5
--- frame in       CID 1, 2, > state 3; state 4, > link 5; link 6, > credit 7; credit 8, > 19 9
+-- frame in       CID 1, 2, > state 3; state 4, > link 5; link 6, > credit 7; credit 8, > 19 9.
+--                long-frames: MPS 1, 3, at the limit 2, 4, 11; state > MPS 5; link > MPS 6; credit > MPS 7; MPS > 19 8, > 21 9, 10
 -- first frame    idle 12, 13; 19 1, > MTU 2; MTU 3, 4; more 5, > 21 6; fewer 7, > 21 8; 21 9. Joining: not idle 3, 4, 6; overrun 1, > 21 2; fewer 3, > 21 3; 21 5
 -- send           11 1, > 12 2; 12 3, > 23 4; 23 5, > 20 6; 20 7, > 14 8; 14 9, > 3 10; 3 11
 -- take           each state > none: states 1 to 4; none 5; grants Connected only 7, 8; never 0 policies 3, 6; Every 1, 2; MinThreshold 4, 5
 -- attention      a job 3; a disconnect due 2, 5; ConnectFailed 4. Lowest free: Disconnected, no hold: lowest-free
 -- every state    of each test of a state, in each of the states: State-lines
 --
--- What no line can tell, on any table: where two neighbours give one answer and leave the same (MPS and MTU; link down and disconnecting in the
--- opened query; CID and link of 0x06; CID and state of 0x07; an SDU length above the MTU and more octets than it; the two reasons for no
+-- What no line can tell, on any table: where two neighbours give one answer and leave the same (MPS and MTU, of ours and of a peer's; link down and disconnecting in the
+-- opened query; CID and link of 0x06; CID and state of 0x07; a frame above our MPS, an SDU length above the MTU and more octets than it; the two reasons for no
 -- grant), or exclude one another (signal codes, result codes; disconnecting and failed; hold 0 and 1 in a release; overrun and fewer), their
 -- order. And two tests that a test before them leaves nothing to: that an SPSM above 255 is not registered (its bit would stand past the 32
 -- octets), that a Disconnected slot is not PeerDisconnecting (a free slot is never asked).

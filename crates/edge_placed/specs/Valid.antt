@@ -102,9 +102,10 @@ module _ (d place q : ℕ) where
   step-fits : (x : Slot) (n said : ℕ) → x .mtu ≤ place → x .assembly .want ≤ place → Fitting d place q (joinStep (x .mtu) (x .mps) d (x .assembly) q n said)
   unfolding joinStep firstStep
   step-fits x n said m w =
-      if-cases (Fitting d place q) (eqb (x .assembly .want) 0)
+      if-cases (Fitting d place q) (ltb (x .mps) n) (λ _. tt)
+      (λ _. if-cases (Fitting d place q) (eqb (x .assembly .want) 0)
       (λ _. if-cases (Fitting d place q) (ltb n 2) (λ _. tt) (λ _. if-cases (Fitting d place q) (ltb (x .mtu) said) (λ _. tt) (λ e. reached-fits said (n - 2) (omega (arith, ltb-false (x .mtu) said e)))))
-      (λ _. reached-fits (x .assembly .want) (x .assembly .have + n) w)
+      (λ _. reached-fits (x .assembly .want) (x .assembly .have + n) w))
 
 -- ---- a frame
 

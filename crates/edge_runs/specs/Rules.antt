@@ -13,9 +13,9 @@ use Rattle.lists.specs.Choose.{if-cases}
 use Rattle.codes.specs.declared.Refusal.{Refusal}
 use Rattle.sar_cut.specs.declared.Plan.{Plan}
 use Rattle.sar_cut.specs.declared.Plan.the-variants as Plan
-use Rattle.sar_cut.specs.Cutting.{payloads, framesOf}
+use Rattle.sar_cut.specs.Cutting.{payloads, AllWithin, framesOf}
 use Rattle.credit.specs.Account.{creditSum}
-use Rattle.channel.specs.Limits.{handleMost, signalMost, identifierMost, creditsMost}
+use Rattle.channel.specs.Limits.{handleMost, signalMost, identifierMost, creditsMost, sizeLeast}
 use Rattle.channel.specs.declared.Answer.the-variants.{Frames}
 use Rattle.channel.specs.declared.Slot.{Slot}
 use Rattle.channel.specs.declared.Table.{Table}
@@ -33,8 +33,8 @@ use Rattle.rules.specs.Run as Run
 use Rattle.rules.specs.Forms.{gate-cases}
 use Rattle.rules.specs.Places.{jobIn}
 use Rattle.rules.specs.RoomRule.{Empty, room-rule, unbegun-empty, free-fresh, new-connection, connection-begins}
-use Rattle.rules.specs.Rules.{well-formed, identifiers, credit-sum}
-use Rattle.rules.specs.Tests.{begun}
+use Rattle.rules.specs.Rules.{well-formed, identifiers, credit-sum, peer-least, never-20}
+use Rattle.rules.specs.Tests.{begun, offered}
 use Rattle.rules_jobs.specs.Rejoin.{jobAt, Receiver, Rejoined, Unchanged, Arrives}
 use Rattle.rules_jobs.specs.Rejoin as Rejoin
 use Rattle.rules_jobs.specs.Sending.{sends-frames, exact-rejoining, exact-taking}
@@ -90,7 +90,8 @@ pub entered-state : {s : EdgeState} → ReachedAt s → (a : Asked) → Apart (o
 unfolding spells
 entered-state r a apart o = let p = spells r in said (spells (next a r apart o)) ∙ ap (λ (x : State). after x (callIn a)) (sym (said p))
 
--- ---- the table that the octets spell is never one that 1 refuses; identifiers are 1 to 255; credits held plus received never pass 65,535
+-- ---- the table that the octets spell is never one that 1 refuses; identifiers are 1 to 255; credits held plus received never pass 65,535; a PeerConnecting or
+-- Connected slot's peer MTU and MPS are at least 23
 
 pub well-formed-at : {s : EdgeState} → ReachedAt s → wellFormed (stateOf s .table) ≡ true
 well-formed-at r = well-formed (reached r)
@@ -100,6 +101,10 @@ identifiers-at r = identifiers (reached r)
 
 pub credit-sum-at : {s : EdgeState} → ReachedAt s → (i : ℕ) → i < stateOf s .table .n → creditSum (slotAt (stateOf s .table) i .account) ≤ creditsMost
 credit-sum-at r = credit-sum (reached r)
+
+pub peer-least-at : {s : EdgeState} → ReachedAt s → (i : ℕ) → i < stateOf s .table .n → offered (slotAt (stateOf s .table) i .state) ≡ true
+    → (sizeLeast ≤ slotAt (stateOf s .table) i .peer .mtu) × (sizeLeast ≤ slotAt (stateOf s .table) i .peer .mps)
+peer-least-at r = peer-least (reached r)
 
 -- ---- "Every octet of room that holds no octet of a live job is zero": octet j of place k of slot i
 
@@ -169,6 +174,10 @@ out-at {s} r a = ap (λ (x : EdgeState). edgeOf x a .out) (spelling r) ∙ out-i
 job-at : {s : EdgeState} → ReachedAt s → (a : Asked) → edgeOf s a .job ≡ sets (lent (jobWindow (callIn a)) (s .memory)) 0 (fills itself (jobs (stateOf s .table) (callIn a)) (s .room) (outcome (stateOf s) (callIn a) .job))
 job-at {s} r a = ap (λ (x : EdgeState). edgeOf x a .job) (spelling r) ∙ job-is (stateOf s) (sized-at r) a ∙ job-written (stateOf s) (callIn a)
 
+-- so no entry returns 20
+pub never-20-at : {s : EdgeState} → ReachedAt s → (a : Asked) → InOctets (a .entry) → edgeOf s a .number ≡ 20 → ⊥
+never-20-at r a o e = never-20 (reached r) (callIn a) (entry-fits (a .entry) o) (sym (number-at r a) ∙ e)
+
 pub send-writes : {s : EdgeState} → ReachedAt s → (w : Window) (j : ℕ) (sdu answer : List ℕ) → edgeOf s (sending w j sdu answer) .number ≡ 0
     → edgeOf s (sending w j sdu answer) .out ≡ sets (lent w (s .memory)) 0 (framesOf (slotIn s j .peer .cid) (slotIn s j .peer .mps) sdu)
 unfolding jobs
@@ -198,16 +207,16 @@ arrives {i} {link} {s′ = s′} (comes {ps = ps} p answer v) r =
     let h : Apart (outWindow (callIn (framing link i p answer))) (jobWindow (callIn (framing link i p answer))) = inl (omega arith) in
     Rejoin.comes p (subst (λ (x : State). Arrives i link ps x (stateOf s′)) (entered-state r (framing link i p answer) h tt) (arrives v (next (framing link i p answer) r h tt)))
 
--- An l2cap_send returned 0, in any run. The receiver, in a run of its own, is Connected and idle with a credit for each frame, a free queue place and MTU ≥ L;
--- the frames' payloads come in order on their own link. Then the job waits there, whole, behind those that waited before, which are unchanged.
+-- An l2cap_send returned 0, in any run. The receiver, in a run of its own, is Connected and idle with a credit for each frame, a free queue place, MTU ≥ L and an MPS
+-- that no frame's payload passes; the frames' payloads come in order on their own link. Then the job waits there, whole, behind those that waited before, which are unchanged.
 pub exact-rejoining-at : {sender : EdgeState} → ReachedAt sender → (w : Window) (j : ℕ) (sdu answer : List ℕ) → edgeOf sender (sending w j sdu answer) .number ≡ 0
     → {s s′ : EdgeState} → ReachedAt s → (i link : ℕ) → link ≤ handleMost → Receiver (stateOf s) i link (length (payloads (slotIn sender j .peer .mps) sdu))
-    → slotIn s i .assembly .want ≡ 0 → length sdu ≤ slotIn s i .mtu → ArrivesAt i link (payloads (slotIn sender j .peer .mps) sdu) s s′
+    → slotIn s i .assembly .want ≡ 0 → length sdu ≤ slotIn s i .mtu → AllWithin (slotIn s i .mps) (payloads (slotIn sender j .peer .mps) sdu) → ArrivesAt i link (payloads (slotIn sender j .peer .mps) sdu) s s′
     → Rejoined (stateOf s′) i sdu (slotIn s i .queue .count) (jobAt (stateOf s) i)
-exact-rejoining-at {sender} q w j sdu answer e {s} r i link handle v z m arrived =
+exact-rejoining-at {sender} q w j sdu answer e {s} r i link handle v z m b arrived =
     let a = send-answered (stateOf sender) j sdu w (sym (number-at q (sending w j sdu answer)) ∙ e) in
     let f = sends-frames (stateOf sender) j sdu w (a .link) (a .count) (a .is) in
-    exact-rejoining (stateOf sender) j sdu w (a .link) (a .count) (a .is) i link handle (reached r) (subst (λ (n : ℕ). Receiver (stateOf s) i link n) (f .count) v) z m (arrives arrived r)
+    exact-rejoining (stateOf sender) j sdu w (a .link) (a .count) (a .is) i link handle (reached r) (subst (λ (n : ℕ). Receiver (stateOf s) i link n) (f .count) v) z m b (arrives arrived r)
 
 -- Where no job waited before it, the next l2cap_receive returns 0 and hands out the SDU: it stands at the start of the job buffer.
 abbrev pub taking : (w v : Window) (slot : ℕ) (answer : List ℕ) → Asked

@@ -178,12 +178,12 @@ module _ (t : Table) where
   connReq-worked : (link : ℕ) (listening : Bool) (id : ℕ) (b : LeCreditConnReqRead) → Worked (onConnReq t link listening id b)
   unfolding onConnReq
   connReq-worked link listening id LeCreditConnReq.Decode = leaf refl refl refl
-  connReq-worked link listening id (LeCreditConnReq.Is f) = either _ (leaf refl refl refl) (either _ (leaf refl refl refl) (either _ (leaf refl refl refl) (either _ (leaf refl refl refl) (leaf refl refl refl))))
+  connReq-worked link listening id (LeCreditConnReq.Is f) = either _ (leaf refl refl refl) (either _ (leaf refl refl refl) (either _ (leaf refl refl refl) (either _ (leaf refl refl refl) (either _ (leaf refl refl refl) (leaf refl refl refl)))))
 
   connRes-worked : (link id : ℕ) (b : LeCreditConnResRead) → Worked (onConnRes t link id b)
   unfolding onConnRes sizes
   connRes-worked link id LeCreditConnRes.Decode = leaf refl refl refl
-  connRes-worked link id (LeCreditConnRes.Is f) = either _ (leaf refl refl refl) (either _ (leaf refl refl refl) (leaf refl refl refl))
+  connRes-worked link id (LeCreditConnRes.Is f) = either _ (leaf refl refl refl) (either _ (leaf refl refl refl) (either _ (leaf refl refl refl) (leaf refl refl refl)))
 
   credits-worked : (link id : ℕ) (b : LeCreditFlowIndRead) → Worked (onCredits t link id b)
   unfolding onCredits

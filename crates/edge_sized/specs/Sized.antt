@@ -193,7 +193,7 @@ module _ (t : Table) (w : Sized t) where
   unfolding onConnReq
   connReq-keeps link listening id LeCreditConnReq.Decode = still-keeps w itself
   connReq-keeps link listening id (LeCreditConnReq.Is req) =
-      else-keeps w _ _ _ itself λ _. else-keeps w _ _ _ itself λ _. else-keeps w _ _ _ itself λ _. else-keeps w _ _ _ itself λ a.
+      else-keeps w _ _ _ itself λ _. else-keeps w _ _ _ itself λ _. else-keeps w _ _ _ itself λ _. else-keeps w _ _ _ itself λ _. else-keeps w _ _ _ itself λ a.
       change-keeps w _ _ _ itself a refl
 
   connRes-keeps : (link id : ℕ) (b : LeCreditConnResRead) → Kept t (onConnRes t link id b)
@@ -202,7 +202,7 @@ module _ (t : Table) (w : Sized t) where
   connRes-keeps link id (LeCreditConnRes.Is res) =
       if-keeps w (λ _. sweep-keeps w (attemptOf link)) λ a.
       let s : ℕ = found (attemptBy link id) t in
-      if-keeps w (λ _. change-keeps w _ _ s itself a (old s)) λ _. change-keeps w _ _ s itself a (old s)
+      if-keeps w (λ _. change-keeps w _ _ s itself a (old s)) λ _. if-keeps w (λ _. change-keeps w _ _ s itself a (old s)) λ _. change-keeps w _ _ s itself a (old s)
 
   credits-keeps : (link id : ℕ) (b : LeCreditFlowIndRead) → Kept t (onCredits t link id b)
   unfolding onCredits

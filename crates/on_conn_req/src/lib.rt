@@ -7,7 +7,7 @@ ghost use lib.ListN.{length};
 ghost use Rattle.channel.specs.Limits.{signalMost};
 ghost use Rattle.channel.specs.declared.Table.{Table as TableOf};
 ghost use Rattle.definition.specs.Ending.{end, endOf};
-ghost use Rattle.definition.specs.Signals.{pending, onConnReq};
+ghost use Rattle.definition.specs.Signals.{requester, pending, onConnReq};
 use channel::Answer;
 use channel::ChannelState;
 use channel::Peer;
@@ -19,21 +19,28 @@ use signal_bodies::le_credit::LeCreditConnReqRead;
 use signal_forms::LeCreditConnReq;
 use table_slot::Want;
 
+// The sender's side of the channel, as its request tells it.
+fn requester(req: LeCreditConnReq) -> Peer
+    ensures { λ r. ⌜ r ≡ requester req ⌝ }
+{
+    Peer {
+        cid: req.scid,
+        mps: req.mps,
+        mtu: req.mtu,
+        credits: req.credits,
+    }
+}
+
 // The slot of a connection that the peer asks for. (It was free, so that all else in it is as in a slot never used.)
 fn asked(link: u16, id: u8, req: LeCreditConnReq) -> Slot
     ensures { λ r. ⌜ r ≡ pending link id req ⌝ }
 {
+    let peer = requester(req);
     let x = table_slot::fresh(0);
     let account = x.account;
     let assembly = x.assembly;
     let queue = x.queue;
     let job = x.job;
-    let peer = Peer {
-        cid: req.scid,
-        mps: req.mps,
-        mtu: req.mtu,
-        credits: req.credits,
-    };
     Slot {
         state: ChannelState::PeerConnecting(id),
         link,
@@ -49,8 +56,8 @@ fn asked(link: u16, id: u8, req: LeCreditConnReq) -> Slot
     }
 }
 
-// Code 0x14: the lowest free slot is for us to accept; an SPSM that is not registered, a link where nobody listens, a CID that the peer
-// uses, or a full table is refused by a response.
+// Code 0x14: the lowest free slot is for us to accept; an SPSM that is not registered, a link where nobody listens, an MTU or MPS below the least, a CID
+// that the peer uses, or a full table is refused by a response.
 pub fn on_conn_req(
     t: Table,
     out: &mut [u8],
@@ -71,6 +78,14 @@ pub fn on_conn_req(
             }
             if !listening {
                 return on_rejects::refuse(t, out, id, LeCreditConnResultCode::NoResources);
+            }
+            if table_slot::below_least(requester(req)) {
+                return on_rejects::refuse(
+                    t,
+                    out,
+                    id,
+                    LeCreditConnResultCode::UnacceptableParameters,
+                );
             }
             if table::find(t, Want::UsesPeer { link, cid }) < t.n {
                 return on_rejects::refuse(t, out, id, LeCreditConnResultCode::ScidAlreadyAllocated);

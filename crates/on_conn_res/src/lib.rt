@@ -7,37 +7,74 @@ ghost use Prim.Native.Nat.{ℕ, _≤_};
 ghost use lib.ListN.{length};
 ghost use Rattle.channel.specs.Limits.{signalMost};
 ghost use Rattle.channel.specs.declared.Table.{Table as TableOf};
+ghost use Rattle.definition.specs.Table.{slotAt};
+ghost use Rattle.definition.specs.Outcome.{change};
 ghost use Rattle.definition.specs.Ending.{end, endOf};
-ghost use Rattle.definition.specs.Signals.{answered, onConnRes};
+ghost use Rattle.definition.specs.Signals.{responder, answered, onConnRes};
 ghost use Rattle.table_room.specs.Placed.{RoomOf};
+ghost use Rattle.on_conn_res.specs.Told.{toldOf};
 use channel::Answer;
 use channel::ChannelState;
 use channel::Peer;
 use channel::Served;
+use channel::Slot;
 use channel::Table;
 use codes::Refusal;
 use signal_bodies::le_credit::LeCreditConnResRead;
 use signal_forms::LeCreditConnRes;
 use table_slot::Want;
 
-// The response to the attempt in slot s: Connected with the peer's numbers, or failed with its result.
+// The sender's side of the channel, as its response tells it.
+fn responder(res: LeCreditConnRes) -> Peer
+    ensures { λ r. ⌜ r ≡ responder res ⌝ }
+{
+    Peer {
+        cid: res.dcid,
+        mps: res.mps,
+        mtu: res.mtu,
+        credits: res.credits,
+    }
+}
+
+// The attempt x once it is answered: failed with the result, or with the peer's numbers, and Connected, or Disconnecting where they are below the least.
+fn met(x: Slot, res: LeCreditConnRes) -> Slot
+    ensures { λ r. ⌜ ((t : TableOf) (s : ℕ) → slotAt t s ≡ x → change t s r [] (toldOf (r .state)) [] ≡ answered t s res) ⌝ }
+{
+    let result = res.result;
+    if codes::result_number(result) != 0 {
+        return table_slot::in_state(x, ChannelState::ConnectFailed(result));
+    }
+    let peer = responder(res);
+    let y = table_slot::with_peer(x, peer);
+    if table_slot::below_least(peer) {
+        return table_slot::in_state(y, ChannelState::Disconnecting(false));
+    }
+    table_slot::in_state(y, ChannelState::Connected)
+}
+
+// What the response is answered, by the state in which it leaves the slot.
+fn told(k: ChannelState) -> Answer
+    ensures { λ r. ⌜ r ≡ toldOf k ⌝ }
+{
+    match k {
+        ChannelState::Disconnected => Answer::Done,
+        ChannelState::Connecting(_) => Answer::Done,
+        ChannelState::PeerConnecting(_) => Answer::Done,
+        ChannelState::Connected => Answer::Done,
+        ChannelState::ConnectFailed(result) => Answer::Refused(Refusal::ConnectError(result)),
+        ChannelState::PeerDisconnecting(_) => Answer::Done,
+        ChannelState::Disconnecting(_) => Answer::Refused(Refusal::InvalidValue),
+    }
+}
+
+// The response to the attempt in slot s. (The slot is worked out by itself, so that the table is copied once, and not for each way that it can go.)
 fn on_answer(t: Table, s: usize, res: LeCreditConnRes) -> Served
     ensures { λ r. ⌜ ((t₀ : TableOf) (room out job : List ℕ) → end r room out job ≡ endOf t₀ [] room out job (answered t s res)) ⌝ }
 {
     let x = table::slot_at(t, s);
-    let result = res.result;
-    if codes::result_number(result) == 0 {
-        let peer = Peer {
-            cid: res.dcid,
-            mps: res.mps,
-            mtu: res.mtu,
-            credits: res.credits,
-        };
-        let y = table_slot::in_state(table_slot::with_peer(x, peer), ChannelState::Connected);
-        return table_endings::alter(t, s, y, Answer::Done);
-    }
-    let y = table_slot::in_state(x, ChannelState::ConnectFailed(result));
-    table_endings::alter(t, s, y, Answer::Refused(Refusal::ConnectError(result)))
+    let y = met(x, res);
+    let k = y.state;
+    table_endings::alter(t, s, y, told(k))
 }
 
 // Code 0x15: to the lowest attempt of this link with that identifier; where there is none, all attempts of this link are given up.

@@ -38,7 +38,7 @@ use Rattle.signal_bodies.specs.declared.le_credit.LeCreditFlowIndRead.the-varia
 use Rattle.signal_bodies.specs.LeCreditBodies.{leCreditConnReq, resIf, leCreditConnRes}
 use Rattle.signal_forms.specs.declared.Signal.{Signal}
 use Rattle.signal_forms.specs.declared.Signal.the-variants as Signal
-use Rattle.channel.specs.Limits.{creditsMost}
+use Rattle.channel.specs.Limits.{creditsMost, sizeLeast}
 use Rattle.channel.specs.declared.Answer.{Answer}
 use Rattle.channel.specs.declared.L2capChannelConfig.{L2capChannelConfig}
 use Rattle.channel.specs.declared.Setting.{Setting}
@@ -59,9 +59,9 @@ use Rattle.definition.specs.Calls.{Call, frame, sends, portions, down, plain, R
 use Rattle.definition.specs.Tells.{cid-within}
 use Rattle.rules.specs.Run.{SettingFits, Octets, RequestFits, Fits}
 use Rattle.lists.specs.Both.{and-left, and-right, and-both}
-use Rattle.rules.specs.Tests.{begun, begun-live, connected-begun, due-begun, attempt-live, attempt-unbegun, takes-begun, unbegun-off, due-off}
+use Rattle.rules.specs.Tests.{begun, begun-live, connected-begun, due-begun, attempt-live, attempt-unbegun, takes-begun, unbegun-off, due-off, connected-offered, least-sizes}
 use Rattle.rules.specs.Step.{same, grant, keep, leave, hand, stay, off, meet, shut, gain, portion, cancel, hold, go, accept, free, allocate, kept, refused, told, rest, passes, Stepped}
-use Rattle.rules.specs.Forms.{goes-on, found-passes, stepped-still, stepped-spent, stepped-change, stepped-change-spent, stepped-filling, stepped-sweep, stepped-gate}
+use Rattle.rules.specs.Forms.{goes-on, ended, found-passes, stepped-still, stepped-spent, stepped-change, stepped-change-spent, stepped-filling, stepped-sweep, stepped-gate}
 use Rattle.rules.specs.Sound.{Sound}
 use Rattle.rules.specs.Join.{Headed, step-joins, plan-passes, stepped-joined, stepped-planned, stepped-started}
 
@@ -213,6 +213,7 @@ module _ (t : Table) (k room : ℕ) (l : t .n ≤ length (t .slots)) (well : wel
         assembly = refl;
         queue = refl;
         peer = omega arith;
+        least = λ e. absurd (false≢true e);
         job = refl;
       })) _ _ refl (told (Signal.LeCreditConnReq (record { spsm = spsm; scid = cidOf (found isFree t); mtu = mtuOf t c; mps = mpsOf t c; credits = creditsOf t c })))))))
 
@@ -246,12 +247,12 @@ module _ (t : Table) (k room : ℕ) (l : t .n ≤ length (t .slots)) (well : wel
       stepped-gate t k _ _ _ _ well sized
       (λ h. if-cases P _ (λ _. stays refl)
       (λ _. if-cases P _
-      (λ e. stepped-change t k s _ _ h l (go (goes-on (connected-live (slotAt t s) (and-left (isConnected (slotAt t s .state)) (eqb (slotAt t s .hold) 1) e)) refl refl) same leave shut) _ _ refl)
+      (λ e. stepped-change t k s _ _ h l (go (goes-on (connected-live (slotAt t s) (and-left (isConnected (slotAt t s .state)) (eqb (slotAt t s .hold) 1) e)) refl refl ended) same leave shut) _ _ refl)
       (λ _. stepped-change t k s _ _ h l (hold _) _ _ refl)))
 
   leaves-steps : (s : ℕ) → s < t .n → Stepped t k (disconnecting t s)
   unfolding disconnecting
-  leaves-steps s h = if-cases P _ (λ e. stepped-change t k s _ _ h l (go (goes-on (connected-live (slotAt t s) e) refl refl) same leave shut) _ _ refl) (λ _. stays refl)
+  leaves-steps s h = if-cases P _ (λ e. stepped-change t k s _ _ h l (go (goes-on (connected-live (slotAt t s) e) refl refl ended) same leave shut) _ _ refl) (λ _. stays refl)
 
   disconnect-steps : (s : ℕ) → Stepped t k (disconnect t room s)
   unfolding disconnect
@@ -275,7 +276,7 @@ module _ (t : Table) (k room : ℕ) (l : t .n ≤ length (t .slots)) (well : wel
       let h = leb-false (t .n) s e in
       let b = due-begun (slotAt t s .state) (found-passes dueSlot t l h) in
       if-cases P _ (λ _. stepped-change t k s _ _ h l (free _) _ _ refl)
-      (λ _. stepped-change-spent t k s _ _ h l (go (goes-on (begun-live (slotAt t s .state) b) refl refl) same keep (off (due-off (slotAt t s .state) (found-passes dueSlot t l h)))) _ _ refl (told (Signal.DisconnectionReq (record { dcid = slotAt t s .peer .cid; scid = cidOf s }))))))
+      (λ _. stepped-change-spent t k s _ _ h l (go (goes-on (begun-live (slotAt t s .state) b) refl refl ended) same keep (off (due-off (slotAt t s .state) (found-passes dueSlot t l h)))) _ _ refl (told (Signal.DisconnectionReq (record { dcid = slotAt t s .peer .cid; scid = cidOf s }))))))
 
   -- ---- signals
 
@@ -286,6 +287,7 @@ module _ (t : Table) (k room : ℕ) (l : t .n ≤ length (t .slots)) (well : wel
       if-cases P _ (λ _. stays refl)
       (λ _. if-cases P _ (λ _. stays refl)
       (λ _. if-cases P _ (λ _. stays refl)
+      (λ b. if-cases P _ (λ _. stays refl)
       (λ _. if-cases P _ (λ _. stays refl)
       (λ e.
       let h = leb-false (t .n) (found isFree t) e in
@@ -301,8 +303,9 @@ module _ (t : Table) (k room : ℕ) (l : t .n ≤ length (t .slots)) (well : wel
         assembly = refl;
         queue = refl;
         peer = few;
+        least = λ _. b;
         job = refl;
-      })) _ _ refl))))
+      })) _ _ refl)))))
 
   on-conn-res : (link id : ℕ) (r : LeCreditConnResRead) → ResponseGives r → Stepped t k (onConnRes t link id r)
   unfolding onConnRes
@@ -313,10 +316,14 @@ module _ (t : Table) (k room : ℕ) (l : t .n ≤ length (t .slots)) (well : wel
       let s = found (attemptBy link id) t in
       let h = leb-false (t .n) s e in
       let c = attempt-slot link id (slotAt t s) (found-passes (attemptBy link id) t l h) in
+      let live = attempt-live (slotAt t s .state) c in
+      let early = attempt-unbegun (slotAt t s .state) c in
+      let closed = unbegun-off (slotAt t s .state) early in
       if-cases P _
-      (λ _. stepped-change t k s _ _ h l (go (goes-on (attempt-live (slotAt t s .state) c) refl refl) same keep (meet (unbegun-off (slotAt t s .state) (attempt-unbegun (slotAt t s .state) c)) few)) _ _ refl)
-      (λ _. stepped-change t k s _ _ h l
-      (go (record { was = attempt-live (slotAt t s .state) c; is = refl; stays = λ b. absurd (false≢true (sym (attempt-unbegun (slotAt t s .state) c) ∙ b)); mtu = refl }) same keep (off (unbegun-off (slotAt t s .state) (attempt-unbegun (slotAt t s .state) c)))) _ _ refl))
+      (λ _. stepped-change t k s _ _ h l (go (record { was = live; is = refl; stays = λ b. absurd (false≢true (sym early ∙ b)); mtu = refl; least = ended }) same keep (off closed)) _ _ refl)
+      (λ _. if-cases P _
+      (λ _. stepped-change t k s _ _ h l (go (goes-on live refl refl ended) same keep (meet closed few)) _ _ refl)
+      (λ b. stepped-change t k s _ _ h l (go (goes-on live refl refl (λ _ _. b)) same keep (meet closed few)) _ _ refl)))
 
   on-credits : (link id : ℕ) (r : LeCreditFlowIndRead) → Stepped t k (onCredits t link id r)
   unfolding onCredits
@@ -328,9 +335,9 @@ module _ (t : Table) (k room : ℕ) (l : t .n ≤ length (t .slots)) (well : wel
       let h = leb-false (t .n) s e in
       let c = connected-slot link (ind .cid) (slotAt t s) (found-passes (connectedTo link (ind .cid)) t l h) in
       if-cases P _
-      (λ _. stepped-change t k s _ _ h l (go (goes-on (connected-live (slotAt t s) c) refl refl) same leave shut) _ _ refl)
+      (λ _. stepped-change t k s _ _ h l (go (goes-on (connected-live (slotAt t s) c) refl refl ended) same leave shut) _ _ refl)
       (λ f. stepped-change t k s _ _ h l
-      (go (goes-on (connected-live (slotAt t s) c) (connected-begun (slotAt t s .state) c) refl) same keep (gain (ind .credits) (ltb-false _ _ f))) _ _ refl))
+      (go (goes-on (connected-live (slotAt t s) c) (connected-begun (slotAt t s .state) c) refl (λ f. f)) same keep (gain (ind .credits) (ltb-false _ _ f))) _ _ refl))
 
   on-disconnection-req : (link id : ℕ) (r : DisconnectionReqRead) → Stepped t k (onDisconnectionReq t link id r)
   unfolding onDisconnectionReq
@@ -339,7 +346,7 @@ module _ (t : Table) (k room : ℕ) (l : t .n ≤ length (t .slots)) (well : wel
       if-cases P _ (λ _. stays refl)
       (λ e. if-cases P _ (λ _. stays refl)
       (λ f. stepped-change t k (slotOf (req .dcid)) _ _ (cid-within t (req .dcid) (not-false _ e)) l
-      (go (goes-on (link-slot link (slotAt t (slotOf (req .dcid))) (not-false _ f)) refl refl) same leave shut) _ _ refl))
+      (go (goes-on (link-slot link (slotAt t (slotOf (req .dcid))) (not-false _ f)) refl refl ended) same leave shut) _ _ refl))
 
   on-disconnection-res : (link id : ℕ) (r : DisconnectionResRead) → Stepped t k (onDisconnectionRes t link id r)
   unfolding onDisconnectionRes
@@ -395,9 +402,9 @@ module _ (t : Table) (k room : ℕ) (l : t .n ≤ length (t .slots)) (well : wel
   taken-steps : (s size : ℕ) → s < t .n → begun (slotAt t s .state) ≡ true → 0 < slotAt t s .queue .count → (g : Grant)
       → ((n : ℕ) → g ≡ Grant.Credits n → grantOf (slotAt t s .account) ≡ Grant.Credits n) → Stepped t k (taken t s (slotAt t s) size g)
   unfolding taken
-  taken-steps s size h b c Grant.Nothing f = with-job _ (stepped-change t k s _ _ h l (go (goes-on (begun-live (slotAt t s .state) b) b refl) same (hand b c) stay) _ _ refl)
+  taken-steps s size h b c Grant.Nothing f = with-job _ (stepped-change t k s _ _ h l (go (goes-on (begun-live (slotAt t s .state) b) b refl (λ f. f)) same (hand b c) stay) _ _ refl)
   taken-steps s size h b c (Grant.Credits n) f =
-      with-job _ (stepped-change-spent t k s _ _ h l (go (goes-on (begun-live (slotAt t s .state) b) b refl) (grant (f n refl)) (hand b c) stay) _ _ refl (told (Signal.LeCreditFlowInd (record { cid = cidOf s; credits = n }))))
+      with-job _ (stepped-change-spent t k s _ _ h l (go (goes-on (begun-live (slotAt t s .state) b) b refl (λ f. f)) (grant (f n refl)) (hand b c) stay) _ _ refl (told (Signal.LeCreditFlowInd (record { cid = cidOf s; credits = n }))))
 
   receive-steps : (signal s size : ℕ) → Stepped t k (receive t room signal s size)
   unfolding receive
@@ -426,22 +433,29 @@ module _ (t : Table) (k room : ℕ) (l : t .n ≤ length (t .slots)) (well : wel
       stepped-joined t k s h l (not-false (isConnected (x .state)) c) (eqb-false (x .account .credits) 0 z) _
       (step-joins (placeOf t) (t .d) (x .assembly) (x .queue .count) k (ok .holding .closed) (x .mtu) (x .mps) (u16At head 0) head (ok .mtu) (ok .holding .want) (headed on)))))))
 
-  send-steps : (s size out : ℕ) → Stepped t k (send t s size out)
+  -- a Connected slot's peer MPS is at least 23
+  wide : ((s : ℕ) → s < t .n → Sound (t .d) (placeOf t) (slotAt t s)) → (s : ℕ) → s < t .n → isConnected (slotAt t s .state) ≡ true → sizeLeast ≤ slotAt t s .peer .mps
+  wide sound s h on = least-sizes (slotAt t s .peer) (sound s h .least (connected-offered (slotAt t s .state) on)) .1
+
+  send-steps : (s size out : ℕ) → ((s : ℕ) → s < t .n → Sound (t .d) (placeOf t) (slotAt t s)) → Stepped t k (send t s size out)
   unfolding send
-  send-steps s size out =
+  send-steps s size out sound =
       stepped-gate t k _ _ _ _ well refl
       (λ h. if-cases P _ (λ _. stays refl)
-      (λ c. if-cases P _ (λ _. stays refl) (λ _. stepped-planned t k s h l (not-false (isConnected (slotAt t s .state)) c) size _ (plan-passes size _ _ _ _))))
+      (λ c.
+      let on = not-false (isConnected (slotAt t s .state)) c in
+      if-cases P _ (λ _. stays refl) (λ _. stepped-planned t k s h l on size _ (plan-passes size _ _ _ _ (wide sound s h on)))))
 
   -- ---- jobs handed over in portions
 
-  start-steps : (s size out : ℕ) → Stepped t k (startJob t s size out)
+  start-steps : (s size out : ℕ) → ((s : ℕ) → s < t .n → Sound (t .d) (placeOf t) (slotAt t s)) → Stepped t k (startJob t s size out)
   unfolding startJob
-  start-steps s size out =
+  start-steps s size out sound =
       stepped-gate t k _ _ _ _ well refl
       (λ h. if-cases P _ (λ _. stays refl)
-      (λ c. if-cases P _ (λ _. stays refl)
-      (λ _. stepped-started t k s h l (not-false (isConnected (slotAt t s .state)) c) size out _ (plan-passes size _ _ _ _) refl)))
+      (λ c.
+      let on = not-false (isConnected (slotAt t s .state)) c in
+      if-cases P _ (λ _. stays refl) (λ _. stepped-started t k s h l on size out _ (plan-passes size _ _ _ _ (wide sound s h on)) refl)))
 
   portion-steps : (s count out : ℕ) → Stepped t k (givePortion t s count out)
   unfolding givePortion
@@ -455,7 +469,7 @@ module _ (t : Table) (k room : ℕ) (l : t .n ≤ length (t .slots)) (well : wel
       let x = slotAt t s in
       let on = not-false (isConnected (x .state)) c in
       stepped-filling t k s _ [] h l
-      (go (goes-on (connected-live x on) (connected-begun (x .state) on) refl) same keep (portion count on (ltb-true 0 (x .job .aside) (not-false _ o)) (ltb-false _ _ f))) _ _ _ _ refl refl)))))
+      (go (goes-on (connected-live x on) (connected-begun (x .state) on) refl (λ f. f)) same keep (portion count on (ltb-true 0 (x .job .aside) (not-false _ o)) (ltb-false _ _ f))) _ _ _ _ refl refl)))))
 
   cancel-steps : (s : ℕ) → Stepped t k (cancelJob t room s)
   unfolding cancelJob
@@ -465,8 +479,8 @@ module _ (t : Table) (k room : ℕ) (l : t .n ≤ length (t .slots)) (well : wel
       (λ c. if-cases P _ (λ _. stays refl)
       (λ _.
       let on = not-false (isConnected (slotAt t s .state)) c in
-      if-cases P _ (λ _. stepped-change t k s _ _ h l (go (goes-on (connected-live (slotAt t s) on) (connected-begun (slotAt t s .state) on) refl) same keep cancel) _ _ refl)
-      (λ _. stepped-change t k s _ _ h l (go (goes-on (connected-live (slotAt t s) on) refl refl) same leave shut) _ _ refl))))
+      if-cases P _ (λ _. stepped-change t k s _ _ h l (go (goes-on (connected-live (slotAt t s) on) (connected-begun (slotAt t s .state) on) refl (λ f. f)) same keep cancel) _ _ refl)
+      (λ _. stepped-change t k s _ _ h l (go (goes-on (connected-live (slotAt t s) on) refl refl ended) same leave shut) _ _ refl))))
 
   -- ---- calls that change no slot
 
@@ -490,30 +504,30 @@ module _ (t : Table) (k room : ℕ) (l : t .n ≤ length (t .slots)) (well : wel
 
   -- ---- all of them
 
-  serve-steps : (r : Request) → t .d ≤ creditsMost → RequestFits r → (out job : ℕ) → Stepped t k (serve t r room out job)
+  serve-steps : (r : Request) → t .d ≤ creditsMost → ((s : ℕ) → s < t .n → Sound (t .d) (placeOf t) (slotAt t s)) → RequestFits r → (out job : ℕ) → Stepped t k (serve t r room out job)
   unfolding serve
-  serve-steps (register spsm) hd f out job = register-steps spsm
-  serve-steps (signals link listening central pdu) hd f out job = signalled-steps out link listening central pdu f
-  serve-steps (pends link up) hd f out job = next-pending link up
-  serve-steps (rejectsAll link) hd f out job = reject-all out link
-  serve-steps (accepts s c) hd f out job = accept-pending out s c hd f
-  serve-steps (rejects s result) hd f out job = reject-pending out s result
-  serve-steps (drops s) hd f out job = drop-pending s
-  serve-steps (creates link spsm c) hd f out job = create-steps out link spsm c hd f
-  serve-steps (opens s link up) hd f out job = opened-steps s link up
-  serve-steps (gives s) hd f out job = give-up s
-  serve-steps (holds s) hd f out job = inc-ref s
-  serve-steps (releases s) hd f out job = dec-ref s
-  serve-steps (leaves s) hd f out job = disconnect-steps s
-  serve-steps (leavesCid cid) hd f out job = disconnect-by-cid cid
-  serve-steps announces hd f out job = next-disconnect out
-  serve-steps (takes s) hd f out job = receive-steps out s job
-  serve-steps (starts s size) hd f out job = start-steps s size out
-  serve-steps (cancels s) hd f out job = cancel-steps s
-  serve-steps attends hd f out job = attention-steps
-  serve-steps (asks of s) hd f out job = query-steps of s
-  serve-steps (sendsSignal link s) hd f out job = send-signal out link s
-  serve-steps (writes octets) hd f out job = stays refl
+  serve-steps (register spsm) hd sound f out job = register-steps spsm
+  serve-steps (signals link listening central pdu) hd sound f out job = signalled-steps out link listening central pdu f
+  serve-steps (pends link up) hd sound f out job = next-pending link up
+  serve-steps (rejectsAll link) hd sound f out job = reject-all out link
+  serve-steps (accepts s c) hd sound f out job = accept-pending out s c hd f
+  serve-steps (rejects s result) hd sound f out job = reject-pending out s result
+  serve-steps (drops s) hd sound f out job = drop-pending s
+  serve-steps (creates link spsm c) hd sound f out job = create-steps out link spsm c hd f
+  serve-steps (opens s link up) hd sound f out job = opened-steps s link up
+  serve-steps (gives s) hd sound f out job = give-up s
+  serve-steps (holds s) hd sound f out job = inc-ref s
+  serve-steps (releases s) hd sound f out job = dec-ref s
+  serve-steps (leaves s) hd sound f out job = disconnect-steps s
+  serve-steps (leavesCid cid) hd sound f out job = disconnect-by-cid cid
+  serve-steps announces hd sound f out job = next-disconnect out
+  serve-steps (takes s) hd sound f out job = receive-steps out s job
+  serve-steps (starts s size) hd sound f out job = start-steps s size out sound
+  serve-steps (cancels s) hd sound f out job = cancel-steps s
+  serve-steps attends hd sound f out job = attention-steps
+  serve-steps (asks of s) hd sound f out job = query-steps of s
+  serve-steps (sendsSignal link s) hd sound f out job = send-signal out link s
+  serve-steps (writes octets) hd sound f out job = stays refl
 
 -- a frame without its job octets still has its length octets where they are read
 headed : (t : Table) (cid : ℕ) (payload : List ℕ) → isCid t cid ≡ true
@@ -540,7 +554,7 @@ pub decide-steps : (t : Table) (c : Call) (room : ℕ) → t .n ≤ length (t .s
     → Stepped t (length (jobs t c)) (decide t (bare t c) (length (jobs t c)) room out job)
 unfolding decide bare jobs
 decide-steps t (frame link cid payload) room l well size hd sound f out job = dispatch-steps t _ room l well size link cid _ sound (headed t cid payload)
-decide-steps t (sends s sdu w) room l well size hd sound f out job = send-steps t _ room l well size s (length sdu) out
+decide-steps t (sends s sdu w) room l well size hd sound f out job = send-steps t _ room l well size s (length sdu) out sound
 decide-steps t (portions s octets w) room l well size hd sound f out job = portion-steps t _ room l well size s (length octets) out
 decide-steps t (down link) room l well size hd sound f out job = link-down t _ room l well size link
-decide-steps t (plain r w v) room l well size hd sound f out job = serve-steps t _ room l well size r hd f out job
+decide-steps t (plain r w v) room l well size hd sound f out job = serve-steps t _ room l well size r hd sound f out job

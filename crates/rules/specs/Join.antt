@@ -8,6 +8,7 @@ use native.Mathlib.Omega.{arith}
 use lib.ListN.{length}
 use borrow.Author.Tests.{ltb-true, ltb-false, leb-false, eqb-true, eqb-false, eq-eqb, ne-eqb, lt-ltb, le-ltb, lt-leb}
 use Rattle.lists.specs.Choose.{choose-true, choose-false, if-cases}
+use Rattle.codes.specs.Limits.{sizeLeast}
 use Rattle.credit.specs.Account.{received}
 use Rattle.sar_join.specs.declared.Assembly.{Assembly}
 use Rattle.sar_join.specs.declared.Joined.{Joined}
@@ -15,7 +16,7 @@ use Rattle.sar_join.specs.declared.Joined.the-variants as Joined
 use Rattle.sar_join.specs.Joining.{idle, assembled, reached, firstStep, joinStep}
 use Rattle.sar_cut.specs.declared.Plan.{Plan}
 use Rattle.sar_cut.specs.declared.Plan.the-variants as Plan
-use Rattle.sar_cut.specs.Cutting.{frameCount, framesLength, leastMps, planSend}
+use Rattle.sar_cut.specs.Cutting.{frameCount, framesLength, planSend}
 use Rattle.sar_cut.specs.CutLaws.{plan-allowed}
 use Rattle.channel.specs.declared.Answer.the-variants.{Done, Refused, Frames}
 use Rattle.channel.specs.declared.Slot.{Slot}
@@ -27,14 +28,14 @@ use Rattle.definition.specs.Frames.{queued, finishing, frames, joined, planned}
 use Rattle.definition.specs.Portions.{startPlanned}
 use Rattle.rules.specs.Tests.{begun, begun-live, connected-begun}
 use Rattle.rules.specs.Step.{same, use-one, keep, leave, grow, finish, stay, shut, pay, begin, go, passes, Stepped}
-use Rattle.rules.specs.Forms.{goes-on, stepped-still, stepped-change, stepped-filling}
+use Rattle.rules.specs.Forms.{goes-on, ended, stepped-still, stepped-change, stepped-filling}
 
 -- How a frame comes to a slot: with no length octets where an assembly is open, with both of them otherwise. k is the number of its job octets.
 pub record Headed (a : Assembly) (head : List ℕ) (k : ℕ) : Type 0 where
   pub joins : (a .want ≡ 0 → ⊥) → length head ≡ 0
   pub opens : a .want ≡ 0 → 2 ≤ length head + k → length head ≡ 2
 
--- What a step may come to: a refusal other than 1 and 2; an assembly grows by the frame's job octets and stays below what it wants; a finished job is all of
+-- What a step may come to: a refusal other than 1, 2 and 20; an assembly grows by the frame's job octets and stays below what it wants; a finished job is all of
 -- them, and there is a place for it. What comes first goes where the assembly ends.
 abbrev pub Joins : (p d : ℕ) → Assembly → (queued k : ℕ) → Joined → Type 0
 Joins p d a q k (Joined.Refused r) = passes (Refused r) ≡ true
@@ -59,7 +60,8 @@ module _ (p d : ℕ) (a : Assembly) (q k : ℕ) (closed : a .want ≡ 0 → a .h
       → Joins p d a q k (joinStep mtu mps d a q (length head + k) stated)
   unfolding joinStep firstStep
   step-joins mtu mps stated head hm hw headed =
-      if-cases (Joins p d a q k) _
+      if-cases (Joins p d a q k) _ (λ _. refl)
+      (λ _. if-cases (Joins p d a q k) _
       (λ e.
       let z : a .want ≡ 0 = eqb-true (a .want) 0 e in
       let c = closed z in
@@ -71,19 +73,19 @@ module _ (p d : ℕ) (a : Assembly) (q k : ℕ) (closed : a .want ≡ 0 → a .h
       reached-joins stated (length head + k - 2) (omega arith) (omega (arith, ltb-false mtu stated g)))))
       (λ e.
       let f = headed .joins (eqb-false (a .want) 0 e) in
-      reached-joins (a .want) (a .have + (length head + k)) (omega arith) hw)
+      reached-joins (a .want) (a .have + (length head + k)) (omega arith) hw))
 
--- A plan is refused by neither 1 nor 2.
+-- A plan for a peer that is not below the least is refused by none of 1, 2 and 20.
 abbrev pub Plans : Plan → Type 0
 Plans (Plan.Refused r) = passes (Refused r) ≡ true
 Plans (Plan.Frames n octets) = Unit {0}
 
-pub plan-passes : (size mtu mps credits out : ℕ) → Plans (planSend size mtu mps credits out)
+pub plan-passes : (size mtu mps credits out : ℕ) → sizeLeast ≤ mps → Plans (planSend size mtu mps credits out)
 unfolding planSend
-plan-passes size mtu mps credits out =
+plan-passes size mtu mps credits out wide =
     if-cases Plans _ (λ _. refl)
     (λ _. if-cases Plans _ (λ _. refl)
-    (λ _. if-cases Plans _ (λ _. refl) (λ _. if-cases Plans _ (λ _. refl) (λ _. if-cases Plans _ (λ _. refl) (λ _. tt)))))
+    (λ _. if-cases Plans _ (λ e. absurd (omega (arith, ltb-true mps sizeLeast e))) (λ _. if-cases Plans _ (λ _. refl) (λ _. if-cases Plans _ (λ _. refl) (λ _. tt)))))
 
 -- ---- the calls that ask them
 
@@ -97,17 +99,17 @@ module _ (t : Table) (k s : ℕ) (h : s < t .n) (l : t .n ≤ length (t .slots))
   pub stepped-joined : (slotAt t s .account .credits ≡ 0 → ⊥) → (j : Joined) → Joins (placeOf t) (t .d) (slotAt t s .assembly) (slotAt t s .queue .count) k j
       → Stepped t k (joined t s (withAccount (received (slotAt t s .account) 1) (slotAt t s)) k j)
   unfolding joined
-  stepped-joined some (Joined.Refused r) f = stepped-change t k s _ _ h l (go (goes-on was-live refl refl) (use-one some) leave shut) _ _ f
+  stepped-joined some (Joined.Refused r) f = stepped-change t k s _ _ h l (go (goes-on was-live refl refl ended) (use-one some) leave shut) _ _ f
   stepped-joined some (Joined.Assembling a) f =
-      rw (f .3) (stepped-change t k s _ _ h l (go (goes-on was-live has-begun refl) (use-one some) (grow has-begun (f .0) (f .1) (f .2)) stay) _ _ refl)
+      rw (f .3) (stepped-change t k s _ _ h l (go (goes-on was-live has-begun refl (λ f. f)) (use-one some) (grow has-begun (f .0) (f .1) (f .2)) stay) _ _ refl)
   stepped-joined some (Joined.Finished len) f =
-      stepped-change t k s _ _ h l (go (goes-on was-live has-begun refl) (use-one some) (finish has-begun (f .0) (f .1) (f .2)) stay) _ _ refl
-  stepped-joined some Joined.Dropped f = stepped-change t k s _ _ h l (go (goes-on was-live has-begun refl) (use-one some) leave stay) _ _ refl
+      stepped-change t k s _ _ h l (go (goes-on was-live has-begun refl (λ f. f)) (use-one some) (finish has-begun (f .0) (f .1) (f .2)) stay) _ _ refl
+  stepped-joined some Joined.Dropped f = stepped-change t k s _ _ h l (go (goes-on was-live has-begun refl (λ f. f)) (use-one some) leave stay) _ _ refl
 
   pub stepped-planned : (size : ℕ) (p : Plan) → Plans p → Stepped t k (planned t s (slotAt t s) size p)
   unfolding planned
   stepped-planned size (Plan.Refused r) f = stepped-still t k _ _ f
-  stepped-planned size (Plan.Frames n octets) f = stepped-change t k s _ _ h l (go (goes-on was-live has-begun refl) same keep (pay n)) _ _ refl
+  stepped-planned size (Plan.Frames n octets) f = stepped-change t k s _ _ h l (go (goes-on was-live has-begun refl (λ f. f)) same keep (pay n)) _ _ refl
 
   -- a start sets aside what the plan counts
   pub stepped-started : (size room : ℕ) (p : Plan) → Plans p
@@ -121,7 +123,7 @@ module _ (t : Table) (k s : ℕ) (h : s < t .n) (l : t .n ≤ length (t .slots))
       let w = a .wide in
       let p = a .paid in
       if-cases (Stepped t k) _ (λ _. stepped-still t k _ _ refl)
-      (λ _. stepped-filling t k s _ [] h l (go (goes-on was-live has-begun refl) same keep (begin size n on (omega arith) q (omega arith))) _ _ _ _ refl refl)
+      (λ _. stepped-filling t k s _ [] h l (go (goes-on was-live has-begun refl (λ f. f)) same keep (begin size n on (omega arith) q (omega arith))) _ _ _ _ refl refl)
 
 -- ---- what a frame that fits comes to
 
@@ -129,15 +131,15 @@ module _ (t : Table) (k s : ℕ) (h : s < t .n) (l : t .n ≤ length (t .slots))
 abbrev pub Reaches : (d q : ℕ) → Joined → (have want : ℕ) → Type 0
 Reaches d q j have want = j ≡ reached d q want have
 
-pub reaches-first : (mtu mps d : ℕ) (a : Assembly) (q k stated : ℕ) → a .want ≡ 0 → stated ≤ mtu → Reaches d q (joinStep mtu mps d a q (2 + k) stated) k stated
+pub reaches-first : (mtu mps d : ℕ) (a : Assembly) (q k stated : ℕ) → 2 + k ≤ mps → a .want ≡ 0 → stated ≤ mtu → Reaches d q (joinStep mtu mps d a q (2 + k) stated) k stated
 unfolding joinStep firstStep
-reaches-first mtu mps d a q k stated z m =
-    choose-true _ _ _ (eq-eqb (a .want) 0 z) ∙ choose-false _ _ _ (le-ltb (2 + k) 2 (omega arith)) ∙ choose-false _ _ _ (le-ltb mtu stated m)
+reaches-first mtu mps d a q k stated w z m =
+    choose-false _ _ _ (le-ltb mps (2 + k) w) ∙ choose-true _ _ _ (eq-eqb (a .want) 0 z) ∙ choose-false _ _ _ (le-ltb (2 + k) 2 (omega arith)) ∙ choose-false _ _ _ (le-ltb mtu stated m)
     ∙ (let e : 2 + k - 2 ≡ k = omega arith in rw e)
 
-pub reaches-next : (mtu mps d : ℕ) (a : Assembly) (q k stated : ℕ) → (a .want ≡ 0 → ⊥) → Reaches d q (joinStep mtu mps d a q k stated) (a .have + k) (a .want)
+pub reaches-next : (mtu mps d : ℕ) (a : Assembly) (q k stated : ℕ) → k ≤ mps → (a .want ≡ 0 → ⊥) → Reaches d q (joinStep mtu mps d a q k stated) (a .have + k) (a .want)
 unfolding joinStep
-reaches-next mtu mps d a q k stated some = choose-false _ _ _ (ne-eqb (a .want) 0 some)
+reaches-next mtu mps d a q k stated w some = choose-false _ _ _ (le-ltb mps k w) ∙ choose-false _ _ _ (ne-eqb (a .want) 0 some)
 
 -- An assembly grows; or the job is whole, and a place is free for it.
 module _ (t : Table) (s : ℕ) (x : Slot) (k d q have want : ℕ) (j : Joined) (r : Reaches d q j have want) where
@@ -158,7 +160,7 @@ module _ (t : Table) (s : ℕ) (x : Slot) (k d q have want : ℕ) (j : Joined) (
 
 -- (`size`: of the frame output)
 pub record Sent (t : Table) (s : ℕ) (x : Slot) (l size n : ℕ) (o : Outcome) : Type 0 where
-  pub wide : leastMps ≤ x .peer .mps
+  pub wide : sizeLeast ≤ x .peer .mps
   pub holds : framesLength l (x .peer .mps) ≤ size
   pub count : n ≡ frameCount l (x .peer .mps)
   pub out : o .out ≡ frames (x .peer .cid) (x .peer .mps) l n

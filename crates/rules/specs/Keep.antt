@@ -22,9 +22,9 @@ use Rattle.channel.specs.declared.Queue.{Queue}
 use Rattle.channel.specs.declared.Slot.{Slot}
 use Rattle.channel.specs.declared.Table.{Table}
 use Rattle.definition.specs.Mem.{Move}
-use Rattle.definition.specs.Table.{placeOf, fresh, isConnected, withHold}
+use Rattle.definition.specs.Table.{placeOf, fresh, isConnected, belowLeast, withHold}
 use Rattle.lists.specs.Both.{and-left, and-right, and-both}
-use Rattle.rules.specs.Tests.{begun, begun-live, pending-off}
+use Rattle.rules.specs.Tests.{begun, begun-live, pending-off, pending-offered}
 use Rattle.rules.specs.Step.{Accounting, same, use-one, grant, Jobs, keep, leave, grow, finish, hand, Sending, off, Goes, Step, hold, go, accept, free, allocate, Steps, rest, next}
 use Rattle.rules.specs.Aside.{none-owing, sending-owing}
 use Rattle.rules.specs.Sound.{Holding, Owing, Sound, AllSound}
@@ -111,19 +111,21 @@ sound-fresh d p h =
       mtu = omega arith;
       sum = omega arith;
       owing = none-owing false _ (omega arith);
+      least = λ e. absurd (false≢true e);
       free = λ _. refl;
       quiet = λ _. (refl, refl);
     }
 
 pub step-sound : {t : Table} {k : ℕ} {x y : Slot} {ms : List Move} → Step t k x y ms → Sound (t .d) (placeOf t) x → Sound (t .d) (placeOf t) y
 step-sound {x = x} (hold h) s =
-    record { holding = s .holding; mtu = s .mtu; sum = s .sum; owing = s .owing; free = λ e. ap (λ (z : Slot). withHold h z) (s .free e); quiet = s .quiet }
+    record { holding = s .holding; mtu = s .mtu; sum = s .sum; owing = s .owing; least = s .least; free = λ e. ap (λ (z : Slot). withHold h z) (s .free e); quiet = s .quiet }
 step-sound {t} {k} {x} {y} (go g a j o) s =
     record {
       holding = jobs-holding t k x j (s .holding);
       mtu = rw (g .mtu) (s .mtu);
       sum = rw (accounting-sum a (s .sum)) (s .sum);
       owing = sending-owing x o (s .owing);
+      least = g .least (s .least);
       free = λ e. absurd (false≢true (sym (g .is) ∙ e));
       quiet = λ f. let b = not-begun x y g f in jobs-quiet t k x j b (s .quiet b);
     }
@@ -133,6 +135,7 @@ step-sound {t} {k} {x} {y} (accept c) s =
       mtu = c .mtu;
       sum = c .sum;
       owing = sending-owing x (subst₂ (λ (p : Peer) (j : OpenJob). Sending x (isConnected (y .state)) p j) (sym (c .peer)) (sym (c .job)) (off (pending-off (x .state) (c .was)))) (s .owing);
+      least = λ _. subst (λ (p : Peer). belowLeast p ≡ false) (sym (c .peer)) (s .least (pending-offered (x .state) (c .was)));
       free = λ e. absurd (false≢true (sym (begun-live (y .state) (c .is)) ∙ e));
       quiet = λ f. absurd (false≢true (sym f ∙ c .is));
     }
@@ -143,6 +146,7 @@ step-sound {t} {y = y} (allocate c) s =
       mtu = c .mtu;
       sum = c .sum;
       owing = subst (λ (j : OpenJob). Owing (isConnected (y .state)) (y .peer) j) (sym (c .job)) (none-owing (isConnected (y .state)) (y .peer) (c .peer));
+      least = c .least;
       free = λ e. absurd (false≢true (sym (c .is) ∙ e));
       quiet = λ _. (c .assembly, ap (λ (q : Queue). q .count) (c .queue));
     }

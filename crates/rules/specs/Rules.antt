@@ -1,6 +1,6 @@
 -- The rules of every run from a made table that speak of the table: refusal 1 never comes (A), identifiers are 1 to 255 (B), credits
 -- held plus received stay what they were when the connection began (C); a job handed over in portions stands only in a Connected slot, with
--- a credit set aside for each frame to come (G). They follow from what every reached state has (Good.antt).
+-- a credit set aside for each frame to come (G); a peer's MTU and MPS are at least 23, so that refusal 20 never comes (H). They follow from what every reached state has (Good.antt).
 use mathlib.Core.Path.{_≡_, refl, sym, ap, _∙_, subst, subst₂}
 use mathlib.Core.Bool.{Bool, true, false, _&&_, not, false≢true}
 use mathlib.Core.List.{List, [], _∷_}
@@ -18,7 +18,7 @@ use Rattle.credit.specs.Account.{creditSum}
 use Rattle.sar_cut.specs.Cutting.{ceil}
 use Rattle.signal_write.specs.Writer.{encodeOf}
 use Rattle.signal_forms.specs.declared.Signal.the-variants.{LeCreditConnReq, LeCreditConnRes}
-use Rattle.channel.specs.Limits.{creditsMost, identifierMost}
+use Rattle.channel.specs.Limits.{creditsMost, identifierMost, sizeLeast}
 use Rattle.channel.specs.declared.Answer.the-variants.{At, Link, Portion}
 use Rattle.channel.specs.declared.ChannelIndex.{ChannelIndex}
 use Rattle.channel.specs.declared.ChannelState.{ChannelState}
@@ -42,6 +42,7 @@ use Rattle.rules.specs.Step as Step
 use Rattle.rules.specs.Forms.{live-at, gate-cases}
 use Rattle.rules.specs.Aside.{portion-aside}
 use Rattle.rules.specs.Keep.{accounting-sum}
+use Rattle.rules.specs.Tests.{offered, least-sizes}
 use Rattle.rules.specs.Good.{Good, within, slot-sound, good-formed, call-steps, same-sizes, next-id, reached-good}
 
 -- ---- A. "the table never becomes one that refusal 1 refuses"
@@ -53,8 +54,8 @@ well-formed r = good-formed (reached-good r)
 pub never-1-nor-2 : {s : State} → Reached s → (a : Call) → Fits a → (answerNumber (outcome s a .answer) ≡ 1 → ⊥) × (answerNumber (outcome s a .answer) ≡ 2 → ⊥)
 never-1-nor-2 {s} r a f =
     let n = answerNumber (outcome s a .answer) in
-    let p : (not (eqb n 1) && not (eqb n 2)) ≡ true = call-steps s (reached-good r) a f .answer in
-    (eqb-false n 1 (not-true _ (and-left (not (eqb n 1)) _ p)), eqb-false n 2 (not-true _ (and-right (not (eqb n 1)) _ p)))
+    let p : (not (eqb n 1) && (not (eqb n 2) && not (eqb n 20))) ≡ true = call-steps s (reached-good r) a f .answer in
+    (eqb-false n 1 (not-true _ (and-left (not (eqb n 1)) _ p)), eqb-false n 2 (not-true _ (and-left (not (eqb n 2)) _ (and-right (not (eqb n 1)) _ p))))
 
 -- "a credit sum never passes 65,535"
 pub credit-sum : {s : State} → Reached s → (i : ℕ) → i < s .table .n → creditSum (slotAt (s .table) i .account) ≤ creditsMost
@@ -253,3 +254,17 @@ portion-credits {t} g i count size link k full =
 
     never : {r : Refusal} → P (refuse t r)
     never e = let z : _≡_ {A = ℕ} 0 1 = cc in absurd (omega arith)
+
+-- ---- H. "Core sets 23 as the least for MTU and for MPS, so follow Core" (document 02)
+
+-- A PeerConnecting or Connected slot's peer MTU and MPS are at least 23.
+pub peer-least : {s : State} → Reached s → (i : ℕ) → i < s .table .n → offered (slotAt (s .table) i .state) ≡ true
+    → (sizeLeast ≤ slotAt (s .table) i .peer .mtu) × (sizeLeast ≤ slotAt (s .table) i .peer .mps)
+peer-least {s} r i h e = least-sizes (slotAt (s .table) i .peer) (slot-sound (reached-good r) i h .least e)
+
+-- So no call answers 20, "peer MPS < 23 at sending": it is for tables that no run reaches.
+pub never-20 : {s : State} → Reached s → (a : Call) → Fits a → answerNumber (outcome s a .answer) ≡ 20 → ⊥
+never-20 {s} r a f =
+    let n = answerNumber (outcome s a .answer) in
+    let p : (not (eqb n 1) && (not (eqb n 2) && not (eqb n 20))) ≡ true = call-steps s (reached-good r) a f .answer in
+    eqb-false n 20 (not-true _ (and-right (not (eqb n 2)) _ (and-right (not (eqb n 1)) _ p)))

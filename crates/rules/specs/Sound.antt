@@ -17,7 +17,7 @@ use Rattle.channel.specs.declared.Queue.{Queue}
 use Rattle.channel.specs.declared.Slot.{Slot}
 use Rattle.definition.specs.Table.{fresh, isDisconnected, isConnected, noJob}
 use Rattle.definition.specs.Portions.{givenOut}
-use Rattle.rules.specs.Tests.{begun}
+use Rattle.rules.specs.Tests.{begun, Least}
 
 -- An assembly and a queue of at most d jobs, in places of p octets.
 pub record Holding (d p : ℕ) (a : Assembly) (q : Queue) : Type 0 where
@@ -48,6 +48,8 @@ pub record Sound (d p : ℕ) (x : Slot) : Type 0 where
   pub mtu : x .mtu ≤ p
   pub sum : creditSum (x .account) ≤ creditsMost
   pub owing : Owing (isConnected (x .state)) (x .peer) (x .job)
+  -- the peer of a connection that is asked for, or that stands, is not below the least
+  pub least : Least x
   -- a Disconnected slot is as it was made, but for its holds
   pub free : isDisconnected (x .state) ≡ true → x ≡ fresh (x .hold)
   -- before a connection has begun there is no assembly and no job

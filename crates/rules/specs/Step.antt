@@ -28,7 +28,7 @@ use Rattle.definition.specs.Numbers.{answerNumber}
 use Rattle.definition.specs.Frames.{queued, finishing, shifted, movingUp}
 use Rattle.definition.specs.Portions.{filledBy}
 use Rattle.definition.specs.Portions as Portions
-use Rattle.rules.specs.Tests.{begun}
+use Rattle.rules.specs.Tests.{begun, Least}
 
 -- ---- the credit account: untouched, one credit used by a frame, or a grant of what the policy says
 
@@ -69,12 +69,13 @@ pub data Sending (x : Slot) : Bool → Peer → OpenJob → Type 0 where
 
 -- ---- one slot: x becomes y
 
--- The connection goes on: not freed, our MTU the same, and once begun it stays so.
+-- The connection goes on: not freed, our MTU the same, and once begun it stays so; its peer is not below the least, if it was not before.
 pub record Goes (x y : Slot) : Type 0 where
   pub was : isDisconnected (x .state) ≡ false
   pub is : isDisconnected (y .state) ≡ false
   pub stays : begun (x .state) ≡ true → begun (y .state) ≡ true
   pub mtu : y .mtu ≡ x .mtu
+  pub least : Least x → Least y
 
 -- A pending connection is accepted, with our numbers and a new account.
 pub record Accepts (t : Table) (x y : Slot) : Type 0 where
@@ -98,6 +99,7 @@ pub record Allocates (t : Table) (x y : Slot) : Type 0 where
   pub assembly : y .assembly ≡ idle
   pub queue : y .queue ≡ fresh 0 .queue
   pub peer : y .peer .credits ≤ creditsMost
+  pub least : Least y
   pub job : y .job ≡ noJob
 
 pub data Step (t : Table) (k : ℕ) (x : Slot) : Slot → List Move → Type 0 where
@@ -123,9 +125,9 @@ pub data Numbered (t : Table) : ℕ → List Fill → Type 0 where
 
 -- ---- the answer
 
--- neither refusal 1 nor refusal 2
+-- none of the refusals 1, 2 and 20
 abbrev pub passes : Answer → Bool
-passes a = not (eqb (answerNumber a) 1) && not (eqb (answerNumber a) 2)
+passes a = not (eqb (answerNumber a) 1) && (not (eqb (answerNumber a) 2) && not (eqb (answerNumber a) 20))
 
 -- ---- a call
 

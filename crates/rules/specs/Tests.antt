@@ -1,9 +1,16 @@
--- What the tests of the definition tell: of two tests joined, and of the states of a slot.
-use mathlib.Core.Path.{_≡_, refl, sym}
+-- What the tests of the definition tell: of two tests joined, of the states of a slot, and of its peer's sizes.
+use mathlib.Core.Path.{_≡_, refl, sym, ap}
 use mathlib.Core.Bool.{Bool, true, false, _||_, false≢true}
+use Prim.Native.Nat.{_≤_, _<_, min}
+use native.Mathlib.Omega.{arith}
+use lib.Dec.{ltb}
+use borrow.Author.Tests.{ltb-true, ltb-false}
+use Rattle.channel.specs.Limits.{sizeLeast}
 use Rattle.channel.specs.declared.ChannelState.{ChannelState}
 use Rattle.channel.specs.declared.ChannelState.the-variants.{Disconnected, Connecting, PeerConnecting, Connected, ConnectFailed, PeerDisconnecting, Disconnecting}
-use Rattle.definition.specs.Table.{isDisconnected, isConnecting, isPeerConnecting, isConnected, isConnectFailed, isDue}
+use Rattle.channel.specs.declared.Peer.{Peer}
+use Rattle.channel.specs.declared.Slot.{Slot}
+use Rattle.definition.specs.Table.{isDisconnected, isConnecting, isPeerConnecting, isConnected, isConnectFailed, isDue, belowLeast}
 
 pub or-left : (a b : Bool) → (a || b) ≡ false → a ≡ false
 or-left true b e = e
@@ -123,3 +130,35 @@ due-off Connected e = sym e
 due-off (ConnectFailed c) e = refl
 due-off (PeerDisconnecting i) e = refl
 due-off (Disconnecting a) e = refl
+
+-- ---- "Core sets 23 as the least for MTU and for MPS" (document 02)
+
+-- a slot that is PeerConnecting or Connected: a connection that the peer asks for, or that stands
+abbrev pub offered : ChannelState → Bool
+offered k = isPeerConnecting k || isConnected k
+
+pub pending-offered : (k : ChannelState) → isPeerConnecting k ≡ true → offered k ≡ true
+pending-offered k e = ap (λ (b : Bool). b || isConnected k) e
+
+pub connected-offered : (k : ChannelState) → isConnected k ≡ true → offered k ≡ true
+connected-offered Disconnected e = e
+connected-offered (Connecting i) e = e
+connected-offered (PeerConnecting i) e = refl
+connected-offered Connected e = refl
+connected-offered (ConnectFailed c) e = e
+connected-offered (PeerDisconnecting i) e = e
+connected-offered (Disconnecting a) e = e
+
+-- Such a slot's peer is not below the least.
+abbrev pub Least : Slot → Type 0
+Least x = offered (x .state) ≡ true → belowLeast (x .peer) ≡ false
+
+pub least-sizes : (p : Peer) → belowLeast p ≡ false → (sizeLeast ≤ p .mtu) × (sizeLeast ≤ p .mps)
+least-sizes p e = (ltb-false (p .mtu) sizeLeast (or-left (ltb (p .mtu) sizeLeast) (ltb (p .mps) sizeLeast) e), ltb-false (p .mps) sizeLeast (or-right (ltb (p .mtu) sizeLeast) (ltb (p .mps) sizeLeast) e))
+
+pub below-sizes : (p : Peer) → belowLeast p ≡ true → min (p .mtu) (p .mps) < sizeLeast
+below-sizes p e = by (ltb (p .mtu) sizeLeast) refl
+  where
+    by : (b : Bool) → ltb (p .mtu) sizeLeast ≡ b → min (p .mtu) (p .mps) < sizeLeast
+    by true f = omega (arith, ltb-true (p .mtu) sizeLeast f)
+    by false f = let g : ltb (p .mps) sizeLeast ≡ true = rw f at e in omega (arith, ltb-true (p .mps) sizeLeast g)

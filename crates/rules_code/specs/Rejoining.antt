@@ -8,7 +8,7 @@ use lib.ListN.{length, take}
 use lib.Seq.{sets}
 use Rattle.lists.specs.Choose.{if-cases}
 use Rattle.lists.specs.Sets.{part-length, part-same}
-use Rattle.sar_cut.specs.Cutting.{payloads, framesOf}
+use Rattle.sar_cut.specs.Cutting.{payloads, AllWithin, framesOf}
 use Rattle.sar_cut.specs.declared.Plan.{Plan}
 use Rattle.sar_cut.specs.declared.Plan.the-variants as Plan
 use Rattle.channel.specs.Limits.{handleMost, signalMost}
@@ -88,14 +88,15 @@ code-arrives {i} {link} {s = s} {s′} (comes {ps = ps} {p = p} d q) = Rejoin.co
 
 -- ---- THE THEOREM
 
--- A send of the code was answered 0 with n frames, anywhere; the receiver is as document 01 asks it, in a run of the code; the payloads come.
+-- A send of the code was answered 0 with n frames, anywhere; the receiver is as documents 01 and 02 ask it, in a run of the code; the payloads come.
 -- Then the job waits there, whole, behind those that waited before, which are unchanged.
 pub code-exact-rejoining : {sender sender′ : State} {r : Served} (j : ℕ) (sdu : List ℕ) (w : Window) (link′ n : ℕ) → Called sender (sends j sdu w) r sender′ → r .answer ≡ Frames link′ n
     → {s s′ : State} (i link : ℕ) → link ≤ handleMost → CodeReached s → Receiver s i link n → slotAt (s .table) i .assembly .want ≡ 0 → length sdu ≤ slotAt (s .table) i .mtu
+    → AllWithin (slotAt (s .table) i .mps) (payloads (slotAt (sender .table) j .peer .mps) sdu)
     → CodeArrives i link (payloads (slotAt (sender .table) j .peer .mps) sdu) s s′
     → Rejoined s′ i sdu (slotAt (s .table) i .queue .count) (jobAt s i)
-code-exact-rejoining {sender} j sdu w link′ n p e i link handle g v z m a =
-    exact-rejoining sender j sdu w link′ n (answered p e) i link handle (code-reached g) v z m (code-arrives a)
+code-exact-rejoining {sender} j sdu w link′ n p e i link handle g v z m b a =
+    exact-rejoining sender j sdu w link′ n (answered p e) i link handle (code-reached g) v z m b (code-arrives a)
 
 -- Where no job waited before it, the next take leaves the SDU at the start of its job buffer, and reports its length twice.
 pub code-exact-taking : {s s′ : State} {r : Served} → CodeReached s → (i : ℕ) (sdu : List ℕ) (others : ℕ → List ℕ) → Rejoined s i sdu 0 others

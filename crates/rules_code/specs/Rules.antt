@@ -8,7 +8,7 @@ use lib.ListN.{length, getD}
 use Rattle.lists.specs.Choose.{choose}
 use Rattle.credit.specs.Account.{creditSum}
 use Rattle.sar_cut.specs.Cutting.{ceil}
-use Rattle.channel.specs.Limits.{creditsMost, identifierMost}
+use Rattle.channel.specs.Limits.{creditsMost, identifierMost, sizeLeast}
 use Rattle.channel.specs.declared.Answer.the-variants.{Done, Portion}
 use Rattle.channel.specs.declared.Served.{Served}
 use Rattle.definition.specs.Table.{placeOf, width, fresh, slotAt, isDisconnected, isConnected, isOpen, noJob, nextId, wellFormed}
@@ -17,10 +17,10 @@ use Rattle.definition.specs.Calls.{Window, Call, portions, jobs, bare, decide}
 use Rattle.definition.specs.Numbers.{answerNumber}
 use Rattle.definition.specs.Run.{State, lent, outcome, after}
 use Rattle.rules.specs.Run.{Fits, AllFit, Reached, start, run-reached}
-use Rattle.rules.specs.Tests.{begun}
+use Rattle.rules.specs.Tests.{begun, offered}
 use Rattle.rules.specs.Step.{Numbered}
 use Rattle.rules.specs.Places.{jobIn}
-use Rattle.rules.specs.Rules.{well-formed, never-1-nor-2, credit-sum, peer-credit-sum, no-job-elsewhere, no-job-unpaid, credits-set-aside, identifiers, identifier-used, lasts, Lasts, credits-last, Uses, portion-credits}
+use Rattle.rules.specs.Rules.{well-formed, never-1-nor-2, credit-sum, peer-credit-sum, no-job-elsewhere, no-job-unpaid, credits-set-aside, identifiers, identifier-used, lasts, Lasts, credits-last, Uses, portion-credits, peer-least, never-20}
 use Rattle.rules.specs.Good.{reached-good}
 use Rattle.rules.specs.RoomRule.{room-rule, Empty, unbegun-empty, free-fresh, new-connection, connection-begins}
 use Rattle.rules_code.specs.Called.{Called, called-after, called-served}
@@ -62,6 +62,11 @@ module _ {s : State} (g : CodeReached s) where
       → slotAt (s .table) i .job .aside ≡ ceil (slotAt (s .table) i .job .length + 2 - givenOut (slotAt (s .table) i .job)) (slotAt (s .table) i .peer .mps)
   code-credits-set-aside = credits-set-aside (code-reached g)
 
+  -- a PeerConnecting or Connected slot's peer MTU and MPS are at least 23 (document 02)
+  pub code-peer-least : (i : ℕ) → i < s .table .n → offered (slotAt (s .table) i .state) ≡ true
+      → (sizeLeast ≤ slotAt (s .table) i .peer .mtu) × (sizeLeast ≤ slotAt (s .table) i .peer .mps)
+  code-peer-least = peer-least (code-reached g)
+
   -- "Identifiers run 1 to 255"
   pub code-identifiers : (1 ≤ nextId (s .table)) × (nextId (s .table) ≤ identifierMost)
   code-identifiers = identifiers (code-reached g)
@@ -83,6 +88,10 @@ module _ {s : State} (g : CodeReached s) where
     -- no call answers 1, nor 2
     pub code-never-1-nor-2 : (answerNumber (r .answer) ≡ 1 → ⊥) × (answerNumber (r .answer) ≡ 2 → ⊥)
     code-never-1-nor-2 = subst (λ (x : Served). (answerNumber (x .answer) ≡ 1 → ⊥) × (answerNumber (x .answer) ≡ 2 → ⊥)) (sym (called-served p)) (never-1-nor-2 (code-reached g) c f)
+
+    -- and none 20
+    pub code-never-20 : answerNumber (r .answer) ≡ 20 → ⊥
+    code-never-20 = subst (λ (x : Served). answerNumber (x .answer) ≡ 20 → ⊥) (sym (called-served p)) (never-20 (code-reached g) c f)
 
     -- it keeps the next identifier, or uses it, and then writes nothing or one signal that carries it
     pub code-identifier-used : Numbered (s .table) (s′ .table .identifier) (outcome s c .out)

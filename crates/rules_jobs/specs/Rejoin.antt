@@ -16,6 +16,7 @@ use Rattle.lists.specs.Both.{and-both}
 use Rattle.octets.specs.Octets.{part, le16, u16At}
 use Rattle.octets.specs.Sets.{part-length}
 use Rattle.credit.specs.Account.{received}
+use Rattle.sar_cut.specs.Cutting.{AllWithin}
 use Rattle.sar_join.specs.declared.Assembly.{Assembly}
 use Rattle.sar_join.specs.Joining.{isIdle, idle, joinStep}
 use Rattle.channel.specs.Limits.{cidBase, handleMost, depthMost, jobHead}
@@ -127,9 +128,11 @@ pub record Receiver (s : State) (i link n : ℕ) : Type 0 where
   pub credits : n ≤ slotAt (s .table) i .account .credits
   pub place : slotAt (s .table) i .queue .count < s .table .d
 
--- An assembly is open in its slot i: `done` stands in the place for assembly, of a job of `want` octets; c jobs wait, and are these.
-pub record Open (s : State) (i link n : ℕ) (done : List ℕ) (want c : ℕ) (jobs : ℕ → List ℕ) : Type 0 where
-  pub receiver : Receiver s i link n
+-- An assembly is open in its slot i: `done` stands in the place for assembly, of a job of `want` octets; these payloads are to come, none longer than our MPS; c jobs wait,
+-- and are these.
+pub record Open (s : State) (i link : ℕ) (ps : List (List ℕ)) (done : List ℕ) (want c : ℕ) (jobs : ℕ → List ℕ) : Type 0 where
+  pub receiver : Receiver s i link (length ps)
+  pub fits : AllWithin (slotAt (s .table) i .mps) ps
   pub count : slotAt (s .table) i .queue .count ≡ c
   pub assembly : slotAt (s .table) i .assembly ≡ record { have = length done; want = want }
   pub there : take (length done) (partOf s i) ≡ done
@@ -144,7 +147,12 @@ pub record Rejoined (s : State) (i : ℕ) (sdu : List ℕ) (c : ℕ) (jobs : ℕ
   pub whole : jobAt s i c ≡ sdu
   pub olds : (k : ℕ) → k < c → jobAt s i k ≡ jobs k
 
-module _ (s : State) (g : Good (s .table) (s .room)) (i link n : ℕ) (handle : link ≤ handleMost) (r : Receiver s i link (suc n)) where
+-- (ps: the payloads that come after this frame)
+module _ (s : State) (g : Good (s .table) (s .room)) (i link : ℕ) (ps : List (List ℕ)) (handle : link ≤ handleMost) (r : Receiver s i link (suc (length ps)))
+    (w : AllWithin (slotAt (s .table) i .mps) ps) where
+  abbrev n : ℕ
+  n = length ps
+
   abbrev t : Table
   t = s .table
 
@@ -226,9 +234,9 @@ module _ (s : State) (g : Good (s .table) (s .room)) (i link n : ℕ) (handle : 
     module _ (done : List ℕ) (have : x .assembly .have ≡ length done) (there : take (length done) (partOf s i) ≡ done) where
       grows : (want : ℕ) → length (done ++ js) < want → want ≤ placeOf t
           → outcome s a ≡ change t i (withAssembly (record { have = length (done ++ js); want = want }) x′) (put (x .assembly .have) (job 0 (length js)) ∷ []) Done []
-          → Open (after s a) i link n (done ++ js) want (x .queue .count) (jobAt s i)
+          → Open (after s a) i link ps (done ++ js) want (x .queue .count) (jobAt s i)
       unfolding moves move fill
-      grows want l w e =
+      grows want l h e =
           let y = withAssembly (record { have = length (done ++ js); want = want }) x′ in
           let b = changes s a g f i (r .used) y _ (ap (λ (o : Outcome). o .table .slots) e) (ap (λ (o : Outcome). o .parts) e) in
           let xs = partOf s i in
@@ -238,6 +246,7 @@ module _ (s : State) (g : Good (s .table) (s .room)) (i link n : ℕ) (handle : 
           let new : partOf (after s a) i ≡ sets xs (length done) js = b .room ∙ put-there in
           record {
             receiver = still-receives y (b .slot) (r .on) refl refl (r .place);
+            fits = subst (λ (v : Slot). AllWithin (v .mps) ps) (sym (b .slot)) w;
             count = ap (λ (v : Slot). v .queue .count) (b .slot);
             assembly = ap (λ (v : Slot). v .assembly) (b .slot);
             there = ap (take (length (done ++ js))) new ∙ grown-there xs done js (omega (arith, suc-mul (t .d) (placeOf t))) there;
@@ -265,26 +274,26 @@ module _ (s : State) (g : Good (s .table) (s .room)) (i link n : ℕ) (handle : 
 
   -- a first frame that carries a part of its job, or all of it
   module _ (z : x .assembly .want ≡ 0) where
-    first-grows : (js rest : List ℕ) → length (js ++ rest) ≤ x .mtu → 0 < length rest
-        → Open (after s (framing link i (le16 (length (js ++ rest)) ++ js))) i link n js (length (js ++ rest)) (x .queue .count) (jobAt s i)
-    first-grows js rest m more =
+    first-grows : (js rest : List ℕ) → 2 + length js ≤ x .mps → length (js ++ rest) ≤ x .mtu → 0 < length rest
+        → Open (after s (framing link i (le16 (length (js ++ rest)) ++ js))) i link ps js (length (js ++ rest)) (x .queue .count) (jobAt s i)
+    first-grows js rest q m more =
         let len = length (js ++ rest) in
         let l : length js < len = rw (length-append js rest) (omega arith) in
         grows (framing link i (le16 len ++ js)) tt js (first-jobs len js z) [] (ok .holding .closed z) refl len l (let w = ok .mtu in omega arith)
         (first-outcome len js z
-        ∙ joined-part t i x′ (length js) (t .d) (x .queue .count) (length js) len _ (reaches-first (x .mtu) (x .mps) (t .d) (x .assembly) (x .queue .count) (length js) len z m) (ok .holding .closed) l)
+        ∙ joined-part t i x′ (length js) (t .d) (x .queue .count) (length js) len _ (reaches-first (x .mtu) (x .mps) (t .d) (x .assembly) (x .queue .count) (length js) len q z m) (ok .holding .closed) l)
 
-    first-finishes : (sdu : List ℕ) → length sdu ≤ x .mtu
+    first-finishes : (sdu : List ℕ) → 2 + length sdu ≤ x .mps → length sdu ≤ x .mtu
         → Rejoined (after s (framing link i (le16 (length sdu) ++ sdu))) i sdu (x .queue .count) (jobAt s i)
-    first-finishes sdu m =
+    first-finishes sdu q m =
         let len = length sdu in
         finishes (framing link i (le16 len ++ sdu)) tt sdu (first-jobs len sdu z) sdu
         (finish-alone t x′ (partOf s i) (ok .holding) (part-long s g i (r .used)) most (r .place) sdu z (let w = ok .mtu in omega arith))
         (first-outcome len sdu z
-        ∙ joined-whole t i x′ len (t .d) (x .queue .count) len len _ (reaches-first (x .mtu) (x .mps) (t .d) (x .assembly) (x .queue .count) len len z m) refl (r .place))
+        ∙ joined-whole t i x′ len (t .d) (x .queue .count) len len _ (reaches-first (x .mtu) (x .mps) (t .d) (x .assembly) (x .queue .count) len len q z m) refl (r .place))
 
   -- a later one
-  module _ (done js : List ℕ) (want : ℕ) (is : x .assembly ≡ record { have = length done; want = want }) (wants : 0 < want) (there : take (length done) (partOf s i) ≡ done) where
+  module _ (done js : List ℕ) (within : length js ≤ x .mps) (want : ℕ) (is : x .assembly ≡ record { have = length done; want = want }) (wants : 0 < want) (there : take (length done) (partOf s i) ≡ done) where
     some : x .assembly .want ≡ 0 → ⊥
     some e = let f = ap (λ (b : Assembly). b .want) is in omega arith
 
@@ -295,9 +304,9 @@ module _ (s : State) (g : Good (s .table) (s .room)) (i link n : ℕ) (handle : 
     reaches =
         let e : x .assembly .have + length js ≡ length (done ++ js) = ap (λ (b : Assembly). b .have + length js) is ∙ sym (length-append done js) in
         subst₂ (λ (h w : ℕ). Reaches (t .d) (x .queue .count) (joinStep (x .mtu) (x .mps) (t .d) (x .assembly) (x .queue .count) (length js) 0) h w) e (ap (λ (b : Assembly). b .want) is)
-        (reaches-next (x .mtu) (x .mps) (t .d) (x .assembly) (x .queue .count) (length js) 0 some)
+        (reaches-next (x .mtu) (x .mps) (t .d) (x .assembly) (x .queue .count) (length js) 0 within some)
 
-    next-grows : length (done ++ js) < want → Open (after s (framing link i js)) i link n (done ++ js) want (x .queue .count) (jobAt s i)
+    next-grows : length (done ++ js) < want → Open (after s (framing link i js)) i link ps (done ++ js) want (x .queue .count) (jobAt s i)
     next-grows l =
         grows (framing link i js) tt js (next-jobs js some) done (ap (λ (b : Assembly). b .have) is) there want l small
         (next-outcome js some ∙ joined-part t i x′ (length js) (t .d) (x .queue .count) (length (done ++ js)) want _ reaches (ok .holding .closed) l)
@@ -345,10 +354,11 @@ module _ (s : State) (g : Good (s .table) (s .room)) (a : Call) (f : Fits a) (i 
         place = subst (λ (v : Slot). v .queue .count < after s a .table .d) (sym (u .slot)) (subst (λ (k : ℕ). slotAt (s .table) i .queue .count < k) (sym (z .d)) (r .place));
       }
 
-  open-kept : {link n want c : ℕ} {done : List ℕ} {jobs : ℕ → List ℕ} → Open s i link n done want c jobs → Open (after s a) i link n done want c jobs
-  open-kept {done = done} o =
+  open-kept : {link want c : ℕ} {ps : List (List ℕ)} {done : List ℕ} {jobs : ℕ → List ℕ} → Open s i link ps done want c jobs → Open (after s a) i link ps done want c jobs
+  open-kept {ps = ps} {done = done} o =
       record {
         receiver = receiver-kept (o .receiver);
+        fits = subst (λ (v : Slot). AllWithin (v .mps) ps) (sym (u .slot)) (o .fits);
         count = ap (λ (v : Slot). v .queue .count) (u .slot) ∙ o .count;
         assembly = ap (λ (v : Slot). v .assembly) (u .slot) ∙ o .assembly;
         there = ap (take (length done)) (u .room) ∙ o .there;
@@ -368,9 +378,9 @@ module _ (s : State) (g : Good (s .table) (s .room)) (a : Call) (f : Fits a) (i 
 
 -- the same jobs by other names
 module _ {c c′ : ℕ} {jobs jobs′ : ℕ → List ℕ} (e : c′ ≡ c) (same : (k : ℕ) → k < c → jobs′ k ≡ jobs k) where
-  open-as : {s : State} {i link n want : ℕ} {done : List ℕ} → Open s i link n done want c′ jobs′ → Open s i link n done want c jobs
+  open-as : {s : State} {i link want : ℕ} {ps : List (List ℕ)} {done : List ℕ} → Open s i link ps done want c′ jobs′ → Open s i link ps done want c jobs
   open-as o =
-      record { receiver = o .receiver; count = o .count ∙ e; assembly = o .assembly; there = o .there; olds = λ k l. o .olds k (subst (λ (m : ℕ). k < m) (sym e) l) ∙ same k l }
+      record { receiver = o .receiver; fits = o .fits; count = o .count ∙ e; assembly = o .assembly; there = o .there; olds = λ k l. o .olds k (subst (λ (m : ℕ). k < m) (sym e) l) ∙ same k l }
 
   rejoined-as : {s : State} {i : ℕ} {sdu : List ℕ} → Rejoined s i sdu c′ jobs′ → Rejoined s i sdu c jobs
   rejoined-as {s} {i} {sdu} w =
@@ -393,31 +403,32 @@ module _ (i link : ℕ) (handle : link ≤ handleMost) where
 
   -- the frames after the first
   rest-arrives : {s s′ : State} {done rest : List ℕ} {ps : List (List ℕ)} {c : ℕ} {jobs : ℕ → List ℕ} → Arrives i link ps s s′ → Rest rest ps → Reached s → 0 < length rest
-      → Open s i link (length ps) done (length (done ++ rest)) c jobs → Rejoined s′ i (done ++ rest) c jobs
+      → Open s i link ps done (length (done ++ rest)) c jobs → Rejoined s′ i (done ++ rest) c jobs
   rest-arrives {s} {done = done} {c = c} {jobs = jobs} (between a f u v) q r h o = rest-arrives {done = done} {c = c} {jobs = jobs} v q (next a r f) h (open-kept s (reached-good r) a f i u o)
   rest-arrives {s} {done = done} (comes p v) (last p′) r h o =
       let wants : 0 < length (done ++ p) = rw (length-append done p) (omega arith) in
       settled v (next (framing link i p) r tt)
-      (rejoined-as (o .count) (o .olds) (next-finishes s (reached-good r) i link 0 handle (o .receiver) done p (length (done ++ p)) (o .assembly) wants (o .there) refl))
+      (rejoined-as (o .count) (o .olds) (next-finishes s (reached-good r) i link [] handle (o .receiver) tt done p (o .fits .0) (length (done ++ p)) (o .assembly) wants (o .there) refl))
   rest-arrives {s} {s′} {done} {c = c} {jobs = jobs} (comes {ps = ps} p v) (more p′ {rest} m q) r h o =
       let wants : 0 < length (done ++ (p ++ rest)) = rw (length-append done (p ++ rest)) (omega arith) in
       let e = append-assoc done p rest in
       let l : length (done ++ p) < length (done ++ (p ++ rest)) = rw (← e, length-append (done ++ p) rest) (omega arith) in
       subst (λ (sdu : List ℕ). Rejoined s′ i sdu c jobs) e
       (rest-arrives {done = done ++ p} {c = c} {jobs = jobs} v q (next (framing link i p) r tt) m
-      (subst (λ (sdu : List ℕ). Open (after s (framing link i p)) i link (length ps) (done ++ p) (length sdu) c jobs) (sym e)
-      (open-as (o .count) (o .olds) (next-grows s (reached-good r) i link (length ps) handle (o .receiver) done p (length (done ++ (p ++ rest))) (o .assembly) wants (o .there) l))))
+      (subst (λ (sdu : List ℕ). Open (after s (framing link i p)) i link ps (done ++ p) (length sdu) c jobs) (sym e)
+      (open-as (o .count) (o .olds) (next-grows s (reached-good r) i link ps handle (o .receiver) (o .fits .1) done p (o .fits .0) (length (done ++ (p ++ rest))) (o .assembly) wants (o .there) l))))
 
   -- "Rejoining is exact when the receiver is Connected and idle with n credits, a free queue place, MTU ≥ L, .. and the frames arrive in order
-  -- on their own link with no other change of that slot between": then the job waits, whole, behind those that waited.
+  -- on their own link with no other change of that slot between", and "our MPS [is] no less than any frame's payload" (document 02): then the job waits, whole, behind those that waited.
   pub rejoins : {s s′ : State} {sdu q : List ℕ} {ps : List (List ℕ)} → Arrives i link ((le16 (length sdu) ++ q) ∷ ps) s s′ → Rest sdu (q ∷ ps) → Reached s
-      → Receiver s i link (suc (length ps)) → slotAt (s .table) i .assembly .want ≡ 0 → length sdu ≤ slotAt (s .table) i .mtu
+      → Receiver s i link (suc (length ps)) → AllWithin (slotAt (s .table) i .mps) ((le16 (length sdu) ++ q) ∷ ps) → slotAt (s .table) i .assembly .want ≡ 0 → length sdu ≤ slotAt (s .table) i .mtu
       → Rejoined s′ i sdu (slotAt (s .table) i .queue .count) (jobAt s i)
-  rejoins {s} {sdu = sdu} (between a f u v) w r n z m =
+  rejoins {s} {sdu = sdu} {q} {ps} (between a f u v) w r n b z m =
       rejoined-as (ap (λ (x : Slot). x .queue .count) (u .slot)) (λ k _. job-kept s (reached-good r) a f i u k)
-      (rejoins v w (next a r f) (receiver-kept s (reached-good r) a f i u n) (ap (λ (x : Slot). x .assembly .want) (u .slot) ∙ z)
+      (rejoins v w (next a r f) (receiver-kept s (reached-good r) a f i u n) (subst (λ (x : Slot). AllWithin (x .mps) ((le16 (length sdu) ++ q) ∷ ps)) (sym (u .slot)) b)
+      (ap (λ (x : Slot). x .assembly .want) (u .slot) ∙ z)
       (subst (λ (x : Slot). length sdu ≤ x .mtu) (sym (u .slot)) m))
-  rejoins {s} (comes p v) (last sdu′) r n z m =
-      settled v (next (framing link i p) r tt) (first-finishes s (reached-good r) i link 0 handle n z sdu′ m)
-  rejoins {s} (comes p v) (more q {rest} {ps} h w) r n z m =
-      rest-arrives {done = q} {c = slotAt (s .table) i .queue .count} {jobs = jobAt s i} v w (next (framing link i p) r tt) h (first-grows s (reached-good r) i link (length ps) handle n z q rest m h)
+  rejoins {s} (comes p v) (last sdu′) r n b z m =
+      settled v (next (framing link i p) r tt) (first-finishes s (reached-good r) i link [] handle n tt z sdu′ (let y = b .0 in omega arith) m)
+  rejoins {s} (comes p v) (more q {rest} {ps} h w) r n b z m =
+      rest-arrives {done = q} {c = slotAt (s .table) i .queue .count} {jobs = jobAt s i} v w (next (framing link i p) r tt) h (first-grows s (reached-good r) i link ps handle n (b .1) z q rest (let y = b .0 in omega arith) m h)

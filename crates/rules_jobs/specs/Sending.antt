@@ -9,8 +9,8 @@ use lib.Seq.{take-all}
 use Rattle.lists.specs.Choose.{if-cases}
 use Rattle.codes.specs.declared.Refusal.{Refusal}
 use Rattle.octets.specs.Octets.{le16}
-use Rattle.sar_cut.specs.Cutting.{stream, pieces, payloads, framesOf}
-use Rattle.sar_cut.specs.CutLaws.{split}
+use Rattle.sar_cut.specs.Cutting.{stream, pieces, payloads, AllWithin, framesOf}
+use Rattle.sar_cut.specs.CutLaws.{split, payloads-within}
 use Rattle.sar_frames.specs.FrameLaws.{pieces-nil, pieces-more}
 use Rattle.sar_frames.specs.Theorems.{cut}
 use Rattle.channel.specs.Limits.{handleMost, signalMost}
@@ -91,21 +91,31 @@ sends-frames s j sdu w link n =
 
 -- ---- THE THEOREM
 
--- A send was answered 0 with n frames, anywhere. The receiver, in a run of its own, is Connected and idle with n credits, a free queue place and
--- MTU ≥ L; the frames' payloads come in order on their own link, and other calls between them leave that slot unchanged. Then the job waits there,
--- whole, behind those that waited before, which are unchanged.
+-- A send was answered 0 with n frames, anywhere. The receiver, in a run of its own, is Connected and idle with n credits, a free queue place,
+-- MTU ≥ L and an MPS that no frame's payload passes; the frames' payloads come in order on their own link, and other calls between them leave that slot
+-- unchanged. Then the job waits there, whole, behind those that waited before, which are unchanged.
 pub exact-rejoining : (sender : State) (j : ℕ) (sdu : List ℕ) (w : Window) (link′ n : ℕ) → outcome sender (sends j sdu w) .answer ≡ Frames link′ n
     → {s s′ : State} (i link : ℕ) → link ≤ handleMost → Reached s → Receiver s i link n → slotAt (s .table) i .assembly .want ≡ 0 → length sdu ≤ slotAt (s .table) i .mtu
+    → AllWithin (slotAt (s .table) i .mps) (payloads (slotAt (sender .table) j .peer .mps) sdu)
     → Arrives i link (payloads (slotAt (sender .table) j .peer .mps) sdu) s s′
     → Rejoined s′ i sdu (slotAt (s .table) i .queue .count) (jobAt s i)
-exact-rejoining sender j sdu w link′ n answered {s} {s′} i link handle r v z m a =
+exact-rejoining sender j sdu w link′ n answered {s} {s′} i link handle r v z m b a =
     let f = sends-frames sender j sdu w link′ n answered in
     let mps = slotAt (sender .table) j .peer .mps in
     let e = payloads-is mps sdu (f .wide) in
     let wide : 0 < mps = (let y = f .wide in omega arith) in
     rejoins i link handle (subst (λ (ps : List (List ℕ)). Arrives i link ps s s′) e a)
     (cut-rest (mps - 2) mps sdu wide (λ q. pieces-rest (length (drop (mps - 2) sdu)) mps (drop (mps - 2) sdu) wide (omega arith) q)) r
-    (subst (λ (k : ℕ). Receiver s i link k) (sym (f .count) ∙ ap length e) v) z m
+    (subst (λ (k : ℕ). Receiver s i link k) (sym (f .count) ∙ ap length e) v) (subst (λ (ps : List (List ℕ)). AllWithin (slotAt (s .table) i .mps) ps) e b) z m
+
+-- So it is, whatever the job, where the sender was told an MPS of at most ours.
+pub exact-rejoining-told : (sender : State) (j : ℕ) (sdu : List ℕ) (w : Window) (link′ n : ℕ) → outcome sender (sends j sdu w) .answer ≡ Frames link′ n
+    → {s s′ : State} (i link : ℕ) → link ≤ handleMost → Reached s → Receiver s i link n → slotAt (s .table) i .assembly .want ≡ 0 → length sdu ≤ slotAt (s .table) i .mtu
+    → slotAt (sender .table) j .peer .mps ≤ slotAt (s .table) i .mps
+    → Arrives i link (payloads (slotAt (sender .table) j .peer .mps) sdu) s s′
+    → Rejoined s′ i sdu (slotAt (s .table) i .queue .count) (jobAt s i)
+exact-rejoining-told sender j sdu w link′ n answered {s} i link handle r v z m b a =
+    exact-rejoining sender j sdu w link′ n answered i link handle r v z m (payloads-within (slotAt (sender .table) j .peer .mps) (slotAt (s .table) i .mps) sdu b) a
 
 -- Where no job waited before it, the next take hands out the SDU and reports its length.
 pub exact-taking : {s : State} → Reached s → (i : ℕ) (sdu : List ℕ) (others : ℕ → List ℕ) → Rejoined s i sdu 0 others → (w v : Window) → signalMost ≤ sized w s → length sdu ≤ sized v s

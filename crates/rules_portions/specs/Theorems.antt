@@ -10,6 +10,7 @@ use lib.Seq.{sets, getD-set-same}
 use borrow.Author.Tests.{lt-ltb, eq-eqb, ne-eqb}
 use Rattle.lists.specs.Choose.{choose-true, choose-false}
 use Rattle.lists.specs.Both.{false-unless}
+use Rattle.codes.specs.Limits.{sizeLeast}
 use Rattle.octets.specs.Octets.{part}
 use Rattle.octets.specs.Sets.{part-same}
 use Rattle.sar_cut.specs.Cutting.{ceil, frameCount, framesLength, stream, pieceAt, piecesFrom, pieces, payloads, frame, joined, frameAt, framesOf}
@@ -138,7 +139,7 @@ sent-octets s i sdu v link n e =
     let mps = x .peer .mps in
     let b = lent v (s .memory) in
     let z = send-sends (s .table) i (length sdu) (length b) link n e in
-    let wide : 23 ≤ mps = z .allowed .wide in
+    let wide : sizeLeast ≤ mps = z .allowed .wide in
     let count = z .allowed .frames in
     let all = framesOf cid mps sdu in
     let len : length all ≡ framesLength (length sdu) mps = cut mps cid sdu (omega arith) .octets in
@@ -192,7 +193,7 @@ module _ (s : State) (i : ℕ) (sdu : List ℕ) (w : Window) (link n : ℕ) wher
     abbrev b₁ : List ℕ
     b₁ = lent w (s₁ .memory)
 
-    wide : 23 ≤ x .peer .mps
+    wide : sizeLeast ≤ x .peer .mps
     wide = starts .allowed .wide
 
     count : n ≡ frameCount (length sdu) (x .peer .mps)

@@ -273,7 +273,7 @@ module _ (t : Table) (fit : Fit t) (Reg : Type 0) where
     unfolding onConnReq
     connReq-alone c listening LeCreditConnReq.Decode = still-keeps as-is
     connReq-alone c listening (LeCreditConnReq.Is req) =
-        else-keeps _ _ _ as-is λ _. else-keeps _ _ _ as-is λ _. else-keeps _ _ _ as-is λ _. else-keeps _ _ _ as-is λ a.
+        else-keeps _ _ _ as-is λ _. else-keeps _ _ _ as-is λ _. else-keeps _ _ _ as-is λ _. else-keeps _ _ _ as-is λ _. else-keeps _ _ _ as-is λ a.
         let q = lowest-free a in
         change-keeps _ _ _ as-is (q .within, connects c q)
 
@@ -285,7 +285,7 @@ module _ (t : Table) (fit : Fit t) (Reg : Type 0) where
         (λ a. sweep-keeps (attemptOf l) (λ i h e. (h, unmatched c (found-none t fit (attemptBy l id) (Attempt l id) (matched-says l id) (matched-said l id) a) (attempt-says l (slotAt t i) e))))
         λ a.
         let q = found-lowest t fit (attemptBy l id) (Attempt l id) (matched-says l id) (matched-said l id) a in
-        if-keeps (λ _. change-keeps _ _ _ as-is (q .within, matches c q)) λ _. change-keeps _ _ _ as-is (q .within, matches c q)
+        if-keeps (λ _. change-keeps _ _ _ as-is (q .within, matches c q)) λ _. if-keeps (λ _. change-keeps _ _ _ as-is (q .within, matches c q)) λ _. change-keeps _ _ _ as-is (q .within, matches c q)
 
     credits-alone : code ≡ 0x16 → (b : LeCreditFlowIndRead) → leCreditFlowInd (bodyIn pdu) ≡ b → Signalled (onCredits t l id b)
     unfolding onCredits

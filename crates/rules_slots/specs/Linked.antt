@@ -281,7 +281,7 @@ module _ (l : ℕ) {t : Table} {ys : List Slot} (on : See l t ys) where
     connReq-both listening LeCreditConnReq.Decode = still-both on
     connReq-both listening (LeCreditConnReq.Is req) =
         rw (found-same isFree (free-own l), found-same (usesPeer l (req .scid)) (uses-own l (req .scid)))
-        (if-both (λ _. still-both on) λ _. if-both (λ _. still-both on) λ _. if-both (λ _. still-both on) λ _. if-both (λ _. still-both on) λ a. change-both on _ _ _ (within a))
+        (if-both (λ _. still-both on) λ _. if-both (λ _. still-both on) λ _. if-both (λ _. still-both on) λ _. if-both (λ _. still-both on) λ _. if-both (λ _. still-both on) λ a. change-both on _ _ _ (within a))
 
     connRes-both : (b : LeCreditConnResRead) → Agree (onConnRes t l id b) (onConnRes u l id b)
     unfolding onConnRes
@@ -289,7 +289,7 @@ module _ (l : ℕ) {t : Table} {ys : List Slot} (on : See l t ys) where
     connRes-both (LeCreditConnRes.Is res) =
         rw (found-same (attemptBy l id) (attempt-own l id))
         (if-both (λ _. sweep-both (attemptOf l) (attempts-own l) _) λ a.
-        rw (slot-found (attemptBy l id) (attempt-own l id) a) (if-both (λ _. change-both on _ _ _ (within a)) λ _. change-both on _ _ _ (within a)))
+        rw (slot-found (attemptBy l id) (attempt-own l id) a) (if-both (λ _. change-both on _ _ _ (within a)) λ _. if-both (λ _. change-both on _ _ _ (within a)) λ _. change-both on _ _ _ (within a)))
 
     credits-both : (b : LeCreditFlowIndRead) → Agree (onCredits t l id b) (onCredits u l id b)
     unfolding onCredits

@@ -2,13 +2,13 @@
 use mathlib.Core.Path.{_≡_, refl, sym, ap, _∙_, subst}
 use mathlib.Core.Bool.{Bool, true, false, _&&_, _||_, not, false≢true}
 use mathlib.Core.List.{List, [], _∷_}
-use Prim.Native.Nat.{ℕ, zero, suc, _+_, _-_, _≤_, _<_}
+use Prim.Native.Nat.{ℕ, zero, suc, _+_, _-_, _≤_, _<_, min}
 use native.Mathlib.Nat.{not-suc-le-zero, le-of-suc-le-suc}
 use native.Mathlib.Omega.{arith}
 use lib.Dec.{eqb, leb, ltb}
 use lib.ListN.{length, getD, set}
 use lib.Seq.{getD-set-same, getD-set-other}
-use borrow.Author.Tests.{eqb-true, eqb-false, eq-eqb, ne-eqb, le-leb, lt-ltb, leb-true, leb-false, ltb-true, ltb-false, not-true, not-false}
+use borrow.Author.Tests.{eqb-true, eqb-false, eq-eqb, ne-eqb, le-leb, lt-leb, lt-ltb, leb-true, leb-false, ltb-true, ltb-false, not-true, not-false}
 use Rattle.lists.specs.Choose.{choose, if-cases}
 use Rattle.lists.specs.Each.{mapFirst}
 use Rattle.lists.specs.Both.{and-left, and-right}
@@ -51,7 +51,7 @@ use Rattle.sar_cut.specs.declared.Plan.{Plan}
 use Rattle.sar_cut.specs.declared.Plan.the-variants as Plan
 use Rattle.sar_cut.specs.Cutting.{frameCount, framesLength, planSend}
 use Rattle.sar_cut.specs.CutLaws.{count-holds, plan-allowed}
-use Rattle.channel.specs.Limits.{cidBase}
+use Rattle.channel.specs.Limits.{cidBase, sizeLeast}
 use Rattle.channel.specs.declared.Answer.{Answer}
 use Rattle.channel.specs.declared.Answer.the-variants.{Done, Refused, At, Link, Opened, Due, Frames, Portion}
 use Rattle.channel.specs.declared.ChannelState.{ChannelState}
@@ -66,7 +66,7 @@ use Rattle.definition.specs.Outcome.{Outcome}
 use Rattle.definition.specs.Pending.{nextPending, rejectAllPending, acceptPending, rejectPending, notCode, rejectRead, dropPending}
 use Rattle.definition.specs.Opening.{create, opened, giveUp}
 use Rattle.definition.specs.Closing.{incRef, decRef, disconnecting, disconnect, disconnectByCid, disconnected, nextDisconnect}
-use Rattle.definition.specs.Signals.{signalled, checked, handled, onReject, onDisconnectionReq, onDisconnectionRes, onParameters, onParameterResponse, onConnReq, onConnRes, onCredits}
+use Rattle.definition.specs.Signals.{signalled, checked, handled, onReject, onDisconnectionReq, onDisconnectionRes, onParameters, onParameterResponse, requester, onConnReq, responder, onConnRes, onCredits}
 use Rattle.definition.specs.Frames.{dispatch, joined, send, planned, receive, taken}
 use Rattle.definition.specs.Portions.{givenOut, frameSize, begun, startPlanned, startJob, taking, fullWith, filledBy, givePortion, cancelJob}
 use Rattle.definition.specs.Asking.{registerSpsm, attention, query, sendSignal}
@@ -75,6 +75,7 @@ use Rattle.definition.specs.Tells.{cid-within, pending-is, connected-is, free-i
 use Rattle.definition.specs.Numbers.{refused-not-0}
 use Rattle.definition.specs.Forms.{Fit, found-passes}
 use Rattle.rules_steps.specs.Tools.{gate-cases, is-peer-leaving, is-unannounced, is-failed, leaving-cases, left-cases, given-up-cases, and-off, and-off-right, or-off, or-none, or-right, held}
+use Rattle.rules.specs.Tests.{least-sizes, below-sizes}
 use Rattle.rules_steps.specs.Steps.{Seen, seen, is, free, Row, byCode, namesAsDcid, namesAsScid, admits, grantsTo, isGood, steps, isNumber, Fills, part, full, last, Step, row, stay, stay-down, stay-frame, stay-send, portion, stay-portion, link-down, overrun, Steps, EveryStep}
 use Rattle.rules_steps.specs.Steps as Steps
 
@@ -412,15 +413,18 @@ module _ (t : Table) (fit : Fit t) (v w : Window) where
   unfolding byCode
   code-any code e f j g h = rw (and-off-right (eqb code 0x06) e, and-off-right (eqb code 0x07) f, and-off-right (eqb code 0x14) j, and-off-right (eqb code 0x15) g, and-off-right (eqb code 0x16) h)
 
-  -- the three tests that a connect request must pass
-  refused-2 : (a b c : Bool) → not a ≡ true → (a && (b && not c)) ≡ false
-  refused-2 a b c e = and-off (b && not c) (not-true a e)
+  -- the four tests that a connect request must pass
+  refused-2 : (a b c d : Bool) → not a ≡ true → (a && (b && (c && not d))) ≡ false
+  refused-2 a b c d e = and-off (b && (c && not d)) (not-true a e)
 
-  refused-4 : (a b c : Bool) → not b ≡ true → (a && (b && not c)) ≡ false
-  refused-4 a b c e = and-off-right a (and-off (not c) (not-true b e))
+  refused-4 : (a b c d : Bool) → not b ≡ true → (a && (b && (c && not d))) ≡ false
+  refused-4 a b c d e = and-off-right a (and-off (c && not d) (not-true b e))
 
-  refused-10 : (a b c : Bool) → c ≡ true → (a && (b && not c)) ≡ false
-  refused-10 a b c e = and-off-right a (and-off-right b (ap not e))
+  refused-11 : (a b c d : Bool) → c ≡ false → (a && (b && (c && not d))) ≡ false
+  refused-11 a b c d e = and-off-right a (and-off-right b (and-off (not d) e))
+
+  refused-10 : (a b c d : Bool) → d ≡ true → (a && (b && (c && not d))) ≡ false
+  refused-10 a b c d e = and-off-right a (and-off-right b (and-off-right c (ap not e)))
 
   module _ (link : ℕ) (listening central : Bool) (pdu : List ℕ) where
     abbrev G : Request
@@ -435,7 +439,7 @@ module _ (t : Table) (fit : Fit t) (v w : Window) where
     -- refusals of the header check and of the body
     not-handled : (a : Answer) → isNumber 0 a ≡ false → isNumber 8 a ≡ false → isNumber 17 a ≡ false → (isNumber 9 a && isGood (headersOf pdu)) ≡ false
         → (i : ℕ) (x : Seen) → steps t i G a x ≡ false
-    not-handled a e f g h i x = code-any (getD pdu 0 0) (and-off _ e) (and-off _ e) (and-off _ e) (or-none (and-off _ f) (and-off _ (or-none e g))) (and-off _ (or-none e h))
+    not-handled a e f g h i x = code-any (getD pdu 0 0) (and-off _ e) (and-off _ e) (and-off _ e) (or-none (and-off _ f) (and-off _ (or-none e (or-none g h)))) (and-off _ (or-none e h))
 
     -- a slot stays
     rests : {a : Answer} → ((i : ℕ) (x : Seen) → steps t i G a x ≡ false) → (i : ℕ) → i < t .n → Step t i (plain G v w) a (seen (slotAt t i)) (seen (slotAt t i))
@@ -495,14 +499,17 @@ module _ (t : Table) (fit : Fit t) (v w : Window) where
     on-conn-req c (LeCreditConnReq.Is req) q =
         let s = found isFree t in
         let known : Bool = isRegistered t (req .spsm) in
+        let least = min (req .mtu) (req .mps) in
+        let large : Bool = leb sizeLeast least in
         let shared : Bool = ltb (found (usesPeer link (req .scid)) t) (t .n) in
-        let admitted : Bool = known && (listening && not shared) in
+        let admitted : Bool = known && (listening && (large && not shared)) in
         let is-admitted : admits t link listening (leCreditConnReq (bodyIn pdu)) ≡ admitted = ap (admits t link listening) q in
         let off : (i : ℕ) → (admitted && eqb i s) ≡ false → steps t i G Done (seen (slotAt t i)) ≡ false = λ i z. code-14 _ _ _ _ _ c (ap (λ (b : Bool). b && eqb i s) is-admitted ∙ z) in
         let not-admitted : admitted ≡ false → (i : ℕ) → steps t i G Done (seen (slotAt t i)) ≡ false = λ z i. off i (and-off (eqb i s) z) in
-        if-cases (S G) _ (λ e i l. stay (not-admitted (refused-2 known listening shared e) i))
-        (λ _. if-cases (S G) _ (λ e i l. stay (not-admitted (refused-4 known listening shared e) i))
-        (λ n. if-cases (S G) _ (λ e i l. stay (not-admitted (refused-10 known listening shared e) i))
+        if-cases (S G) _ (λ e i l. stay (not-admitted (refused-2 known listening large shared e) i))
+        (λ _. if-cases (S G) _ (λ e i l. stay (not-admitted (refused-4 known listening large shared e) i))
+        (λ n. if-cases (S G) _ (λ e i l. stay (not-admitted (refused-11 known listening large shared (lt-leb sizeLeast least (below-sizes (requester req) e))) i))
+        (λ g. if-cases (S G) _ (λ e i l. stay (not-admitted (refused-10 known listening large shared e) i))
         (λ _. if-cases (S G) _ (λ e i l. stay (off i (and-off-right admitted (let z : t .n ≤ s = leb-true _ _ e in ne-eqb i s (λ u. omega arith)))))
         (λ e.
         let x = slotAt t s in
@@ -511,8 +518,8 @@ module _ (t : Table) (fit : Fit t) (v w : Window) where
         steps-one G _ s _ (leb-false _ _ e)
         (subst (λ (u : Bool). Row t s (signals link u central pdu) Done (seen x) y) (sym (not-false _ n))
         (seen-as (λ k h l. Row t s (signals link true central pdu) Done (is k h l (x .peer .credits) (x .job)) y) x
-        (free-is (x .state) (and-left (isDisconnected (x .state)) _ p)) (eqb-true _ _ (and-right (isDisconnected (x .state)) _ p)) refl (Steps.peer-asks c q refl)))
-        (λ i z. off i (and-off-right admitted z))))))
+        (free-is (x .state) (and-left (isDisconnected (x .state)) _ p)) (eqb-true _ _ (and-right (isDisconnected (x .state)) _ p)) refl (Steps.peer-asks c q refl (let z = least-sizes (requester req) g in omega arith))))
+        (λ i z. off i (and-off-right admitted z)))))))
 
     on-conn-res : code ≡ 0x15 → (b : LeCreditConnResRead) → leCreditConnRes (bodyIn pdu) ≡ b → S G (onConnRes t link id b)
     unfolding onConnRes
@@ -533,11 +540,17 @@ module _ (t : Table) (fit : Fit t) (v w : Window) where
         let l-is : x .link ≡ link = eqb-true _ _ (and-right (isConnecting (x .state)) _ g) in
         if-cases (S G) _
         (λ z. steps-one G _ s _ (leb-false _ _ e)
-        (seen-as (λ k h l. Row t s G Done (is k h l p (x .job)) (is Connected h l (res .credits) (x .job))) x k-is refl l-is (Steps.peer-accepts c q refl (eqb-true _ _ z)))
+        (seen-as (λ k h l. Row t s G (Refused (Refusal.ConnectError (res .result))) (is k h l p (x .job)) (is (ConnectFailed (res .result)) h l p (x .job))) x k-is refl l-is (Steps.peer-refuses c q refl (eqb-false _ _ (not-true _ z))))
         (λ i u. code-15 _ _ _ _ _ c u))
-        (λ z. steps-one G _ s _ (leb-false _ _ e)
-        (seen-as (λ k h l. Row t s G (Refused (Refusal.ConnectError (res .result))) (is k h l p (x .job)) (is (ConnectFailed (res .result)) h l p (x .job))) x k-is refl l-is (Steps.peer-refuses c q refl (eqb-false _ _ z)))
-        (λ i u. code-15 _ _ _ _ _ c u)))
+        (λ z.
+        let good = eqb-true _ _ (not-false _ z) in
+        if-cases (S G) _
+        (λ b. steps-one G _ s _ (leb-false _ _ e)
+        (seen-as (λ k h l. Row t s G (Refused Refusal.InvalidValue) (is k h l p (x .job)) (is (Disconnecting false) h l (res .credits) (x .job))) x k-is refl l-is (Steps.peer-below c q refl good (below-sizes (responder res) b)))
+        (λ i u. code-15 _ _ _ _ _ c (and-off-right (isGood (headersOf pdu)) u)))
+        (λ b. steps-one G _ s _ (leb-false _ _ e)
+        (seen-as (λ k h l. Row t s G Done (is k h l p (x .job)) (is Connected h l (res .credits) (x .job))) x k-is refl l-is (Steps.peer-accepts c q refl good (let y = least-sizes (responder res) b in omega arith)))
+        (λ i u. code-15 _ _ _ _ _ c u))))
 
     on-credits : code ≡ 0x16 → (b : LeCreditFlowIndRead) → leCreditFlowInd (bodyIn pdu) ≡ b → S G (onCredits t link id b)
     unfolding onCredits
@@ -726,7 +739,8 @@ reached-overruns d q want have = if-cases Overruns _ (λ _. refl) (λ _. if-case
 step-overruns : (mtu mps d : ℕ) (a : Assembly) (q n said : ℕ) → Overruns (joinStep mtu mps d a q n said)
 unfolding joinStep firstStep
 step-overruns mtu mps d a q n said =
-    if-cases Overruns _ (λ _. if-cases Overruns _ (λ _. refl) (λ _. if-cases Overruns _ (λ _. refl) (λ _. reached-overruns d q said (n - 2)))) (λ _. reached-overruns d q (a .want) (a .have + n))
+    if-cases Overruns _ (λ _. refl)
+    (λ _. if-cases Overruns _ (λ _. if-cases Overruns _ (λ _. refl) (λ _. if-cases Overruns _ (λ _. refl) (λ _. reached-overruns d q said (n - 2)))) (λ _. reached-overruns d q (a .want) (a .have + n)))
 
 module _ (t : Table) (fit : Fit t) (link : ℕ) (payload : List ℕ) where
   module _ (s : ℕ) (h : s < t .n) (on : slotAt t s .state ≡ Connected) (its : slotAt t s .link ≡ link) where

@@ -1,10 +1,10 @@
 -- Which steps a slot can make, as one table: by call and answer the slot before and the slot after, with its holds, its identifiers, its link, the peer's credits and the
--- job that is handed over in portions. Document 01, 'Slots', 'Signals' and 'Cutting, joining, credits'; document 02 (i). Proved in Stepping.antt; what it comes to call by call is in Consequences.antt.
+-- job that is handed over in portions. Document 01, 'Slots', 'Signals' and 'Cutting, joining, credits'; document 02 (i), (ii). Proved in Stepping.antt; what it comes to call by call is in Consequences.antt.
 use mathlib.Core.Path.{_≡_}
 use mathlib.Core.Bool.{Bool, true, false, _&&_, _||_, not}
 use mathlib.Core.List.{List}
-use Prim.Native.Nat.{ℕ, suc, _+_, _-_, _≤_, _<_}
-use lib.Dec.{eqb, ltb}
+use Prim.Native.Nat.{ℕ, suc, _+_, _-_, _≤_, _<_, min}
+use lib.Dec.{eqb, leb, ltb}
 use lib.ListN.{getD}
 use Rattle.codes.specs.declared.LeCreditConnResultCode.{LeCreditConnResultCode}
 use Rattle.codes.specs.Codes.{resultNumber}
@@ -30,7 +30,7 @@ use Rattle.signal_forms.specs.declared.DisconnectionRes.{DisconnectionRes}
 use Rattle.signal_forms.specs.declared.LeCreditConnReq.{LeCreditConnReq}
 use Rattle.signal_forms.specs.declared.LeCreditConnRes.{LeCreditConnRes}
 use Rattle.signal_forms.specs.declared.LeCreditFlowInd.{LeCreditFlowInd}
-use Rattle.channel.specs.Limits.{holdsMost, creditsMost}
+use Rattle.channel.specs.Limits.{holdsMost, creditsMost, sizeLeast}
 use Rattle.channel.specs.declared.Answer.{Answer}
 use Rattle.channel.specs.declared.Answer.the-variants.{Done, Refused, At, Link, Opened, Due, Frames, Job, Attention, Number, Event, Portion}
 use Rattle.channel.specs.declared.ChannelState.{ChannelState}
@@ -109,14 +109,17 @@ pub data Row (t : Table) (i : ℕ) : Request → Answer → Seen → Seen → Ty
   peer-confirms : {a : Bool} {h l p : ℕ} {j : OpenJob} {listening central : Bool} {pdu : List ℕ} {res : DisconnectionRes} → getD pdu 0 0 ≡ 0x07
       → disconnectionRes (bodyIn pdu) ≡ DisconnectionRes.Is res → res .scid ≡ cidOf i
       → Row t i (signals l listening central pdu) Done (is (Disconnecting a) h l p j) (free h)
-  -- 0x14: "Else the lowest free slot becomes PeerConnecting."
+  -- 0x14: "Else the lowest free slot becomes PeerConnecting." The request's MTU and MPS are at least 23 (document 02).
   peer-asks : {l l′ p : ℕ} {j : OpenJob} {central : Bool} {pdu : List ℕ} {req : LeCreditConnReq} → getD pdu 0 0 ≡ 0x14 → leCreditConnReq (bodyIn pdu) ≡ LeCreditConnReq.Is req
-      → found isFree t ≡ i → Row t i (signals l true central pdu) Done (is Disconnected 0 l′ p j) (is (PeerConnecting (getD pdu 1 0)) 0 l (req .credits) noJob)
+      → found isFree t ≡ i → sizeLeast ≤ min (req .mtu) (req .mps) → Row t i (signals l true central pdu) Done (is Disconnected 0 l′ p j) (is (PeerConnecting (getD pdu 1 0)) 0 l (req .credits) noJob)
   -- 0x15: "matched to the lowest Connecting slot with that identifier and link"; row 17: "a response leaves ConnectFailed";
-  -- row 8: "unmatched connect response frees all Connecting slots of that link"
+  -- row 8: "unmatched connect response frees all Connecting slots of that link"; "a good response below either [least] leaves the slot Disconnecting, its numbers stored" (document 02)
   peer-accepts : {h l p : ℕ} {j : OpenJob} {listening central : Bool} {pdu : List ℕ} {res : LeCreditConnRes} → getD pdu 0 0 ≡ 0x15 → leCreditConnRes (bodyIn pdu) ≡ LeCreditConnRes.Is res
-      → found (attemptBy l (getD pdu 1 0)) t ≡ i → resultNumber (res .result) ≡ 0
+      → found (attemptBy l (getD pdu 1 0)) t ≡ i → resultNumber (res .result) ≡ 0 → sizeLeast ≤ min (res .mtu) (res .mps)
       → Row t i (signals l listening central pdu) Done (is (Connecting (getD pdu 1 0)) h l p j) (is Connected h l (res .credits) j)
+  peer-below : {h l p : ℕ} {j : OpenJob} {listening central : Bool} {pdu : List ℕ} {res : LeCreditConnRes} → getD pdu 0 0 ≡ 0x15 → leCreditConnRes (bodyIn pdu) ≡ LeCreditConnRes.Is res
+      → found (attemptBy l (getD pdu 1 0)) t ≡ i → resultNumber (res .result) ≡ 0 → min (res .mtu) (res .mps) < sizeLeast
+      → Row t i (signals l listening central pdu) (Refused Refusal.InvalidValue) (is (Connecting (getD pdu 1 0)) h l p j) (is (Disconnecting false) h l (res .credits) j)
   peer-refuses : {h l p : ℕ} {j : OpenJob} {listening central : Bool} {pdu : List ℕ} {res : LeCreditConnRes} → getD pdu 0 0 ≡ 0x15 → leCreditConnRes (bodyIn pdu) ≡ LeCreditConnRes.Is res
       → found (attemptBy l (getD pdu 1 0)) t ≡ i → ¬ (resultNumber (res .result) ≡ 0)
       → Row t i (signals l listening central pdu) (Refused (Refusal.ConnectError (res .result))) (is (Connecting (getD pdu 1 0)) h l p j) (is (ConnectFailed (res .result)) h l p j)
@@ -168,10 +171,10 @@ abbrev pub namesAsScid : (i : ℕ) → DisconnectionResRead → Bool
 namesAsScid i DisconnectionRes.Decode = false
 namesAsScid i (DisconnectionRes.Is res) = eqb (cidOf i) (res .scid)
 
--- "SPSM not registered → result 2; not listening → 4; peer CID used on this link by a slot not Disconnected → 10": none of these
+-- "SPSM not registered → result 2; not listening → 4; peer CID used on this link by a slot not Disconnected → 10", nor MTU or MPS below 23 → 0x000B: none of these
 abbrev pub admits : Table → (link : ℕ) (listening : Bool) → LeCreditConnReqRead → Bool
 admits t l listening LeCreditConnReq.Decode = false
-admits t l listening (LeCreditConnReq.Is req) = isRegistered t (req .spsm) && (listening && not (ltb (found (usesPeer l (req .scid)) t) (t .n)))
+admits t l listening (LeCreditConnReq.Is req) = isRegistered t (req .spsm) && (listening && (leb sizeLeast (min (req .mtu) (req .mps)) && not (ltb (found (usesPeer l (req .scid)) t) (t .n))))
 
 abbrev pub grantsTo : Table → (i link : ℕ) → LeCreditFlowIndRead → Bool
 grantsTo t i l LeCreditFlowInd.Decode = false
@@ -188,7 +191,7 @@ signalSteps t i l listening pdu a x =
     (isNumber 0 a && (namesAsDcid i (disconnectionReq (bodyIn pdu)) && (not (isDisconnected (x .state)) && eqb (x .link) l)))
     (isNumber 0 a && (namesAsScid i (disconnectionRes (bodyIn pdu)) && (isDisconnecting (x .state) && eqb (x .link) l)))
     (isNumber 0 a && (admits t l listening (leCreditConnReq (bodyIn pdu)) && eqb i (found isFree t)))
-    ((isNumber 8 a && (isConnecting (x .state) && eqb (x .link) l)) || ((isNumber 0 a || isNumber 17 a) && eqb i (found (attemptBy l (getD pdu 1 0)) t)))
+    ((isNumber 8 a && (isConnecting (x .state) && eqb (x .link) l)) || ((isNumber 0 a || (isNumber 17 a || (isNumber 9 a && isGood (headersOf pdu)))) && eqb i (found (attemptBy l (getD pdu 1 0)) t)))
     ((isNumber 0 a || (isNumber 9 a && isGood (headersOf pdu))) && grantsTo t i l (leCreditFlowInd (bodyIn pdu)))
 
 abbrev pub steps : Table → (i : ℕ) → Request → Answer → Seen → Bool
@@ -230,7 +233,7 @@ pub data Step (t : Table) (i : ℕ) : Call → Answer → Seen → Seen → Type
   -- "Link down frees all its slots; holds stay until released"
   link-down : {k : ChannelState} {h l p : ℕ} {j : OpenJob} → isDisconnected k ≡ false → Step t i (down l) Done (is k h l p j) (free h)
   stay-down : {l : ℕ} {a : Answer} {x : Seen} → (isNumber 0 a && (not (isDisconnected (x .state)) && eqb (x .link) l)) ≡ false → Step t i (down l) a x x
-  -- "bad SDU length or overrun: Disconnecting"; "first frame under 2 octets (added): Disconnecting"
+  -- "bad SDU length or overrun: Disconnecting"; "first frame under 2 octets (added): Disconnecting"; one longer than our MPS "disconnects the channel" (document 02)
   overrun : {h l p : ℕ} {j : OpenJob} {payload : List ℕ} {r : Refusal} → (isNumber 9 (Refused r) || isNumber 19 (Refused r)) ≡ true
       → Step t i (frame l (cidOf i) payload) (Refused r) (is Connected h l p j) (is (Disconnecting false) h l p noJob)
   stay-frame : {l cid : ℕ} {payload : List ℕ} {a : Answer} {x : Seen} → ((isNumber 9 a || isNumber 19 a) && eqb (cidOf i) cid) ≡ false → Step t i (frame l cid payload) a x x

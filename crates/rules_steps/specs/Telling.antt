@@ -211,12 +211,13 @@ module _ (t : Table) (fit : Fit t) (v w : Window) where
     on-conn-req code (LeCreditConnReq.Is req) =
         if-cases S _ (λ _. replies (not-connected code))
         (λ _. if-cases S _ (λ _. replies (not-connected code))
-        (λ _. if-cases S _ (λ _. replies (not-connected code)) (λ _. if-cases S _ (λ _. replies (not-connected code)) (λ _. none))))
+        (λ _. if-cases S _ (λ _. replies (not-connected code))
+        (λ _. if-cases S _ (λ _. replies (not-connected code)) (λ _. if-cases S _ (λ _. replies (not-connected code)) (λ _. none)))))
 
     on-conn-res : (b : LeCreditConnResRead) → S (onConnRes t link id b)
     unfolding onConnRes
     on-conn-res LeCreditConnRes.Decode = replies not-understood
-    on-conn-res (LeCreditConnRes.Is res) = if-cases S _ (λ _. none) (λ _. if-cases S _ (λ _. none) (λ _. none))
+    on-conn-res (LeCreditConnRes.Is res) = if-cases S _ (λ _. none) (λ _. if-cases S _ (λ _. none) (λ _. if-cases S _ (λ _. none) (λ _. none)))
 
     on-credits : (b : LeCreditFlowIndRead) → S (onCredits t link id b)
     unfolding onCredits

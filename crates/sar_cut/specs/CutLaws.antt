@@ -1,15 +1,18 @@
 -- Laws of cutting: the count of frames, and the cases of the plan. They rest on the definitions of Cutting.antt and on division.
 use mathlib.Core.Path.{_≡_, refl, _∙_}
+use mathlib.Core.List.{List}
 use Prim.Native.Nat.{ℕ, zero, suc, _+_, _-_, _*_, _≤_, _<_}
 use native.Mathlib.Nat.{lt-of-not-le, div-eq-of-lt, div-eq-sub-div, div-zero, div-mul-le-self, lt-div-mul-add, div-le-self, suc-mul, zero-mul}
 use native.Mathlib.Decide.{decLe}
 use native.Mathlib.Omega.{arith}
+use lib.ListN.{length, drop, length-take}
 use borrow.Author.Tests.{lt-ltb, le-ltb}
 use Rattle.lists.specs.Choose.{choose}
 use Rattle.codes.specs.declared.Refusal.{Refusal}
+use Rattle.codes.specs.Limits.{sizeLeast}
 use Rattle.codes.specs.declared.Refusal.the-variants as Refusal
 use Rattle.sar_cut.specs.declared.Plan.the-variants.{Refused, Frames}
-use Rattle.sar_cut.specs.Cutting.{ceil, frameCount, framesLength, leastMps, longestJob, planSend}
+use Rattle.sar_cut.specs.Cutting.{ceil, frameCount, framesLength, stream, pieceAt, piecesFrom, pieces, payloads, AllWithin, longestJob, planSend}
 
 -- two cases: m at most x, or x below m
 pub split {ℓ} : {P : Type ℓ} (m x : ℕ) → (m ≤ x → P) → (x < m → P) → P
@@ -68,6 +71,17 @@ pub count-small : (l mps : ℕ) → frameCount l mps ≤ l + 2 + (mps - 1)
 unfolding frameCount ceil
 count-small l mps = div-le-self (l + 2 + (mps - 1)) mps
 
+-- ---- what they carry
+
+-- a job cut at m has no payload above m, nor above any mps from m on
+pub payloads-within : (m mps : ℕ) (sdu : List ℕ) → m ≤ mps → AllWithin mps (payloads m sdu)
+unfolding payloads pieces piecesFrom pieceAt
+payloads-within m mps sdu h = go (stream sdu) 0 (ceil (length (stream sdu)) m)
+  where
+    go : (xs : List ℕ) (k c : ℕ) → AllWithin mps (piecesFrom m xs k c)
+    go xs k zero = tt
+    go xs k (suc c) = (omega (arith, length-take m (drop (k * m) xs)), go xs (suc k) c)
+
 -- ---- the plan, case by case
 module _ (l mtu mps credits room : ℕ) where
   pub plan-above-mtu : mtu < l → Refused Refusal.InsufficientSpace ≡ planSend l mtu mps credits room
@@ -80,31 +94,31 @@ module _ (l mtu mps credits room : ℕ) where
     plan-too-long h = rw (le-ltb mtu l fits, lt-ltb longestJob l h)
 
     module _ (short : l ≤ longestJob) where
-      pub plan-bad-mps : mps < leastMps → Refused Refusal.BadMps ≡ planSend l mtu mps credits room
+      pub plan-bad-mps : mps < sizeLeast → Refused Refusal.BadMps ≡ planSend l mtu mps credits room
       unfolding planSend choose
-      plan-bad-mps h = rw (le-ltb mtu l fits, le-ltb longestJob l short, lt-ltb mps leastMps h)
+      plan-bad-mps h = rw (le-ltb mtu l fits, le-ltb longestJob l short, lt-ltb mps sizeLeast h)
 
-      module _ (wide : leastMps ≤ mps) where
+      module _ (wide : sizeLeast ≤ mps) where
         pub plan-busy : credits < frameCount l mps → Refused Refusal.Busy ≡ planSend l mtu mps credits room
         unfolding planSend choose
-        plan-busy h = rw (le-ltb mtu l fits, le-ltb longestJob l short, le-ltb mps leastMps wide, lt-ltb credits (frameCount l mps) h)
+        plan-busy h = rw (le-ltb mtu l fits, le-ltb longestJob l short, le-ltb mps sizeLeast wide, lt-ltb credits (frameCount l mps) h)
 
         module _ (paid : frameCount l mps ≤ credits) where
           pub plan-no-room : room < framesLength l mps → Refused Refusal.NoRoom ≡ planSend l mtu mps credits room
           unfolding planSend choose
           plan-no-room h =
-              rw (le-ltb mtu l fits, le-ltb longestJob l short, le-ltb mps leastMps wide, le-ltb credits (frameCount l mps) paid, lt-ltb room (framesLength l mps) h)
+              rw (le-ltb mtu l fits, le-ltb longestJob l short, le-ltb mps sizeLeast wide, le-ltb credits (frameCount l mps) paid, lt-ltb room (framesLength l mps) h)
 
           pub plan-frames : framesLength l mps ≤ room → Frames (frameCount l mps) (framesLength l mps) ≡ planSend l mtu mps credits room
           unfolding planSend choose
           plan-frames h =
-              rw (le-ltb mtu l fits, le-ltb longestJob l short, le-ltb mps leastMps wide, le-ltb credits (frameCount l mps) paid, le-ltb room (framesLength l mps) h)
+              rw (le-ltb mtu l fits, le-ltb longestJob l short, le-ltb mps sizeLeast wide, le-ltb credits (frameCount l mps) paid, le-ltb room (framesLength l mps) h)
 
 -- whatever is planned passed every test
 pub record Allowed (l mtu mps credits room n octets : ℕ) : Type 0 where
   pub fits : l ≤ mtu
   pub short : l ≤ longestJob
-  pub wide : leastMps ≤ mps
+  pub wide : sizeLeast ≤ mps
   pub paid : frameCount l mps ≤ credits
   pub holds : framesLength l mps ≤ room
   pub frames : n ≡ frameCount l mps
@@ -114,7 +128,7 @@ pub plan-allowed : (l mtu mps credits room n octets : ℕ) → planSend l mtu mp
 plan-allowed l mtu mps credits room n octets e =
     split l mtu
     (λ fits. split l longestJob
-    (λ short. split leastMps mps
+    (λ short. split sizeLeast mps
     (λ wide. split (frameCount l mps) credits
     (λ paid. split (framesLength l mps) room
     (λ holds.

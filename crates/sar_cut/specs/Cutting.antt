@@ -1,12 +1,13 @@
 -- How a job (an SDU) is cut into K-frames (Core Vol 3 Part A 3.4), and what is planned for a send (document 01, 'Cutting, joining, credits').
 -- The stream of a job is its length and then its octets; frame k carries the stream's k-th stretch of MPS octets, the last what is left.
 use mathlib.Core.List.{List, [], _∷_, _++_, map}
-use Prim.Native.Nat.{ℕ, zero, suc, _+_, _-_, _*_, _/_}
+use Prim.Native.Nat.{ℕ, zero, suc, _+_, _-_, _*_, _/_, _≤_}
 use lib.ListN.{length}
 use lib.Seq.{sets}
 use lib.Dec.{ltb}
 use Rattle.lists.specs.Choose.{choose}
 use Rattle.octets.specs.Octets.{part, le16}
+use Rattle.codes.specs.Limits.{sizeLeast}
 use Rattle.codes.specs.declared.Refusal.the-variants as Refusal
 use Rattle.sar_cut.specs.declared.Plan.{Plan}
 use Rattle.sar_cut.specs.declared.Plan.the-variants.{Refused, Frames}
@@ -46,6 +47,11 @@ pieces m xs = piecesFrom m xs 0 (ceil (length xs) m)
 unfoldable pub payloads : ℕ → List ℕ → List (List ℕ)
 payloads mps sdu = pieces mps (stream sdu)
 
+-- each of these payloads has at most mps octets
+abbrev pub AllWithin : (mps : ℕ) → List (List ℕ) → Type 0
+AllWithin mps [] = Unit {0}
+AllWithin mps (p ∷ ps) = (length p ≤ mps) × AllWithin mps ps
+
 -- ---- what is written
 
 -- a K-frame (Core 3.4.1): the payload's length, the channel, the payload
@@ -67,10 +73,7 @@ framesOf cid mps sdu = joined (map (frame cid) (payloads mps sdu))
 
 -- ---- what is planned
 
--- the least MPS that is sent to (Core 4.22), and the longest job whose frame of one payload has a length of two octets
-abbrev pub leastMps : ℕ
-leastMps = 23
-
+-- the longest job whose frame of one payload has a length of two octets
 abbrev pub longestJob : ℕ
 longestJob = 65533
 
@@ -79,7 +82,7 @@ unfoldable pub planSend : ℕ → ℕ → ℕ → ℕ → ℕ → Plan
 planSend l mtu mps credits room =
     choose (ltb mtu l) (Refused Refusal.InsufficientSpace)
     (choose (ltb longestJob l) (Refused Refusal.TooLong)
-    (choose (ltb mps leastMps) (Refused Refusal.BadMps)
+    (choose (ltb mps sizeLeast) (Refused Refusal.BadMps)
     (choose (ltb credits (frameCount l mps)) (Refused Refusal.Busy)
     (choose (ltb room (framesLength l mps)) (Refused Refusal.NoRoom)
     (Frames (frameCount l mps) (framesLength l mps))))))

@@ -1,12 +1,11 @@
 // Cutting a job into K-frames (Core Vol 3 Part A 3.4): how many frames, and what is planned for a send. What is right stands in
 // specs/Cutting.antt, for the frames written (`sar_frames`) too.
 use codes::Refusal;
+use codes::SIZE_LEAST;
 ghost use mathlib.Core.Path.{_≡_};
 ghost use Rattle.sar_cut.specs.Cutting.{frameCount, planSend};
 
-// The least MPS that is sent to (4.22), and the longest job whose frame of one payload has a length of two octets.
-pub const LEAST_MPS: u16 = 23;
-
+// The longest job whose frame of one payload has a length of two octets.
 pub const LONGEST_JOB: usize = 65533;
 
 // What a send comes to: a refusal, or so many frames of so many octets in all.
@@ -35,7 +34,7 @@ pub fn plan_send(l: usize, mtu: u16, mps: u16, credits: u16, room: usize) -> Pla
     if LONGEST_JOB < l {
         return Plan::Refused(Refusal::TooLong);
     }
-    if mps < LEAST_MPS {
+    if mps < SIZE_LEAST {
         return Plan::Refused(Refusal::BadMps);
     }
     let n = frame_count(l as u16, mps);

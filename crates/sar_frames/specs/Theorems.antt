@@ -4,9 +4,9 @@ use mathlib.Core.List.{List, [], _∷_}
 use Prim.Native.Nat.{ℕ, zero, suc, _+_, _-_, _*_, _/_, _≤_, _<_}
 use native.Mathlib.Nat.{not-suc-le-zero}
 use native.Mathlib.Omega.{arith}
-use lib.ListN.{length, take, drop, getD, length-append, length-drop, length-take, take-append-drop}
-use Rattle.sar_cut.specs.Cutting.{ceil, frameCount, framesLength, stream, pieceAt, piecesFrom, pieces, payloads, joined, framesOf}
-use Rattle.sar_cut.specs.CutLaws.{ceil-zero, ceil-more}
+use lib.ListN.{length, take, drop, length-append, length-drop, take-append-drop}
+use Rattle.sar_cut.specs.Cutting.{ceil, frameCount, framesLength, stream, pieceAt, piecesFrom, pieces, payloads, AllWithin, joined, framesOf}
+use Rattle.sar_cut.specs.CutLaws.{ceil-zero, ceil-more, payloads-within}
 use Rattle.sar_frames.specs.FrameLaws.{pieces-nil, pieces-more, pieces-count, framed, framed-nil, framed-more, frame-length}
 
 -- the stretches, joined, are the whole
@@ -17,16 +17,6 @@ pieces-whole zero m (x ∷ xs) p h = absurd (not-suc-le-zero h)
 pieces-whole (suc f) m [] p h = rw (pieces-nil m [] p refl)
 pieces-whole (suc f) m (x ∷ xs) p h =
     rw (pieces-more m (x ∷ xs) p (omega arith), pieces-whole f m (drop m (x ∷ xs)) p (rw length-drop (omega arith))) (take-append-drop m (x ∷ xs))
-
--- each is at most m long
-pieces-small : {A : Type 0} (m : ℕ) (xs : List A) (k : ℕ) → length (getD (pieces m xs) k []) ≤ m
-unfolding pieces piecesFrom pieceAt
-pieces-small m xs k = go k 0 (ceil (length xs) m)
-  where
-    go : (i j c : ℕ) → length (getD (piecesFrom m xs j c) i []) ≤ m
-    go i j zero = omega arith
-    go zero j (suc c) = rw length-take (omega arith)
-    go (suc i) j (suc c) = go i (suc j) c
 
 framed-length : (f m cid : ℕ) (xs : List ℕ) → 0 < m → length xs ≤ f → length (framed m cid xs) ≡ length xs + 4 * ceil (length xs) m
 framed-length zero m cid [] p h = rw (framed-nil m cid [] p refl, ceil-zero m p)
@@ -42,7 +32,7 @@ framed-length (suc f) m cid (x ∷ xs) p h =
 -- For every MPS but 0: the payloads joined are the stream, none is above the MPS, they are n, and L+2+4n octets are written.
 pub record Cut (mps cid : ℕ) (sdu : List ℕ) : Type 0 where
   pub whole : joined (payloads mps sdu) ≡ stream sdu
-  pub small : (k : ℕ) → length (getD (payloads mps sdu) k []) ≤ mps
+  pub small : AllWithin mps (payloads mps sdu)
   pub count : length (payloads mps sdu) ≡ frameCount (length sdu) mps
   pub octets : length (framesOf cid mps sdu) ≡ framesLength (length sdu) mps
 
@@ -52,7 +42,7 @@ cut mps cid sdu p =
     let e : length (stream sdu) ≡ length sdu + 2 = omega arith in
     record {
       whole = pieces-whole (length sdu + 2) mps (stream sdu) p (omega arith);
-      small = pieces-small mps (stream sdu);
+      small = payloads-within mps mps sdu (omega arith);
       count = pieces-count mps (stream sdu) ∙ ap (λ (x : ℕ). ceil x mps) e;
       octets = framed-length (length sdu + 2) mps cid (stream sdu) p (omega arith) ∙ ap (λ (x : ℕ). x + 4 * ceil x mps) e;
     }

@@ -1,8 +1,6 @@
 -- Laws of joining: the cases of the step. They rest on the definitions of Joining.antt and on the order of numbers.
-use mathlib.Core.Path.{_≡_, sym, _∙_}
-use Prim.Native.Nat.{ℕ, _+_, _-_, _≤_, _<_, min}
-use native.Mathlib.Nat.{lt-of-not-le}
-use native.Mathlib.Decide.{decLe}
+use mathlib.Core.Path.{_≡_}
+use Prim.Native.Nat.{ℕ, _+_, _-_, _≤_, _<_}
 use native.Mathlib.Omega.{arith}
 use borrow.Author.Tests.{lt-ltb, le-ltb, le-leb, lt-leb, eq-eqb, ne-eqb}
 use Rattle.lists.specs.Choose.{choose}
@@ -30,29 +28,27 @@ module _ (d queued want have : ℕ) where
     unfolding reached choose
     reached-whole h = rw (le-ltb want have (omega arith), le-ltb have want (omega arith), lt-leb d queued h)
 
--- a payload of 65,536 octets overruns every job, and so does a longer one
-pub reached-far : (d queued want have n : ℕ) → want < 65536 → reached d queued want (have + min n 65536) ≡ reached d queued want (have + n)
-reached-far d queued want have n h = elim (decLe n 65536) [
-  | yes k ↦ let e : min n 65536 ≡ n = omega arith in rw e
-  | no k ↦ let l = lt-of-not-le k in sym (reached-over d queued want (have + min n 65536) (omega arith)) ∙ reached-over d queued want (have + n) (omega arith)
-]
-
 -- ---- the step, case by case
 module _ (mtu mps d : ℕ) (a : Assembly) (queued n said : ℕ) where
-  module _ (none : a .want ≡ 0) where
-    pub first-short : n < 2 → Refused Refusal.ShortFrame ≡ joinStep mtu mps d a queued n said
-    unfolding joinStep firstStep choose
-    first-short h = rw (eq-eqb (a .want) 0 none, lt-ltb n 2 h)
-
-    module _ (long : 2 ≤ n) where
-      pub first-above-mtu : mtu < said → Refused Refusal.InvalidValue ≡ joinStep mtu mps d a queued n said
-      unfolding joinStep firstStep choose
-      first-above-mtu h = rw (eq-eqb (a .want) 0 none, le-ltb n 2 long, lt-ltb mtu said h)
-
-      pub first-reaches : said ≤ mtu → reached d queued said (n - 2) ≡ joinStep mtu mps d a queued n said
-      unfolding joinStep firstStep choose
-      first-reaches h = rw (eq-eqb (a .want) 0 none, le-ltb n 2 long, le-ltb mtu said h)
-
-  pub next-reaches : (a .want ≡ 0 → ⊥) → reached d queued (a .want) (a .have + n) ≡ joinStep mtu mps d a queued n said
+  pub above-mps : mps < n → Refused Refusal.InvalidValue ≡ joinStep mtu mps d a queued n said
   unfolding joinStep choose
-  next-reaches some = rw (ne-eqb (a .want) 0 some)
+  above-mps h = rw (lt-ltb mps n h)
+
+  module _ (fits : n ≤ mps) where
+    module _ (none : a .want ≡ 0) where
+      pub first-short : n < 2 → Refused Refusal.ShortFrame ≡ joinStep mtu mps d a queued n said
+      unfolding joinStep firstStep choose
+      first-short h = rw (le-ltb mps n fits, eq-eqb (a .want) 0 none, lt-ltb n 2 h)
+
+      module _ (long : 2 ≤ n) where
+        pub first-above-mtu : mtu < said → Refused Refusal.InvalidValue ≡ joinStep mtu mps d a queued n said
+        unfolding joinStep firstStep choose
+        first-above-mtu h = rw (le-ltb mps n fits, eq-eqb (a .want) 0 none, le-ltb n 2 long, lt-ltb mtu said h)
+
+        pub first-reaches : said ≤ mtu → reached d queued said (n - 2) ≡ joinStep mtu mps d a queued n said
+        unfolding joinStep firstStep choose
+        first-reaches h = rw (le-ltb mps n fits, eq-eqb (a .want) 0 none, le-ltb n 2 long, le-ltb mtu said h)
+
+    pub next-reaches : (a .want ≡ 0 → ⊥) → reached d queued (a .want) (a .have + n) ≡ joinStep mtu mps d a queued n said
+    unfolding joinStep choose
+    next-reaches some = rw (le-ltb mps n fits, ne-eqb (a .want) 0 some)

@@ -35,9 +35,13 @@ firstStep mtu d queued n said =
     (choose (ltb mtu said) (Refused Refusal.InvalidValue)
     (reached d queued said (n - 2)))
 
--- a payload of n octets, for a channel of that MTU and MPS with `queued` of d places taken. (The MPS decides nothing yet.)
+-- a payload of n octets, its length octets counted, for a channel of that MTU and MPS with `queued` of d places taken: one longer than the MPS, be it a job's first or
+-- a joining one, is refused before anything else (document 02)
 unfoldable pub joinStep : ℕ → ℕ → ℕ → Assembly → ℕ → ℕ → ℕ → Joined
-joinStep mtu mps d a queued n said = choose (isIdle a) (firstStep mtu d queued n said) (reached d queued (a .want) (a .have + n))
+joinStep mtu mps d a queued n said =
+    choose (ltb mps n) (Refused Refusal.InvalidValue)
+    (choose (isIdle a) (firstStep mtu d queued n said)
+    (reached d queued (a .want) (a .have + n)))
 
 -- Where place k of a slot's part of the room begins, of places of that size: place 0 is the one for assembly, place 1 the oldest job's.
 abbrev pub place : (size k : ℕ) → ℕ

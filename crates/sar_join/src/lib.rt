@@ -38,7 +38,8 @@ fn reach(d: usize, queued: usize, want: u16, have: usize) -> Joined
     Joined::Finished(want)
 }
 
-// The step that a payload of `n` octets makes, whose first two octets say `said`. No other octet decides anything.
+// The step that a payload of `n` octets makes, whose first two octets say `said`. No other octet decides anything. A payload longer than our MPS is
+// refused first.
 pub fn join_step(
     mtu: u16,
     mps: u16,
@@ -50,6 +51,9 @@ pub fn join_step(
 ) -> Joined
     ensures { λ r. ⌜ r ≡ joinStep mtu mps d a queued n said ⌝ }
 {
+    if (mps as usize) < n {
+        return Joined::Refused(Refusal::InvalidValue);
+    }
     let want = a.want;
     if want == 0 {
         if n < 2 {
@@ -60,5 +64,5 @@ pub fn join_step(
         }
         return reach(d, queued, said, n - 2);
     }
-    reach(d, queued, want, a.have as usize + octets::least(n, 65536))
+    reach(d, queued, want, a.have as usize + n)
 }

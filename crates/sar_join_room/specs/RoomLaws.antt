@@ -63,14 +63,15 @@ module _ (mtu mps d : ℕ) (a : Assembly) (queued : ℕ) (p : List ℕ) where
       → P (joinStep mtu mps d a queued (length p) (u16At p 0))
   unfolding joinStep firstStep
   step-cases P short bad part full whole =
-      if-cases P (isIdle a)
+      if-cases P (ltb mps (length p)) (λ _. bad)
+      (λ _. if-cases P (isIdle a)
       (λ t. let none = eqb-true (a .want) 0 t in
       if-cases P (ltb (length p) 2) (λ s. short none (ltb-true (length p) 2 s))
       (λ s. if-cases P (ltb mtu (u16At p 0)) (λ u. bad)
       (λ u. let in-mtu : Admitted = λ z. rw (wanted-first a p none) (ltb-false mtu (u16At p 0) u) in
       rw (wanted-first a p none, total-first a p none) at (reaches in-mtu))))
       (λ t. let some = eqb-false (a .want) 0 t in
-      rw (wanted-next a p some, total-next a p some) at (reaches (λ z. absurd (some z))))
+      rw (wanted-next a p some, total-next a p some) at (reaches (λ z. absurd (some z)))))
     where
       reaches : Admitted → P (reached d queued (wanted a p) (total a p))
       reaches m = reached-cases d queued (wanted a p) (total a p) P (λ h. bad) (part m) full (whole m)

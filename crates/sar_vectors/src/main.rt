@@ -54,7 +54,7 @@ fn show(s: &[u8]) {
 }
 
 // One payload on a slot's part of the room, of d + 1 places of as many octets as the MTU.
-fn feed(places: &mut [u8], mtu: u16, d: u16, s: Side, payload: &[u8]) -> Side {
+fn feed(places: &mut [u8], mtu: u16, mps: u16, d: u16, s: Side, payload: &[u8]) -> Side {
     let a = s.a;
     let queued = s.queued;
     let place = mtu as usize;
@@ -68,7 +68,7 @@ fn feed(places: &mut [u8], mtu: u16, d: u16, s: Side, payload: &[u8]) -> Side {
     if places.len() < (beside + 1) * place {
         return s;
     }
-    let step = sar_join_room::join_frame(places, place, mtu, 23, beside, a, queued, payload);
+    let step = sar_join_room::join_frame(places, place, mtu, mps, beside, a, queued, payload);
     match step {
         Joined::Refused(r) => Side {
             a,
@@ -106,7 +106,7 @@ fn state(s: Side) {
 }
 
 // The payloads of the frames in `out`, one after the other, until one is refused: into two places of as many octets as the MTU.
-fn join_all(places: &mut [u8], mtu: u16, out: &[u8]) -> Side {
+fn join_all(places: &mut [u8], mtu: u16, mps: u16, out: &[u8]) -> Side {
     let mut s = Side {
         a: Assembly { have: 0, want: 0 },
         queued: 0,
@@ -120,7 +120,7 @@ fn join_all(places: &mut [u8], mtu: u16, out: &[u8]) -> Side {
         }
         let from = at + 4;
         let to = from + n;
-        s = feed(places, mtu, 1, s, &out[from..to]);
+        s = feed(places, mtu, mps, 1, s, &out[from..to]);
         if s.answer != 0 {
             return s;
         }
@@ -129,10 +129,10 @@ fn join_all(places: &mut [u8], mtu: u16, out: &[u8]) -> Side {
     s
 }
 
-// The frames, what joining them under the job's own length as MTU answers, the jobs that wait then, and the two places.
-fn rejoin(l: u16, out: &[u8]) {
+// The frames, what joining them under the job's own length as MTU and the MPS that they were cut for answers, the jobs that wait then, and the two places.
+fn rejoin(l: u16, mps: u16, out: &[u8]) {
     let mut places = [0u8; 131070];
-    let s = join_all(&mut places, l, out);
+    let s = join_all(&mut places, l, mps, out);
     let both = 2 * l as usize;
     show(out);
     state(s);
@@ -140,7 +140,7 @@ fn rejoin(l: u16, out: &[u8]) {
 }
 
 // What a send came to: its refusal, or the frames that it wrote.
-fn came(plan: Plan, l: u16, out: &[u8]) {
+fn came(plan: Plan, l: u16, mps: u16, out: &[u8]) {
     match plan {
         Plan::Refused(r) => {
             text(b" refused");
@@ -149,7 +149,7 @@ fn came(plan: Plan, l: u16, out: &[u8]) {
         Plan::Frames { n, octets } => {
             number(n);
             if octets <= out.len() {
-                rejoin(l, &out[0..octets]);
+                rejoin(l, mps, &out[0..octets]);
             }
         }
     }
@@ -162,7 +162,7 @@ fn send(out: &mut [u8], l: u16, mtu: u16, mps: u16, credits: u16) {
     let n = l as usize;
     fill(&mut job);
     let plan = sar_frames::send_job(out, 0x1234, mtu, mps, credits, &job[0..n]);
-    came(plan, l, out);
+    came(plan, l, mps, out);
 }
 
 // The same into `room` octets of an output.
@@ -196,7 +196,7 @@ fn small(mps: u16, l: u8, octets: u8) {
     fill(&mut job);
     sar_frames::cut_job(&mut out, 0x1234, mps, &job[0..l as usize]);
     text(b"small");
-    rejoin(l as u16, &out[0..octets as usize]);
+    rejoin(l as u16, mps, &out[0..octets as usize]);
     text(b"\n");
 }
 
@@ -244,7 +244,7 @@ fn case_of(k: usize) -> Case {
 }
 
 // Payload i: of n octets with `queued` of two places taken, in a part of three places of 8 octets, all of them marked.
-fn join(i: usize) {
+fn join(i: usize, mps: u16) {
     let queued = i / 8 % 3;
     let n = i % 8;
     let mut places = [0xeeu8; 24];
@@ -258,8 +258,9 @@ fn join(i: usize) {
         queued,
         answer: 0,
     };
-    let r = feed(&mut places, 8, 2, s, &payload[0..n]);
+    let r = feed(&mut places, 8, mps, 2, s, &payload[0..n]);
     text(b"join");
+    number(mps as usize);
     numbers(c.have as usize, c.want as usize, queued, n);
     show(&payload[0..n]);
     state(r);
@@ -268,10 +269,10 @@ fn join(i: usize) {
 }
 
 // Every such case, with 0 to 2 jobs waiting and 0 to 7 octets.
-fn joins() {
+fn joins(mps: u16) {
     let mut i: usize = 0;
     while i < 192 {
-        join(i);
+        join(i, mps);
         i += 1;
     }
 }
@@ -300,5 +301,6 @@ fn main() {
     small(2, 0, 6);
     small(2, 5, 23);
     small(3, 7, 21);
-    joins();
+    joins(23);
+    joins(4);
 }

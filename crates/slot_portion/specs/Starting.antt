@@ -9,10 +9,11 @@ use lib.Dec.{ltb}
 use lib.Seq.{sets}
 use Rattle.octets.specs.Octets.{le16}
 use Rattle.octets.specs.Sets.{sets-append}
+use Rattle.codes.specs.Limits.{sizeLeast}
 use Rattle.codes.specs.declared.Refusal.the-variants.{NoRoom, ChannelClosed, JobOpen}
 use Rattle.sar_cut.specs.declared.Plan.{Plan}
 use Rattle.sar_cut.specs.declared.Plan.the-variants as Plan
-use Rattle.sar_cut.specs.Cutting.{frameCount, framesLength, leastMps, longestJob, planSend}
+use Rattle.sar_cut.specs.Cutting.{frameCount, framesLength, longestJob, planSend}
 use Rattle.sar_cut.specs.CutLaws.{split, count-small, plan-above-mtu, plan-too-long, plan-bad-mps, plan-busy, plan-frames}
 use Rattle.channel.specs.declared.Answer.the-variants.{Frames}
 use Rattle.channel.specs.declared.Slot.{Slot}
@@ -54,7 +55,7 @@ module _ (l mtu mps credits : ℕ) where
   plan-enough p =
       split l mtu
       (λ fits. split l longestJob
-      (λ short. split leastMps mps
+      (λ short. split sizeLeast mps
       (λ wide. split (frameCount l mps) credits
       (λ paid. let h = frames-fit short p in
       sym (plan-frames l mtu mps credits enough fits short wide paid h) ∙ plan-frames l mtu mps credits (framesLength l mps) fits short wide paid (omega arith))

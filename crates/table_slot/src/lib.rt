@@ -1,9 +1,11 @@
-// One slot by value: what slots are searched for, and what its open job is asked. The crate `table_slot_changes` has the slot with one thing changed.
+// One slot by value: what slots are searched for, and what its peer and its open job are asked. The crate `table_slot_changes` has the slot with one thing changed.
 // Each contract is the equation with the function of that name in the crate `definition`.
 ghost use mathlib.Core.Path.{_≡_};
-ghost use Rattle.definition.specs.Table.{isFree, ofLink, pendingOf, unheldPendingOf, attemptOf, attemptBy, connectedTo, usesPeer, dueSlot, calls, isOpen, jobFits};
+ghost use Rattle.definition.specs.Table.{isFree, ofLink, pendingOf, unheldPendingOf, attemptOf, attemptBy, connectedTo, usesPeer, dueSlot, calls, belowLeast, isOpen, jobFits};
 ghost use Rattle.table_slot.specs.Want.{wanted};
 use channel::OpenJob;
+use channel::Peer;
+use channel::SIZE_LEAST;
 use channel::Slot;
 pub use table_slot_changes::freed;
 pub use table_slot_changes::fresh;
@@ -115,6 +117,13 @@ pub fn fits(x: Slot, w: Want) -> bool
         Want::Due => due_slot(x),
         Want::Calls => calls(x),
     }
+}
+
+// Is the peer's MTU or its MPS below the least that Core allows?
+pub fn below_least(p: Peer) -> bool
+    ensures { λ r. ⌜ r ≡ belowLeast p ⌝ }
+{
+    (p.mtu < SIZE_LEAST) | (p.mps < SIZE_LEAST)
 }
 
 // ---- the job that is handed over in portions

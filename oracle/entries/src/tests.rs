@@ -111,6 +111,35 @@ fn the_rows_of_document_02() {
     assert_eq!(rows[9], "= 0 disconnecting 1 64 128 60 58 e1 2 0 80 23 100 3 1 0 0 0");
 }
 
+/// The same of its sizes: what a response below 23 leaves, and that our disconnect request then names the peer's CID; and a frame longer than our MPS, whose first test this is.
+#[test]
+fn the_sizes_of_document_02() {
+    let base = "T 2 2 64\nR 128\n";
+    let play = |script: String| Entries::new(None).rows(&script).unwrap();
+    let last = |script: String| play(script).pop().unwrap();
+    let request = |sizes: &str| last(format!("{base}S 1 1 c 14070a0080005000{sizes}0500\n"));
+    let refused = "0 0e00050015070a0000000000000000000b00";
+    for (sizes, row) in [("16001700", refused), ("17001600", refused), ("00000000", refused), ("17001700", "0 -")] {
+        assert_eq!(request(sizes), row, "{sizes}");
+    }
+    let mine = format!("{base}C 1 128 - - - -\n");
+    assert_eq!(last(format!("{mine}S 1 1 c 15010a0050001600160005000400\n")), "17 - 4");
+    assert_eq!(last(format!("{mine}S 1 1 c 15020a0050001600160005000000\n")), "8 -");
+    let rows = play(format!("{mine}S 1 1 c 15010a0050006400160005000000\nU 0\nV\nQ\nS 1 1 c 0702040050004000\nV\n"));
+    assert_eq!(rows[3..6], ["9 -", "0 - 128 58 60 100 22", "0 - 2 2 64 2"]);
+    assert_eq!(rows[6], "= 0 disconnecting 1 64 128 60 58 e1 2 0 80 22 100 5 0 0 0 0");
+    assert_eq!(rows[8], "0 080005000602040050004000 1 0");
+    assert_eq!(rows[11], "= 0 disconnected 0 64 0 0 0 e1 0 0 0 0 0 0 0 0 0 0");
+    let open = |mps: &str| format!("{base}S 1 1 c 14070a0080005000640017000500\nP 1 1\nA 0 - {mps} - 10\n");
+    let octets = |count: usize| "aa".repeat(count);
+    assert_eq!(last(format!("{}F 1 64 1500{}\n", open("23"), octets(21))), "0 -");
+    assert_eq!(last(format!("{}F 1 64 1600{}\n", open("23"), octets(22))), "9 -");
+    assert_eq!(last(format!("{}F 1 64 3000aa\nF 1 64 {}\n", open("23"), octets(23))), "0 -");
+    assert_eq!(last(format!("{}F 1 64 3000aa\nF 1 64 {}\n", open("23"), octets(24))), "9 -");
+    assert_eq!(last(format!("{}F 1 64 05\n", open("0"))), "9 -");
+    assert_eq!(last(format!("{}F 1 64 05\n", open("1"))), "19 -");
+}
+
 fn pdu(call: &Call) -> &[u8] {
     match call {
         Call::Signal { pdu, .. } => pdu,

@@ -23,6 +23,8 @@ pub const ROOM: usize = 65_536;
 pub const BUFFER: usize = 4_096;
 /// The local CID of slot 0.
 pub const BASE_ID: u16 = 0x40;
+/// The least MTU, and the least MPS, of a peer (document 02).
+pub const SIZE_LEAST: u16 = 23;
 
 /// True where `chanrun` makes a table of these sizes.
 pub fn can_be_made(n: u16, d: u16, m: u16) -> bool {

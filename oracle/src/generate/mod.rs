@@ -8,7 +8,7 @@ mod portions;
 mod signals;
 mod traffic;
 
-use crate::kinds::{signal_verdict, verdict};
+use crate::kinds::{signal_verdict, verdict, Kind};
 use crate::play::SIZES;
 use crate::rng::Rng;
 use crate::script::Source;
@@ -104,7 +104,7 @@ const MOVES: [(Move, [usize; 6]); 32] = [
     (Move::DisconnectResponse, [3, 1, 1, 1, 8, 4]),
     (Move::Parameters, [1, 1, 0, 0, 0, 12]),
     (Move::Noise, [1, 1, 0, 0, 0, 14]),
-    (Move::Several, [2, 2, 0, 1, 1, 14]),
+    (Move::Several, [2, 2, 0, 1, 1, 16]),
     (Move::NextPending, [8, 14, 8, 8, 10, 6]),
     (Move::RejectStep, [1, 4, 0, 0, 1, 1]),
     (Move::Accept, [10, 14, 10, 10, 12, 6]),
@@ -119,7 +119,7 @@ const MOVES: [(Move, [usize; 6]); 32] = [
     (Move::DisconnectByCid, [1, 1, 0, 0, 3, 1]),
     (Move::LinkDown, [1, 2, 1, 1, 5, 1]),
     (Move::NextDisconnect, [4, 2, 1, 1, 12, 3]),
-    (Move::Frame, [14, 2, 40, 10, 12, 2]),
+    (Move::Frame, [16, 2, 46, 12, 13, 2]),
     (Move::Send, [8, 1, 10, 24, 3, 1]),
     (Move::Start, [6, 1, 10, 14, 4, 1]),
     (Move::Portion, [10, 1, 16, 24, 6, 1]),
@@ -232,11 +232,15 @@ impl Generator {
         self.play(chosen, view)
     }
 
-    /// True where both sides must print the same row and go on alike. Between the signals of one PDU only a run can tell.
+    /// True where both sides must print the same row and go on alike. Between the signals of one PDU only a run can tell, but for sizes below 23: no signal makes
+    /// an attempt or registers an SPSM.
     fn inside(&self, view: &View, call: &Call) -> bool {
         match call {
-            Call::Signal { link, pdu, .. } => {
-                parts(pdu).unwrap_or_default().first().is_none_or(|first| signal_verdict(view, *link, first).is_none())
+            Call::Signal { link, listening, pdu, .. } => {
+                let differs = |(at, part): (usize, &&[u8])| {
+                    signal_verdict(view, *link, *listening, part).is_some_and(|verdict| at == 0 || verdict.kind == Kind::BelowLeast)
+                };
+                !parts(pdu).unwrap_or_default().iter().enumerate().any(differs)
             }
             // A take's verdict needs to know that a job waits, not which.
             Call::Take { slot, .. } => {

@@ -1,7 +1,7 @@
 //! The numbers that calls are made of: each list has the limits, their neighbours and a few plain ones.
 
 use crate::rng::Rng;
-use language::{Config, Policy};
+use language::{Config, Policy, SIZE_LEAST};
 
 pub fn link(rng: &mut Rng) -> u16 {
     if rng.chance(60) {
@@ -28,16 +28,42 @@ pub fn spsm(rng: &mut Rng) -> u16 {
     }
 }
 
-pub fn peer_mps(rng: &mut Rng, m: u16) -> u16 {
-    if rng.chance(85) {
-        rng.pick(&[23, 24, 25, 27, m - 5, m - 4]).max(23)
+/// An MPS that Core allows.
+fn peer_mps(rng: &mut Rng, m: u16) -> u16 {
+    if rng.chance(92) {
+        rng.pick(&[23, 24, 25, 27, m - 5, m - 4]).max(SIZE_LEAST)
     } else {
-        rng.pick(&[0, 1, 2, 22, m - 3, 247, 1_020, 65_535])
+        rng.pick(&[m - 3, 247, 1_020, 65_535])
     }
 }
 
-pub fn peer_mtu(rng: &mut Rng, m: u16) -> u16 {
+/// An MTU that Core allows.
+fn peer_mtu(rng: &mut Rng, m: u16) -> u16 {
     rng.pick(&[23, 24, 44, 45, 64, 100, m - 6, 300, 1_000, 2_000, 65_533, 65_535])
+}
+
+/// MTU and MPS of a peer that follows Core.
+pub fn allowed_sizes(rng: &mut Rng, m: u16) -> [u16; 2] {
+    [peer_mtu(rng, m), peer_mps(rng, m)]
+}
+
+/// MTU and MPS of a peer that doesn't: one of them is below 23, or both.
+pub fn small_sizes(rng: &mut Rng, m: u16) -> [u16; 2] {
+    let small = rng.pick(&[0, 1, 2, 10, 22, 22, 22]);
+    match rng.below(3) {
+        0 => [small, peer_mps(rng, m)],
+        1 => [peer_mtu(rng, m), small],
+        _ => [rng.pick(&[0, 1, 22, 22]), small],
+    }
+}
+
+/// MTU and MPS of a peer: most of them follow Core.
+pub fn peer_sizes(rng: &mut Rng, m: u16) -> [u16; 2] {
+    if rng.chance(95) {
+        allowed_sizes(rng, m)
+    } else {
+        small_sizes(rng, m)
+    }
 }
 
 pub fn peer_credits(rng: &mut Rng) -> u16 {
@@ -68,7 +94,9 @@ pub fn config(rng: &mut Rng, m: u16) -> Config {
     };
     let mps = match rng.below(10) {
         0 => Some(m - 4),
-        1 => Some(rng.pick(&[0, 23, m - 5])),
+        1 => Some(rng.pick(&[23, 24, m - 5])),
+        // Our own may be below 23: a job then comes in many frames, and a frame that is too long is soon made.
+        2 => Some(rng.pick(&[0, 2, 3, 7, 12, 22])),
         _ if rare => Some(rng.pick(&[m - 3, m, 65_535])),
         _ => None,
     };
@@ -79,7 +107,13 @@ pub fn config(rng: &mut Rng, m: u16) -> Config {
         3 => Some(Policy::MinThreshold(rng.pick(&[1, 2, 3, 5]))),
         _ => None,
     };
-    let credits = if rng.chance(35) { None } else { Some(rng.pick(&[0, 1, 2, 3, 5, 8, 20, 20, 200, 200, 65_535, 65_535])) };
+    // A job that comes in many frames needs as many credits.
+    let many = mps.is_some_and(|mps| mps < SIZE_LEAST);
+    let credits = match rng.below(100) {
+        0..35 if !many => None,
+        35..70 if many => Some(rng.pick(&[20, 200, 65_535])),
+        _ => Some(rng.pick(&[0, 1, 2, 3, 5, 8, 20, 20, 200, 200, 65_535, 65_535])),
+    };
     Config { mtu, mps, policy, credits }
 }
 

@@ -46,7 +46,9 @@ impl Generator {
                 Call::Reject { slot, result: numbers::result(&mut self.rng) }
             }
             Move::DropPending => {
-                let slot = self.slot_where(view, pending(true))?;
+                // Dropping one that was accepted does nothing.
+                let accepted = self.rng.chance(20);
+                let slot = self.slot_where(view, |slot| if accepted { slot.state == State::Connected } else { pending(true)(slot) })?;
                 Call::DropPending { slot }
             }
             Move::Create => {

@@ -7,9 +7,26 @@ use language::{Call, Config, SlotView, State, View, BASE_ID};
 impl Generator {
     /// A call of one entry of the list, where the table allows one.
     pub(super) fn outside(&mut self, view: &View) -> Option<Call> {
-        // Few tables allow this one: where one does, it is taken often.
-        let late = |slot: &SlotView| slot.job.is_some_and(|job| job.taken + 2 != job.filled);
-        let kind = if view.slots.iter().any(late) && self.rng.chance(30) { Kind::LateCancel } else { self.rng.pick(&Kind::ALL) };
+        // Few tables allow these: where one does, or nearly does, they are taken often.
+        let any = |test: fn(&SlotView) -> bool| view.slots.iter().any(test);
+        let rare = [
+            (Kind::LateCancel, 30, any(late)),
+            (Kind::LongerThanMps, 40, any(|slot| mps_decides(slot, 1))),
+            (Kind::LongerThanMps, 15, any(|slot| pending(slot) && slot.hold > 0)),
+            (Kind::BelowLeast, 20, any(attempt)),
+            (Kind::HeldPanic, 10, any(|slot| pending(slot) && slot.hold == 0)),
+            (Kind::JobOpen, 8, any(|slot| slot.job.is_some())),
+            (Kind::SetAside, 8, any(|slot| slot.job.is_some())),
+            (Kind::TooLong, 10, any(|slot| slot.state == State::Connected && slot.peer_mtu == 65_535)),
+            (Kind::ZeroGrant, 20, any(|slot| slot.state == State::Connected && !slot.jobs.is_empty() && slot.received == 0)),
+        ];
+        let taken = rare.into_iter().find(|(_, percent, allowed)| *allowed && self.rng.chance(*percent));
+        let kind = taken.map_or_else(|| self.rng.pick(&Kind::ALL), |(kind, ..)| kind);
+        // Every table allows these: they would be made each time that another one can't be.
+        let always = [Kind::SpsmIgnored, Kind::SlotPanic, Kind::LocalMtu, Kind::OpenedOrder, Kind::OpenedPanic, Kind::NoPacket];
+        if always.contains(&kind) && self.rng.chance(50) {
+            return None;
+        }
         match kind {
             Kind::SpsmIgnored => Some(Call::Register { spsm: self.rng.pick(&[0, 256, 0x8000, 65_535]) }),
             Kind::SlotPanic => Some(Call::AddHold { slot: self.n }),
@@ -41,16 +58,18 @@ impl Generator {
                 let slot = self.one_of(view, |slot| slot.state == State::Connected)?;
                 Some(Call::Frame { link: self.a_link(), cid: BASE_ID + slot, payload: vec![1, 0, 7] })
             }
-            Kind::ShortFrame => self.first(view, |_, _| Vec::new()),
+            Kind::ShortFrame => self.first(view, |this, _| {
+                let count = this.rng.below(2);
+                this.rng.octets(count)
+            }),
             Kind::LongerThanLength => self.first(view, |this, mtu| {
                 let length = this.rng.below(usize::from(mtu.min(20)) + 1);
                 let carried = (length + this.rng.between(1, 3)).min(usize::from(this.m) - 2);
                 let octets = this.rng.octets(carried);
                 [&(length as u16).to_le_bytes()[..], &octets].concat()
             }),
-            Kind::SmallMps | Kind::LongFrame => {
-                let slot =
-                    self.one_of(view, |slot| slot.state == State::Connected && (slot.peer_mps < 23 || slot.peer_mps > view.m - 4))?;
+            Kind::LongFrame => {
+                let slot = self.one_of(view, |slot| slot.state == State::Connected && slot.peer_mps > view.m - 4)?;
                 let length = usize::from(view.slots[usize::from(slot)].peer_mtu).min(usize::from(self.m) + 40);
                 Some(Call::Send { slot, sdu: self.rng.octets(length) })
             }
@@ -104,6 +123,8 @@ impl Generator {
                 self.signal_line(|this| Some((link, this.credits_for(cid, given as u16))))
             }
             Kind::LateCancel => Some(Call::Cancel { slot: self.one_of(view, late)? }),
+            Kind::BelowLeast => self.small_opening(view),
+            Kind::LongerThanMps => self.longer_than_mps(view),
             Kind::NumbersLeft | Kind::JobsLeft | Kind::AssemblyLeft => {
                 let slot = self.one_of(view, SlotView::free)?;
                 Some(if self.rng.chance(50) { Call::Queries { slot } } else { Call::Room { slot } })
@@ -135,6 +156,60 @@ impl Generator {
         }
     }
 
+    /// A request or a response with sizes below 23. Of the requests some name a CID that is in use.
+    fn small_opening(&mut self, view: &View) -> Option<Call> {
+        let sizes = numbers::small_sizes(&mut self.rng, self.m);
+        if let Some(slot) = self.one_of(view, attempt).filter(|_| self.rng.chance(80)) {
+            return self.signal_line(|this| Some(this.response_to(view, slot, sizes)));
+        }
+        let used = self.one_of(view, |slot| !slot.free()).filter(|_| self.rng.chance(30));
+        let (link, cid) = match used.map(|slot| &view.slots[usize::from(slot)]) {
+            Some(record) => (record.link, record.peer_cid),
+            None => (self.a_link(), numbers::peer_cid(&mut self.rng)),
+        };
+        self.signal_line(|this| {
+            let spsm = numbers::spsm(&mut this.rng);
+            Some((link, this.request(spsm, cid, sizes)))
+        })
+    }
+
+    /// A frame a little longer than our MPS, where that decides; else what leads to one.
+    fn longer_than_mps(&mut self, view: &View) -> Option<Call> {
+        let more = self.rng.pick(&[1, 1, 1, 2, 3]);
+        let full = |slot: &SlotView| slot.jobs.len() == usize::from(view.d);
+        let at_full = self.one_of(view, |slot| mps_decides(slot, more) && full(slot));
+        let Some(slot) = at_full.or_else(|| self.one_of(view, |slot| mps_decides(slot, more))) else {
+            return self.small_channel(view);
+        };
+        let record = &view.slots[usize::from(slot)];
+        let payload = match (record.want, record.mps) {
+            // A job that a longer frame can join, and jobs that fill the queue.
+            (0, mps @ 2..) if record.jobs.is_empty() && self.rng.chance(40) => self.first_of(record.mtu, mps),
+            (0, 2..) if !full(record) && self.rng.chance(if record.jobs.is_empty() { 40 } else { 80 }) => vec![0, 0],
+            (0, 0) => self.rng.octets(1),
+            // The whole of a job, or the start of one.
+            (0, mps) => {
+                let length = self.rng.pick(&[mps + more - 2, mps + more - 2, record.mtu]);
+                self.first_of(length, mps + more)
+            }
+            (_, mps) => self.rng.octets((mps + more).into()),
+        };
+        Some(Call::Frame { link: record.link, cid: BASE_ID + slot, payload })
+    }
+
+    /// So many octets that open a job of a length.
+    fn first_of(&mut self, length: u16, octets: u16) -> Vec<u8> {
+        let job = self.rng.octets(usize::from(octets) - 2);
+        [&length.to_le_bytes()[..], &job].concat()
+    }
+
+    /// Opens a channel with a small MPS of ours, where a peer waits for one.
+    fn small_channel(&mut self, view: &View) -> Option<Call> {
+        let slot = self.one_of(view, |slot| pending(slot) && slot.hold > 0)?;
+        let mps = self.rng.pick(&[0, 0, 1, 2, 3, 7, 22]);
+        Some(Call::Accept { slot, config: Config { mps: Some(mps), credits: Some(20), ..Config::default() } })
+    }
+
     /// A first frame for an idle channel that has a credit.
     fn first(&mut self, view: &View, payload: impl FnOnce(&mut Self, u16) -> Vec<u8>) -> Option<Call> {
         let slot = self.one_of(view, |slot| slot.state == State::Connected && slot.credits > 0 && slot.want == 0)?;
@@ -150,6 +225,22 @@ impl Generator {
             Some(self.rng.pick(&fit))
         }
     }
+}
+
+/// A frame so much longer than our MPS may be the first of a job that our MTU allows, or go on with a job and not end past it.
+fn mps_decides(slot: &SlotView, more: u16) -> bool {
+    let longer = slot.mps + more;
+    let allowed = if slot.want > 0 { slot.have + longer <= slot.want } else { longer <= slot.mtu + 2 };
+    slot.state == State::Connected && slot.credits > 0 && allowed
+}
+
+/// A job whose first frame is out.
+fn late(slot: &SlotView) -> bool {
+    slot.job.is_some_and(|job| job.taken + 2 != job.filled)
+}
+
+fn attempt(slot: &SlotView) -> bool {
+    matches!(slot.state, State::Connecting(_))
 }
 
 fn pending(slot: &SlotView) -> bool {

@@ -27,19 +27,19 @@ impl Generator {
 
     pub(super) fn peer_request(&mut self) -> Vec<u8> {
         let (spsm, cid) = (numbers::spsm(&mut self.rng), numbers::peer_cid(&mut self.rng));
-        self.request(spsm, cid)
+        let sizes = numbers::peer_sizes(&mut self.rng, self.m);
+        self.request(spsm, cid, sizes)
     }
 
-    /// A request that an empty slot takes: its SPSM is registered.
+    /// A request that an empty slot takes: its SPSM is registered, and its sizes are allowed.
     pub(super) fn request_from(&mut self, peer_cid: u16) -> Vec<u8> {
-        self.request(128, peer_cid)
+        let sizes = numbers::allowed_sizes(&mut self.rng, self.m);
+        self.request(128, peer_cid, sizes)
     }
 
-    fn request(&mut self, spsm: u16, peer_cid: u16) -> Vec<u8> {
+    pub(super) fn request(&mut self, spsm: u16, peer_cid: u16, [mtu, mps]: [u16; 2]) -> Vec<u8> {
         let identifier = self.identifier();
-        let rng = &mut self.rng;
-        let fields = [spsm, peer_cid, numbers::peer_mtu(rng, self.m), numbers::peer_mps(rng, self.m), numbers::peer_credits(rng)];
-        signal(0x14, identifier, &fields)
+        signal(0x14, identifier, &[spsm, peer_cid, mtu, mps, numbers::peer_credits(&mut self.rng)])
     }
 
     /// A disconnect request or response by its two CIDs.
@@ -48,9 +48,14 @@ impl Generator {
         signal(code, identifier, &[dcid, scid])
     }
 
-    /// A response to one of our attempts: mostly to its identifier.
     pub(super) fn response(&mut self, view: &View) -> Option<(u16, Vec<u8>)> {
         let slot = self.slot_where(view, |slot| matches!(slot.state, State::Connecting(_)))?;
+        let sizes = numbers::peer_sizes(&mut self.rng, self.m);
+        Some(self.response_to(view, slot, sizes))
+    }
+
+    /// A response to one of our attempts: mostly to its identifier.
+    pub(super) fn response_to(&mut self, view: &View, slot: u16, [mtu, mps]: [u16; 2]) -> (u16, Vec<u8>) {
         let link = self.link_of(view, slot);
         let identifier = match view.slots[usize::from(slot)].state {
             State::Connecting(identifier) if self.rng.chance(92) => identifier,
@@ -58,9 +63,8 @@ impl Generator {
         };
         let rng = &mut self.rng;
         let result = if rng.chance(75) { 0 } else { numbers::result(rng) };
-        let fields =
-            [numbers::peer_cid(rng), numbers::peer_mtu(rng, self.m), numbers::peer_mps(rng, self.m), numbers::peer_credits(rng), result];
-        Some((link, signal(0x15, identifier, &fields)))
+        let fields = [numbers::peer_cid(rng), mtu, mps, numbers::peer_credits(rng), result];
+        (link, signal(0x15, identifier, &fields))
     }
 
     pub(super) fn credits(&mut self, view: &View) -> Option<(u16, Vec<u8>)> {

@@ -13,17 +13,24 @@ impl Generator {
         Some(Call::Frame { link, cid, payload })
     }
 
+    /// How long a frame may be: our MPS. Past it both sides answer alike where no credit is left, and where another length is passed too.
+    fn longest(&mut self, record: &SlotView) -> usize {
+        let within = if record.credits == 0 { 60 } else { 97 };
+        usize::from(if self.rng.chance(within) { record.mps } else { self.m })
+    }
+
     /// A frame that opens a job, whole or in part.
     fn first_frame(&mut self, record: &SlotView) -> Vec<u8> {
+        let longest = self.longest(record);
         let rng = &mut self.rng;
-        let (mtu, most) = (usize::from(record.mtu), usize::from(self.m) - 2);
+        let mtu = usize::from(record.mtu);
         let length = match rng.below(40) {
             0 => rng.pick(&[mtu + 1, mtu + 2, 65_535]),
             1..=5 => mtu,
             6 | 7 => mtu.saturating_sub(1),
             8..=10 => 0,
             11 | 12 => 1,
-            _ => rng.between(0, mtu.min(40)),
+            _ => rng.between(0, mtu.min(40).min(4 * usize::from(record.mps))),
         };
         let carried = match rng.below(10) {
             0..=3 => length,
@@ -32,12 +39,13 @@ impl Generator {
             _ => rng.between(0, length.min(300)),
         };
         let mut payload = (length as u16).to_le_bytes().to_vec();
-        payload.extend(rng.octets(carried.min(most)));
+        payload.extend(rng.octets(carried.min(longest.saturating_sub(2))));
         payload
     }
 
     /// A frame that goes on with the open job: often to its end, rarely past it.
     fn joining_frame(&mut self, record: &SlotView) -> Vec<u8> {
+        let longest = self.longest(record);
         let rng = &mut self.rng;
         let rest = usize::from(record.want) - usize::from(record.have.min(record.want));
         let carried = match rng.below(40) {
@@ -48,7 +56,7 @@ impl Generator {
             12..=27 => rest,
             _ => rng.between(0, rest),
         };
-        rng.octets(carried.min(usize::from(self.m)))
+        rng.octets(carried.min(if carried > rest { self.m.into() } else { longest }))
     }
 
     pub(super) fn send(&mut self, view: &View) -> Option<Call> {

@@ -66,6 +66,24 @@ pub fn slot(channels: &ChannelManager<'_>, index: ChannelIndex) -> Slot {
     channels.table().slot(index).expect("a slot of the table")
 }
 
+/// Where a column of a slot's row stands in a table's octets.
+pub fn cell(slot: usize, column: usize) -> usize {
+    48 + 16 * column + slot
+}
+
+/// A number of two octets, written there.
+pub fn put(octets: &mut [u8; TABLE_OCTETS], slot: usize, column: usize, number: u16) {
+    [octets[cell(slot, column)], octets[cell(slot, column + 1)]] = number.to_le_bytes();
+}
+
+/// The same channels with another MPS of a slot's peer. No call leaves one under 23.
+pub fn with_peer_mps(channels: ChannelManager<'_>, index: ChannelIndex, mps: u16) -> ChannelManager<'_> {
+    let (table, room) = channels.into_parts();
+    let mut octets = *table.octets();
+    put(&mut octets, index.0.into(), 20, mps);
+    ChannelManager::from_parts(Table::from_octets(octets), room)
+}
+
 pub fn state(channels: &ChannelManager<'_>) -> (Table, Vec<u8>) {
     (channels.table().clone(), channels.room().to_vec())
 }

@@ -3,12 +3,16 @@ use borrow.Author.Needs.{needs}
 use Rattle.on_conn_req.proofs.asked.Statement.{statement}
 use Rattle.on_conn_req.proofs.asked.Tie as tie
 
+requester-requires : tie.Need-requester-requires
+requester-requires c κs = search needs
+
 fresh-requires : tie.Need-fresh-requires
 fresh-requires c κs = search needs
 
 returns : tie.Need-returns
 returns c =
-    rw (c .before .before .before .before .fresh .ensures)
+    let made = c .before .before .before .before in
+    rw (made .fresh .ensures, made .before .requester .ensures)
 
 pub asked-spec : {M : Type 1} → statement M
-asked-spec = tie.close (tie.spec fresh-requires returns)
+asked-spec = tie.close (tie.spec requester-requires fresh-requires returns)

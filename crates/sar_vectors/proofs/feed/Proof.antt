@@ -18,7 +18,6 @@ returns-2 c = search needs
 add-if3 : tie.Need-add-if3
 add-if3 c = search needs
 
--- antt refused `mul-if3` as it was built: the module's report says why
 mul-if3 : tie.Need-mul-if3
 mul-if3 c =
     let s = c .before .before .before .before .before .before in
@@ -42,8 +41,8 @@ enum-told c = search needs
 enum-told-2 : tie.Need-enum-told-2
 enum-told-2 c = search needs
 
-add-t23 : tie.Need-add-t23
-add-t23 c = search needs
+add-t24 : tie.Need-add-t24
+add-t24 c = search needs
 
 enum-known-step-2 : tie.Need-enum-known-step-2
 enum-known-step-2 c = search needs
@@ -72,7 +71,6 @@ same-length-4 c = search needs
 returns-7 : tie.Need-returns-7
 returns-7 c = search needs
 
--- antt refused `feed-spec` as it was built: the module's report says why
 pub feed-spec : {M : Type 1} → statement M
 feed-spec =
     tie.close
@@ -88,7 +86,7 @@ feed-spec =
     refusal-number-requires
     enum-told
     enum-told-2
-    add-t23
+    add-t24
     enum-known-step-2
     same-length
     returns-4

@@ -8,10 +8,10 @@ use Rattle.sar_vectors.proofs.join_all.Statement.{statement}
 use Rattle.sar_vectors.proofs.join_all.Tie as tie
 
 abbrev Inv-loop : tie.InvT-loop
-Inv-loop places₀ mtu out s₀ at₀ places s at = (at ≤ length out) × (length places ≡ length places₀)
+Inv-loop places₀ mtu mps out s₀ at₀ places s at = (at ≤ length out) × (length places ≡ length places₀)
 
 abbrev μ-loop : tie.MeasureT-loop
-μ-loop places₀ mtu out s₀ at₀ places s at = length out - at
+μ-loop places₀ mtu mps out s₀ at₀ places s at = length out - at
 
 loop-holds : tie.Need-loop-holds Inv-loop μ-loop
 loop-holds c = (omega arith, refl)

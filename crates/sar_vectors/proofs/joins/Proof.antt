@@ -6,10 +6,10 @@ use Rattle.sar_vectors.proofs.joins.Statement.{statement}
 use Rattle.sar_vectors.proofs.joins.Tie as tie
 
 abbrev Inv-loop : tie.InvT-loop
-Inv-loop i₀ i = Unit {0}
+Inv-loop mps i₀ i = Unit {0}
 
 abbrev μ-loop : tie.MeasureT-loop
-μ-loop i₀ i = 192 - i
+μ-loop mps i₀ i = 192 - i
 
 loop-holds : tie.Need-loop-holds Inv-loop μ-loop
 loop-holds c = tt

@@ -4,6 +4,7 @@
 mod answers;
 mod credits;
 mod jobs;
+mod least;
 mod others;
 mod portions;
 mod states;
@@ -19,7 +20,7 @@ pub struct Fault {
 
 /// The list; the client's lost line is the first.
 pub fn all() -> impl Iterator<Item = &'static Fault> {
-    [jobs::FAULTS, others::FAULTS, credits::FAULTS, states::FAULTS, answers::FAULTS, portions::FAULTS].into_iter().flatten()
+    [jobs::FAULTS, others::FAULTS, credits::FAULTS, states::FAULTS, answers::FAULTS, portions::FAULTS, least::FAULTS].into_iter().flatten()
 }
 
 /// What a fault keeps from call to call: by slot, the numbers and octets of an assembly that was open when its channel ended.

@@ -41,6 +41,10 @@ pub fn take_from(
     if x.queue.count == 0 {
         return slot_work::became(x, Answer::Done, 0);
     }
+    let oldest = x.queue.lens[0];
+    if job.len() < oldest as usize {
+        return slot_work::became(x, Answer::Refused(Refusal::InsufficientSpace), 0);
+    }
     match granting::grant_in(x) {
         Grant::Nothing => handing::hand(room, d, m, s, x, job, 0),
         Grant::Credits(n) => granting::hand_and_grant(room, signal, d, m, s, x, id, job, n),

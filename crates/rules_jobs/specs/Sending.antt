@@ -143,6 +143,7 @@ pub sent-comes-out : (sender : State) (j : ℕ) (sdu : List ℕ) (x : Window) (l
     → (w v : Window) → answerNumber (outcome s″ (taking i w v) .answer) ≡ 0
     → (fills (λ x. x) [] (s″ .room) (outcome s″ (taking i w v) .job) ≡ sdu)
     × (outcome s″ (taking i w v) .answer ≡ Job (slotAt (s″ .table) i .link) (length sdu))
+    × (length sdu ≤ sized v s″)
 unfolding jobs
 sent-comes-out sender j sdu x link′ n answered {s} {s′} {s″} i link handle r k z m b a o w v e =
     let y = exact-rejoining sender j sdu x link′ n answered i link handle r k z m b a in
@@ -150,4 +151,4 @@ sent-comes-out sender j sdu x link′ n answered {s} {s′} {s″} i link handle
     let f = handed-out o (arrived a r) (omega arith) in
     let q = takes-waiting (f .reached) i w v (f .some) e in
     let is = f .is ∙ y .whole in
-    (q .octets ∙ is, q .answer ∙ ap (λ (xs : List ℕ). Job (slotAt (s″ .table) i .link) (length xs)) is)
+    (q .octets ∙ is, q .answer ∙ ap (λ (xs : List ℕ). Job (slotAt (s″ .table) i .link) (length xs)) is, subst (λ (xs : List ℕ). length xs ≤ sized v s″) is (q .fits))

@@ -1,34 +1,34 @@
 -- A take that answers a job hands out the oldest, whole, and leaves the others in their order; a buffer that is too short leaves all, and one of the slot's MTU
 -- never is. So the job that was rejoined is the job taken (F). Rests on the jobs of a part (Waiting.antt).
 use mathlib.Core.Path.{_≡_, refl, sym, ap, _∙_, subst}
-use mathlib.Core.Bool.{true, not}
+use mathlib.Core.Bool.{Bool, true, false, not}
 use mathlib.Core.List.{List, [], _∷_, append-nil}
-use Prim.Native.Nat.{ℕ, suc, _+_, _-_, _*_, _≤_, _<_}
+use Prim.Native.Nat.{ℕ, suc, _+_, _-_, _*_, _≤_, _<_, min}
 use native.Mathlib.Nat.{suc-mul, one-mul, mul-le-mul-right}
 use native.Mathlib.Omega.{arith}
-use lib.Dec.{eqb}
-use lib.ListN.{length, getD, take, drop, set}
-use lib.Seq.{ext-getD}
+use lib.Dec.{eqb, ltb}
+use lib.ListN.{length, getD, take, drop, set, length-take, length-drop}
+use lib.Seq.{sets, length-sets, ext-getD}
 use borrow.Author.Tests.{le-ltb, lt-ltb, ltb-true, ltb-false, lt-leb, eq-eqb, ne-eqb, eqb-true, eqb-false}
 use Rattle.lists.specs.Choose.{choose-true, choose-false, if-cases}
 use Rattle.octets.specs.Octets.{part}
-use Rattle.octets.specs.Sets.{part-length, part-at}
+use Rattle.octets.specs.Sets.{part-length, part-at, sets-before, sets-after, sets-inside}
 use Rattle.codes.specs.declared.Refusal.{Refusal}
 use Rattle.codes.specs.declared.Refusal.the-variants.{InsufficientSpace}
 use Rattle.credit.specs.declared.Grant.{Grant}
 use Rattle.credit.specs.declared.Grant.the-variants as Grant
 use Rattle.channel.specs.Limits.{signalMost}
-use Rattle.channel.specs.declared.Answer.the-variants.{Done, Job}
+use Rattle.channel.specs.declared.Answer.the-variants.{Done, Refused, Job}
 use Rattle.channel.specs.declared.Given.the-variants.{Nothing, Is}
 use Rattle.channel.specs.declared.Queue.{Queue}
 use Rattle.channel.specs.declared.Slot.{Slot}
 use Rattle.channel.specs.declared.Table.{Table}
 use Rattle.channel.specs.declared.Verdict.the-variants.{Pass}
-use Rattle.definition.specs.Mem.{Fill, held, fill, fills, moves}
+use Rattle.definition.specs.Mem.{Fill, held, fill, fills, written, moves, parts}
 use Rattle.definition.specs.Table.{placeOf, width, roomSize, slotAt, wellFormed}
 use Rattle.definition.specs.Outcome.{Outcome, only, refuse, verdict}
 use Rattle.definition.specs.Calls.{Window, Call, plain, takes, jobs, bare, decide, serve}
-use Rattle.definition.specs.Run.{State, lent, outcome, after}
+use Rattle.definition.specs.Run.{State, lent, outWindow, jobWindow, outcome, after}
 use Rattle.definition.specs.Numbers.{answerNumber, refused-not-0}
 use Rattle.definition.specs.Frames.{shifted, movingUp, grantIn, taken, receive, oldestAt, oldest}
 use Rattle.rules.specs.Run.{Reached, next, Fits}
@@ -216,10 +216,46 @@ takes-waiting {s} r i w v c e = passed-takes s (reached-good r) i w v (passed s 
 
 -- ---- when it is refused by 12: "A buffer shorter than the job should now be refused and the job kept for the next call" (document 02)
 
--- Where a job waits that is longer than the buffer, the call comes to that refusal, which leaves table, room and buffers as they were.
+-- a buffer that is put back as it was
+part-back : (xs : List ℕ) (from n : ℕ) → sets xs from (part xs from n) ≡ xs
+part-back xs from n = ext-getD 0 _ _ (length-sets xs from ys) (λ k _. octet k)
+  where
+    ys : List ℕ
+    ys = part xs from n
+
+    long : length ys ≡ min n (length xs - from)
+    long = length-take n (drop from xs) ∙ ap (min n) (length-drop from xs)
+
+    octet : (k : ℕ) → getD (sets xs from ys) k 0 ≡ getD xs k 0
+    octet k = by (ltb k from) refl (ltb k (from + length ys)) refl
+      where
+        by : (b : Bool) → ltb k from ≡ b → (c : Bool) → ltb k (from + length ys) ≡ c → getD (sets xs from ys) k 0 ≡ getD xs k 0
+        by true e c f = sets-before 0 xs from ys k (ltb-true k from e)
+        by false e false f = sets-after 0 xs from ys k (ltb-false k (from + length ys) f)
+        by false e true f =
+            let l = ltb-false k from e in
+            let m = ltb-true k (from + length ys) f in
+            let z : from + (k - from) ≡ k = omega arith in
+            rw z at (sets-inside 0 xs from ys (k - from) (omega (arith, long)) (omega arith) ∙ part-at 0 xs from n (k - from) (omega (arith, long)))
+
+-- a refusal that changes nothing leaves the state
+refused-leaves : (s : State) (a : Call) (r : Refusal) → outcome s a ≡ refuse (s .table) r → after s a ≡ s
+unfolding after parts written fills
+refused-leaves s a r e =
+    let m = s .memory in
+    let out = outWindow a in
+    let tray = jobWindow a in
+    let back : sets m (tray .from) (lent tray m) ≡ m = part-back m (tray .from) (tray .size) in
+    rw (e, back, part-back m (out .from) (out .size)) refl
+
+-- Where a job waits that is longer than the buffer, the call comes to that refusal, and leaves table, room and memory as they were.
 pub short-refused : {s : State} → Reached s → (i : ℕ) → i < s .table .n → begun (slotAt (s .table) i .state) ≡ true → 0 < slotAt (s .table) i .queue .count
-    → (w v : Window) → signalMost ≤ sized w s → sized v s < length (jobAt s i 0) → outcome s (taking i w v) ≡ refuse (s .table) InsufficientSpace
-short-refused {s} r i h b c w v l f = let g = reached-good r in short-stays s g i h b c w v l (rw (oldest-long s g i h c) at f)
+    → (w v : Window) → signalMost ≤ sized w s → sized v s < length (jobAt s i 0)
+    → (outcome s (taking i w v) .answer ≡ Refused InsufficientSpace) × (after s (taking i w v) ≡ s)
+short-refused {s} r i h b c w v l f =
+    let g = reached-good r in
+    let e = short-stays s g i h b c w v l (rw (oldest-long s g i h c) at f) in
+    (ap (λ (o : Outcome). o .answer) e, refused-leaves s (taking i w v) InsufficientSpace e)
 
 -- It is refused so nowhere else: a job waits, and is longer than the buffer.
 pub short-only : {s : State} → Reached s → (i : ℕ) (w v : Window) → answerNumber (outcome s (taking i w v) .answer) ≡ 12

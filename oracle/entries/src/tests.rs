@@ -18,7 +18,7 @@ const PORTIONED: [&str; 4] =
 
 /// An open channel with a job that waits and half of another, then a call that writes to every buffer.
 const BUSY: [&str; 8] =
-    ["T 3 2 64", "R 128", "S 1 1 c 14070a0080005000640017000500", "P 1 1", "A 0 - - m2 3", "F 1 64 0300aabbcc", "F 1 64 09000102", "B 0 2"];
+    ["T 3 2 64", "R 128", "S 1 1 c 14070a0080005000640017000500", "P 1 1", "A 0 - - m2 3", "F 1 64 0300aabbcc", "F 1 64 09000102", "B 0 5"];
 
 fn judged(lines: &[&str]) -> Script {
     quiet();

@@ -56,14 +56,14 @@ pub const FAULTS: &[Fault] = &[
         slip: |scene| refuse(scene, |record, size| size == 0 && closing(record) && record.jobs.is_empty()),
     },
     Fault {
-        title: "a buffer of 0 octets is too short before it is asked whose slot it is",
+        title: "a buffer of 0 octets is too short before it is asked whether the slot has a channel",
         slip: |scene| {
             scene.answered(11)?;
             refuse(scene, |_, size| size == 0)
         },
     },
     Fault {
-        title: "a buffer shorter than the table's longest job is too short before it is asked whose slot it is",
+        title: "a buffer shorter than the table's longest job is too short before it is asked whether the slot has a channel",
         slip: |scene| {
             scene.answered(11)?;
             let longest = scene.before.view.m - 6;

@@ -1,7 +1,7 @@
 //! Calls that the list of differences speaks of, made on purpose: one for each entry that a call can reach.
 
 use super::{numbers, Generator};
-use crate::kinds::Kind;
+use crate::kinds::{grants, Kind};
 use language::{Call, Config, SlotView, State, View, BASE_ID};
 
 impl Generator {
@@ -19,7 +19,7 @@ impl Generator {
             (Kind::JobOpen, 8, any(|slot| slot.job.is_some())),
             (Kind::SetAside, 8, any(|slot| slot.job.is_some())),
             (Kind::TooLong, 10, any(|slot| slot.state == State::Connected && slot.peer_mtu == 65_535)),
-            (Kind::ZeroGrant, 20, any(|slot| slot.state == State::Connected && !slot.jobs.is_empty() && slot.received == 0)),
+            (Kind::ZeroGrant, 60, any(grants_none)),
         ];
         let taken = rare.into_iter().find(|(_, percent, allowed)| *allowed && self.rng.chance(*percent));
         let kind = taken.map_or_else(|| self.rng.pick(&Kind::ALL), |(kind, ..)| kind);
@@ -88,7 +88,7 @@ impl Generator {
                 Some(Call::Take { slot, size: self.buffer_for(&view.slots[usize::from(slot)]) })
             }
             Kind::ZeroGrant => {
-                let slot = self.one_of(view, |slot| slot.state == State::Connected && !slot.jobs.is_empty() && slot.received == 0)?;
+                let slot = self.one_of(view, grants_none)?;
                 Some(Call::Take { slot, size: 1_024 })
             }
             Kind::ClosedHit | Kind::DisconnectAnyLink => {
@@ -252,6 +252,11 @@ fn attempt(slot: &SlotView) -> bool {
 
 fn pending(slot: &SlotView) -> bool {
     matches!(slot.state, State::PeerConnecting(_))
+}
+
+/// A job waits whose take the original would answer with a grant of 0 credits.
+fn grants_none(slot: &SlotView) -> bool {
+    slot.state == State::Connected && !slot.jobs.is_empty() && slot.received == 0 && grants(slot)
 }
 
 /// A job waits that a buffer can be too short for.

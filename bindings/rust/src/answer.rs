@@ -95,7 +95,6 @@ impl Answer {
             JOB => Some(Received {
                 handle: self.handle(),
                 sdu: job.get(..usize::from(self.number(1))).unwrap_or(&[]),
-                len: self.number(2),
                 credits: self.written(signal),
             }),
             _ => None,
@@ -225,15 +224,13 @@ pub struct Given<'b> {
     pub done: bool,
 }
 
-/// A job that was taken.
+/// A job that was taken, whole.
 #[derive(Clone, Copy, Debug, PartialEq, Eq)]
 pub struct Received<'j, 'b> {
     /// The link that it came on, and on which the credits go out.
     pub handle: ConnHandle,
-    /// The job, as far as the lent buffer reaches.
+    /// The job: the start of the lent buffer.
     pub sdu: &'j [u8],
-    /// The job's whole length. Where it is more than `sdu` has, the rest is gone.
-    pub len: u16,
     /// The signal that grants the peer new credits, with its L2CAP header; empty where none are due.
     pub credits: &'b [u8],
 }

@@ -90,6 +90,7 @@ impl Answer {
         Given { handle: self.handle(), taken: self.number(1).into(), frame, done }
     }
 
+    /// The job that was taken. The call gives one only where the buffer holds it, and nothing is tested here: `get` is what can't panic.
     pub(crate) fn job<'j, 'b>(&self, job: &'j [u8], signal: &'b [u8]) -> Option<Received<'j, 'b>> {
         match self.0[0] {
             JOB => Some(Received {

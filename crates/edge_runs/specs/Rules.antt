@@ -33,7 +33,8 @@ use Rattle.rules.specs.Run as Run
 use Rattle.rules.specs.Forms.{gate-cases}
 use Rattle.rules.specs.Places.{jobIn}
 use Rattle.rules.specs.RoomRule.{Empty, room-rule, unbegun-empty, free-fresh, new-connection, connection-begins}
-use Rattle.rules.specs.Rules.{well-formed, identifiers, credit-sum, peer-least, never-20}
+use Rattle.rules.specs.Rules.{well-formed, identifiers, credit-sum, peer-least, never-20, within-mtu}
+use Rattle.rules.specs.Sound.{Within}
 use Rattle.rules.specs.Tests.{begun, offered}
 use Rattle.rules_jobs.specs.Rejoin.{jobAt, Receiver, Rejoined, Unchanged, Arrives}
 use Rattle.rules_jobs.specs.Rejoin as Rejoin
@@ -93,7 +94,7 @@ unfolding spells
 entered-state r a apart o = let p = spells r in said (spells (next a r apart o)) ∙ ap (λ (x : State). after x (callIn a)) (sym (said p))
 
 -- ---- the table that the octets spell is never one that 1 refuses; identifiers are 1 to 255; credits held plus received never pass 65,535; a PeerConnecting or
--- Connected slot's peer MTU and MPS are at least 23
+-- Connected slot's peer MTU and MPS are at least 23; what waits in a slot, and what arrives there, is no longer than its MTU
 
 pub well-formed-at : {s : EdgeState} → ReachedAt s → wellFormed (stateOf s .table) ≡ true
 well-formed-at r = well-formed (reached r)
@@ -107,6 +108,10 @@ credit-sum-at r = credit-sum (reached r)
 pub peer-least-at : {s : EdgeState} → ReachedAt s → (i : ℕ) → i < stateOf s .table .n → offered (slotAt (stateOf s .table) i .state) ≡ true
     → (sizeLeast ≤ slotAt (stateOf s .table) i .peer .mtu) × (sizeLeast ≤ slotAt (stateOf s .table) i .peer .mps)
 peer-least-at r = peer-least (reached r)
+
+pub within-mtu-at : {s : EdgeState} → ReachedAt s → (i : ℕ) → i < stateOf s .table .n
+    → Within (slotAt (stateOf s .table) i .mtu) (slotAt (stateOf s .table) i .assembly) (slotAt (stateOf s .table) i .queue)
+within-mtu-at r = within-mtu (reached r)
 
 -- ---- "Every octet of room that holds no octet of a live job is zero": octet j of place k of slot i
 

@@ -136,8 +136,8 @@ arrived {i} {link} (comes p v) r = arrived v (next (framing link i p) r tt)
 -- A send was answered 0, and its frames came to a receiver, as above. The jobs that waited there before it are taken, however many. Then a take that is not refused
 -- hands out the SDU, octet for octet, whatever buffer is lent, and reports its length.
 pub sent-comes-out : (sender : State) (j : ℕ) (sdu : List ℕ) (x : Window) (link′ n : ℕ) → outcome sender (sends j sdu x) .answer ≡ Frames link′ n
-    → {s s′ s″ : State} (i link : ℕ) → link ≤ handleMost → Reached s → Receiver s i link n → slotAt (s .table) i .assembly .want ≡ 0 → length sdu ≤ slotAt (s .table) i .mtu
-    → AllWithin (slotAt (s .table) i .mps) (payloads (slotAt (sender .table) j .peer .mps) sdu)
+    → {s s′ s″ : State} (i link : ℕ) → link ≤ handleMost → Reached s → Receiver s i link n → slotAt (s .table) i .assembly .want ≡ 0
+    → length sdu ≤ slotAt (s .table) i .mtu → AllWithin (slotAt (s .table) i .mps) (payloads (slotAt (sender .table) j .peer .mps) sdu)
     → Arrives i link (payloads (slotAt (sender .table) j .peer .mps) sdu) s s′
     → HandsOut i (slotAt (s .table) i .queue .count) s′ s″
     → (w v : Window) → answerNumber (outcome s″ (taking i w v) .answer) ≡ 0

@@ -311,5 +311,5 @@ sent-comes-out-at {sender} q x j sdu answer e {s} {s″ = s″} r i link handle 
     let o = hands-out out (arrived came r) in
     let c = taking w v i answer′ in
     let y = sent-comes-out (stateOf sender) j sdu x (a .link) (a .count) (a .is) i link handle (reached r) (subst (λ (n : ℕ). Receiver (stateOf s) i link n) n k) z m b (arrives came r)
-        (o .out) w v (sym (number-at (o .reached) c) ∙ f) in
+    (o .out) w v (sym (number-at (o .reached) c) ∙ f) in
     ap (take (length sdu)) (job-at (o .reached) c ∙ ap (sets (lent v (s″ .memory)) 0) (y .0)) ∙ stands (lent v (s″ .memory)) sdu (y .2)

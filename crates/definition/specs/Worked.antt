@@ -919,7 +919,7 @@ making-lines = record { limits = refl; short = refl; no-slots = refl; left = ref
 -- first frame    idle 12, 13; 19 1, > MTU 2; MTU 3, 4; more 5, > 21 6; fewer 7, > 21 8; 21 9. Joining: not idle 3, 4, 6; overrun 1, > 21 2; fewer 3, > 21 3; 21 5
 -- send           11 1, > 12 2; 12 3, > 23 4; 23 5, > 20 6; 20 7, > 14 8; 14 9, > 3 10; 3 11
 -- take           each state > none: states 1 to 4; none 5; grants Connected only 7, 8; never 0 policies 3, 6; Every 1, 2; MinThreshold 4, 5.
---                short: 12 1 to 5, at the job's length jobs-out 1; signal buffer > 12 signal-first; state > 12 6; none > 12 7, 8; 0 octets into 0 9
+--                short: 12 1 to 5, at the job's length jobs-out 1; signal buffer > 12 signal-first; state > 12 6; none > 12 7, none into 0 octets 8; 0 octets into 0 9
 -- attention      a job 3; a disconnect due 2, 5; ConnectFailed 4. Lowest free: Disconnected, no hold: lowest-free
 -- every state    of each test of a state, in each of the states: State-lines
 --

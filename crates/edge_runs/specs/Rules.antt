@@ -4,7 +4,7 @@ use mathlib.Core.Path.{_≡_, refl, sym, ap, _∙_, subst}
 use mathlib.Core.Bool.{true, false}
 use mathlib.Core.List.{List, [], _∷_}
 use mathlib.Core.Logic.{inl}
-use Prim.Native.Nat.{ℕ, suc, _+_, _*_, _≤_, _<_}
+use Prim.Native.Nat.{ℕ, suc, _+_, _-_, _*_, _≤_, _<_}
 use native.Mathlib.Omega.{arith}
 use lib.ListN.{length, take, getD}
 use lib.Seq.{sets, take-all}
@@ -38,7 +38,7 @@ use Rattle.rules.specs.Sound.{Within}
 use Rattle.rules.specs.Tests.{begun, offered}
 use Rattle.rules_jobs.specs.Rejoin.{jobAt, Receiver, Rejoined, Unchanged, Arrives}
 use Rattle.rules_jobs.specs.Rejoin as Rejoin
-use Rattle.rules_jobs.specs.Taking.{takes-waiting, short-refused, mtu-suffices, HandsOut}
+use Rattle.rules_jobs.specs.Taking.{takes-waiting, short-refused, short-only, mtu-suffices, HandsOut}
 use Rattle.rules_jobs.specs.Taking as Taking
 use Rattle.rules_jobs.specs.Sending.{sends-frames, exact-rejoining, exact-taking, sent-comes-out}
 use Rattle.edge_asking.specs.Asking.{makeEdge}
@@ -242,17 +242,24 @@ exact-taking-at {s} r i sdu others h w v answer l big =
     let t = exact-taking (reached r) i sdu others h w v l big in
     (number-at r a ∙ ap answerNumber (t .1), ap (take (length sdu)) (job-at r a ∙ ap (sets (lent v (s .memory)) 0) (t .0)) ∙ stands (lent v (s .memory)) sdu big)
 
--- ---- the law of a take: an l2cap_receive that returns 0 where a job waits leaves the whole job at the start of its buffer
+-- ---- the law of a take: an l2cap_receive that returns 0 where a job waits leaves the whole job at the start of its buffer, and the others one nearer
 
-pub takes-whole-at : {s : EdgeState} → ReachedAt s → (i : ℕ) (w v : Window) (answer : List ℕ) → 0 < slotIn s i .queue .count → edgeOf s (taking w v i answer) .number ≡ 0
-    → take (length (jobAt (stateOf s) i 0)) (edgeOf s (taking w v i answer) .job) ≡ jobAt (stateOf s) i 0
+pub takes-whole-at : {s : EdgeState} → ReachedAt s → (i : ℕ) (w v : Window) (answer : List ℕ) → Apart w v → 0 < slotIn s i .queue .count → edgeOf s (taking w v i answer) .number ≡ 0
+    → (take (length (jobAt (stateOf s) i 0)) (edgeOf s (taking w v i answer) .job) ≡ jobAt (stateOf s) i 0)
+    × (slotIn (entered s (taking w v i answer)) i .queue .count ≡ slotIn s i .queue .count - 1)
+    × ((k : ℕ) → suc k < slotIn s i .queue .count → jobAt (stateOf (entered s (taking w v i answer))) i k ≡ jobAt (stateOf s) i (suc k))
 unfolding jobs
-takes-whole-at {s} r i w v answer c e =
+takes-whole-at {s} r i w v answer apart c e =
     let a = taking w v i answer in
     let t = takes-waiting (reached r) i w v c (sym (number-at r a) ∙ e) in
-    ap (take (length (jobAt (stateOf s) i 0))) (job-at r a ∙ ap (sets (lent v (s .memory)) 0) (t .octets)) ∙ stands (lent v (s .memory)) (jobAt (stateOf s) i 0) (t .fits)
+    let z = entered-state r a apart tt in (
+      ap (take (length (jobAt (stateOf s) i 0))) (job-at r a ∙ ap (sets (lent v (s .memory)) 0) (t .octets)) ∙ stands (lent v (s .memory)) (jobAt (stateOf s) i 0) (t .fits),
+      ap (λ (x : State). slotAt (x .table) i .queue .count) z ∙ t .count,
+      (λ k l. ap (λ (x : State). jobAt x i k) z ∙ t .others k l),
+    )
 
--- Into a buffer that is too short nothing is taken: it returns 12, and table, room and memory are the octets that they were. A buffer of the slot's MTU never is.
+-- Into a buffer that is too short nothing is taken: it returns 12, and table, room and memory are the octets that they were. It returns 12 nowhere else, and a buffer of the
+-- slot's MTU never is too short.
 pub short-refused-at : {s : EdgeState} → ReachedAt s → (i : ℕ) → i < stateOf s .table .n → begun (slotIn s i .state) ≡ true → 0 < slotIn s i .queue .count
     → (w v : Window) (answer : List ℕ) → Apart w v → signalMost ≤ length (lent w (s .memory)) → length (lent v (s .memory)) < length (jobAt (stateOf s) i 0)
     → (edgeOf s (taking w v i answer) .number ≡ 12) × (entered s (taking w v i answer) ≡ s)
@@ -261,15 +268,19 @@ short-refused-at {s} r i h b c w v answer apart l f =
     let t = short-refused (reached r) i h b c w v l f in
     (number-at r a ∙ ap answerNumber (t .0), spelling (next a r apart tt) ∙ ap spelled (entered-state r a apart tt ∙ t .1) ∙ sym (spelling r))
 
+pub short-only-at : {s : EdgeState} → ReachedAt s → (i : ℕ) (w v : Window) (answer : List ℕ) → edgeOf s (taking w v i answer) .number ≡ 12
+    → (i < stateOf s .table .n) × (0 < slotIn s i .queue .count) × (length (lent v (s .memory)) < length (jobAt (stateOf s) i 0))
+short-only-at r i w v answer e = short-only (reached r) i w v (sym (number-at r (taking w v i answer)) ∙ e)
+
 pub mtu-suffices-at : {s : EdgeState} → ReachedAt s → (i : ℕ) (w v : Window) (answer : List ℕ) → slotIn s i .mtu ≤ length (lent v (s .memory)) → edgeOf s (taking w v i answer) .number ≡ 12 → ⊥
 mtu-suffices-at r i w v answer m e = mtu-suffices (reached r) i w v m (sym (number-at r (taking w v i answer)) ∙ e)
 
 -- ---- what was sent is what comes out
 
--- From s to s′ slot i hands out n jobs, each by an l2cap_receive that returns 0; and other entries, that leave the slot and its part of the room unchanged.
+-- From s to s′ there are n calls of l2cap_receive on slot i that return 0; and other entries, whatever they do, after which no fewer jobs wait there.
 pub data HandsOutAt (i : ℕ) : ℕ → EdgeState → EdgeState → Type 0 where
   all : {s : EdgeState} → HandsOutAt i 0 s s
-  between : {n : ℕ} {s s′ : EdgeState} (a : Asked) → Apart (outWindow (callIn a)) (jobWindow (callIn a)) → InOctets (a .entry) → Unchanged (stateOf s) (stateOf (entered s a)) i → HandsOutAt i n (entered s a) s′
+  between : {n : ℕ} {s s′ : EdgeState} (a : Asked) → Apart (outWindow (callIn a)) (jobWindow (callIn a)) → InOctets (a .entry) → slotIn s i .queue .count ≤ slotIn (entered s a) i .queue .count → HandsOutAt i n (entered s a) s′
       → HandsOutAt i n s s′
   handed : {n : ℕ} {s s′ : EdgeState} (w v : Window) (answer : List ℕ) → Apart w v → edgeOf s (taking w v i answer) .number ≡ 0 → HandsOutAt i n (entered s (taking w v i answer)) s′ → HandsOutAt i (suc n) s s′
 
@@ -284,7 +295,7 @@ hands-out {i} {n} {s} {s′} (between a h o u v) r =
     let e = entered-state r a h o in
     let z = hands-out v (next a r h o) in
     record {
-      out = Taking.between (callIn a) (entry-fits (a .entry) o) (subst (λ (x : State). Unchanged (stateOf s) x i) e u) (subst (λ (x : State). HandsOut i n x (stateOf s′)) e (z .out));
+      out = Taking.between (callIn a) (entry-fits (a .entry) o) (subst (λ (x : State). slotIn s i .queue .count ≤ slotAt (x .table) i .queue .count) e u) (subst (λ (x : State). HandsOut i n x (stateOf s′)) e (z .out));
       reached = z .reached;
     }
 hands-out {i} {s = s} {s′} (handed {n} w v answer h e q) r =
@@ -297,8 +308,8 @@ arrived all r = r
 arrived (between a h o u v) r = arrived v (next a r h o)
 arrived {i} {link} (comes p answer v) r = arrived v (next (framing link i p answer) r (inl (omega arith)) tt)
 
--- An l2cap_send returned 0, its frames came to a receiver, as above, and the jobs that waited there before it are taken. Then an l2cap_receive that returns 0 leaves the
--- SDU at the start of its buffer.
+-- An l2cap_send returned 0, its frames came to a receiver, as above, the jobs that waited there before it are taken, and by no other entry do fewer jobs wait there. Then an
+-- l2cap_receive that returns 0 leaves the SDU at the start of its buffer.
 pub sent-comes-out-at : {sender : EdgeState} → ReachedAt sender → (x : Window) (j : ℕ) (sdu answer : List ℕ) → edgeOf sender (sending x j sdu answer) .number ≡ 0
     → {s s′ s″ : EdgeState} → ReachedAt s → (i link : ℕ) → link ≤ handleMost → Receiver (stateOf s) i link (length (payloads (slotIn sender j .peer .mps) sdu))
     → slotIn s i .assembly .want ≡ 0 → length sdu ≤ slotIn s i .mtu → AllWithin (slotIn s i .mps) (payloads (slotIn sender j .peer .mps) sdu) → ArrivesAt i link (payloads (slotIn sender j .peer .mps) sdu) s s′

@@ -3,7 +3,7 @@
 use mathlib.Core.Path.{_≡_, refl, sym, ap, _∙_, subst}
 use mathlib.Core.Bool.{true}
 use mathlib.Core.List.{List, [], _∷_}
-use Prim.Native.Nat.{ℕ, suc, _≤_, _<_}
+use Prim.Native.Nat.{ℕ, suc, _-_, _≤_, _<_}
 use native.Mathlib.Omega.{arith}
 use lib.ListN.{length, take}
 use lib.Seq.{sets}
@@ -32,7 +32,7 @@ use Rattle.rules.specs.Forms.{gate-cases}
 use Rattle.rules.specs.Tests.{begun}
 use Rattle.rules_jobs.specs.Rejoin.{framing, Unchanged, Arrives, Receiver, Rejoined, jobAt}
 use Rattle.rules_jobs.specs.Rejoin as Rejoin
-use Rattle.rules_jobs.specs.Taking.{taking, sized, takes-whole, short-refused, mtu-suffices, HandsOut}
+use Rattle.rules_jobs.specs.Taking.{taking, sized, takes-whole, short-refused, short-only, mtu-suffices, HandsOut}
 use Rattle.rules_jobs.specs.Taking as Taking
 use Rattle.rules_jobs.specs.Sending.{sends-frames, exact-rejoining, exact-taking, sent-comes-out}
 use Rattle.rules_code.specs.Called.{Within, Called, called-after, called-served, called-written, called-out, called-tray}
@@ -117,10 +117,11 @@ code-exact-taking {s} g i sdu others q w v l big p =
       ap (λ (x : Served). x .answer) (called-served p) ∙ z .1,
     )
 
--- ---- THE LAW OF A TAKE: one that answers a job leaves the whole job at the start of its buffer
+-- ---- THE LAW OF A TAKE: one that answers a job leaves the whole job at the start of its buffer, and the others one nearer
 
 pub code-takes-whole : {s s′ : State} {r : Served} → CodeReached s → (i link n : ℕ) (w v : Window) → Called s (taking i w v) r s′ → r .answer ≡ Job link n
     → (take (length (jobAt s i 0)) (lent v (s′ .memory)) ≡ jobAt s i 0) × (n ≡ length (jobAt s i 0))
+    × (slotAt (s′ .table) i .queue .count ≡ slotAt (s .table) i .queue .count - 1) × ((k : ℕ) → suc k < slotAt (s .table) i .queue .count → jobAt s′ i k ≡ jobAt s i (suc k))
 unfolding jobs
 code-takes-whole {s} {r = r} g i link n w v p e =
     let a = answered p e in
@@ -128,9 +129,11 @@ code-takes-whole {s} {r = r} g i link n w v p e =
       ap (take (length (jobAt s i 0))) (called-tray p ∙ called-written p .1)
           ∙ stands [] (s .room) (lent v (s .memory)) (outcome s (taking i w v) .job) (jobAt s i 0) (z .octets) (z .fits),
       (let f : Job link n ≡ Job (slotAt (s .table) i .link) (length (jobAt s i 0)) = sym a ∙ z .answer in cc),
+      ap (λ (x : State). slotAt (x .table) i .queue .count) (called-after p) ∙ z .count,
+      (λ k l. ap (λ (x : State). jobAt x i k) (called-after p) ∙ z .others k l),
     )
 
--- Into a buffer that is too short nothing is taken, and the call leaves everything as it was; one of the slot's MTU never is.
+-- Into a buffer that is too short nothing is taken, and the call leaves everything as it was. It is refused so nowhere else, and a buffer of the slot's MTU never is too short.
 pub code-short-refused : {s s′ : State} {r : Served} → CodeReached s → (i : ℕ) → i < s .table .n → begun (slotAt (s .table) i .state) ≡ true → 0 < slotAt (s .table) i .queue .count
     → (w v : Window) → signalMost ≤ w .size → v .size < length (jobAt s i 0) → Called s (taking i w v) r s′ → (r .answer ≡ Refused InsufficientSpace) × (s′ ≡ s)
 code-short-refused {s} g i h b c w v l f p =
@@ -138,6 +141,13 @@ code-short-refused {s} g i h b c w v l f p =
     let e = window-size v s (p .lends .tray) in
     let z = short-refused (code-reached g) i h b c w v (omega arith) (omega arith) in
     (ap (λ (x : Served). x .answer) (called-served p) ∙ z .0, called-after p ∙ z .1)
+
+pub code-short-only : {s s′ : State} {r : Served} → CodeReached s → (i : ℕ) (w v : Window) → Called s (taking i w v) r s′ → r .answer ≡ Refused InsufficientSpace
+    → (i < s .table .n) × (0 < slotAt (s .table) i .queue .count) × (v .size < length (jobAt s i 0))
+code-short-only {s} g i w v p e =
+    let b = window-size v s (p .lends .tray) in
+    let z = short-only (code-reached g) i w v (ap answerNumber (answered p e)) in
+    (z .0, z .1, omega (arith, z .2))
 
 pub code-mtu-suffices : {s s′ : State} {r : Served} → CodeReached s → (i : ℕ) (w v : Window) → slotAt (s .table) i .mtu ≤ v .size → Called s (taking i w v) r s′
     → r .answer ≡ Refused InsufficientSpace → ⊥
@@ -147,10 +157,11 @@ code-mtu-suffices {s} g i w v m p e =
 
 -- ---- WHAT WAS SENT IS WHAT COMES OUT
 
--- From s to s′ the code takes n jobs from slot i, each by a take that is not refused; and is called with others, that leave the slot unchanged.
+-- From s to s′ the code is called with n takes from slot i that are not refused; and with other calls, whatever they do, after which no fewer jobs wait there.
 pub data CodeHandsOut (i : ℕ) : ℕ → State → State → Type 0 where
   all : {s : State} → CodeHandsOut i 0 s s
-  between : {n : ℕ} {s u s′ : State} {c : Call} {r : Served} → Called s c r u → Fits c → Unchanged s u i → CodeHandsOut i n u s′ → CodeHandsOut i n s s′
+  between : {n : ℕ} {s u s′ : State} {c : Call} {r : Served} → Called s c r u → Fits c → slotAt (s .table) i .queue .count ≤ slotAt (u .table) i .queue .count → CodeHandsOut i n u s′
+      → CodeHandsOut i n s s′
   handed : {n : ℕ} {s u s′ : State} {r : Served} (w v : Window) → Called s (taking i w v) r u → answerNumber (r .answer) ≡ 0 → CodeHandsOut i n u s′ → CodeHandsOut i (suc n) s s′
 
 answered-0 : {s s′ : State} {c : Call} {r : Served} → Called s c r s′ → answerNumber (r .answer) ≡ 0 → answerNumber (outcome s c .answer) ≡ 0
@@ -159,11 +170,11 @@ answered-0 p e = ap answerNumber (answered p refl) ∙ e
 code-hands-out : {i n : ℕ} {s s′ : State} → CodeHandsOut i n s s′ → HandsOut i n s s′
 code-hands-out all = Taking.all
 code-hands-out {i} {n} {s} {s′} (between {c = c} p f u q) =
-    Taking.between c f (subst (λ (v : State). Unchanged s v i) (called-after p) u) (subst (λ (v : State). HandsOut i n v s′) (called-after p) (code-hands-out q))
+    Taking.between c f (subst (λ (v : State). slotAt (s .table) i .queue .count ≤ slotAt (v .table) i .queue .count) (called-after p) u) (subst (λ (v : State). HandsOut i n v s′) (called-after p) (code-hands-out q))
 code-hands-out {i} {s′ = s′} (handed {n} w v p e q) = Taking.handed w v (answered-0 p e) (subst (λ (x : State). HandsOut i n x s′) (called-after p) (code-hands-out q))
 
--- A send of the code was answered 0, its frames came to a receiver, as above, and the jobs that waited there before it are taken. Then a take that is not refused leaves
--- the SDU at the start of its buffer, and reports its length.
+-- A send of the code was answered 0, its frames came to a receiver, as above, the jobs that waited there before it are taken, and by no other call do fewer jobs wait there.
+-- Then a take that is not refused leaves the SDU at the start of its buffer, and reports its length.
 pub code-sent-comes-out : {sender sender′ : State} {r : Served} (j : ℕ) (sdu : List ℕ) (x : Window) (link′ n : ℕ) → Called sender (sends j sdu x) r sender′ → r .answer ≡ Frames link′ n
     → {s s′ s″ t : State} {q : Served} (i link : ℕ) → link ≤ handleMost → CodeReached s → Receiver s i link n → slotAt (s .table) i .assembly .want ≡ 0 → length sdu ≤ slotAt (s .table) i .mtu
     → AllWithin (slotAt (s .table) i .mps) (payloads (slotAt (sender .table) j .peer .mps) sdu)

@@ -340,7 +340,7 @@ pub data Arrives (i link : ℕ) : List (List ℕ) → State → State → Type 0
 -- ---- such a call keeps all of this
 
 module _ (s : State) (g : Good (s .table) (s .room)) (a : Call) (f : Fits a) (i : ℕ) (u : Unchanged s (after s a) i) where
-  pub job-kept : (k : ℕ) → jobAt (after s a) i k ≡ jobAt s i k
+  job-kept : (k : ℕ) → jobAt (after s a) i k ≡ jobAt s i k
   job-kept k = job-after s a g f i (slotAt (s .table) i) (partOf s i) (u .slot) (u .room) k
 
   receiver-kept : {link n : ℕ} → Receiver s i link n → Receiver (after s a) i link n

@@ -133,8 +133,8 @@ arrived all r = r
 arrived (between a f u v) r = arrived v (next a r f)
 arrived {i} {link} (comes p v) r = arrived v (next (framing link i p) r tt)
 
--- A send was answered 0, and its frames came to a receiver, as above. The jobs that waited there before it are taken, however many. Then a take that is not refused
--- hands out the SDU, octet for octet, whatever buffer is lent, and reports its length.
+-- A send was answered 0, and its frames came to a receiver, as above. The jobs that waited there before it are taken, however many, and by no other call do fewer jobs
+-- wait there: it is not freed. Then a take that is not refused hands out the SDU, octet for octet, whatever buffer is lent, and reports its length.
 pub sent-comes-out : (sender : State) (j : ℕ) (sdu : List ℕ) (x : Window) (link′ n : ℕ) → outcome sender (sends j sdu x) .answer ≡ Frames link′ n
     → {s s′ s″ : State} (i link : ℕ) → link ≤ handleMost → Reached s → Receiver s i link n → slotAt (s .table) i .assembly .want ≡ 0
     → length sdu ≤ slotAt (s .table) i .mtu → AllWithin (slotAt (s .table) i .mps) (payloads (slotAt (sender .table) j .peer .mps) sdu)
@@ -148,7 +148,7 @@ unfolding jobs
 sent-comes-out sender j sdu x link′ n answered {s} {s′} {s″} i link handle r k z m b a o w v e =
     let y = exact-rejoining sender j sdu x link′ n answered i link handle r k z m b a in
     let c = y .count in
-    let f = handed-out o (arrived a r) (omega arith) in
+    let f = handed-out o (arrived a r) (y .used) (omega arith) in
     let q = takes-waiting (f .reached) i w v (f .some) e in
     let is = f .is ∙ y .whole in
     (q .octets ∙ is, q .answer ∙ ap (λ (xs : List ℕ). Job (slotAt (s″ .table) i .link) (length xs)) is, subst (λ (xs : List ℕ). length xs ≤ sized v s″) is (q .fits))

@@ -35,9 +35,10 @@ use Rattle.rules.specs.Run.{Reached, next, Fits}
 use Rattle.rules.specs.Tests.{begun, begun-takes, takes-begun, connected-begun}
 use Rattle.rules.specs.Forms.{gate-refusals, gate-cases}
 use Rattle.rules.specs.Sound.{Sound}
-use Rattle.rules.specs.Good.{Good, sizes-read, slot-sound, good-formed, reached-good}
+use Rattle.rules.specs.Good.{Good, sizes-read, slot-sound, good-formed, same-sizes, reached-good}
 use Rattle.rules_jobs.specs.Waiting.{jobOf, every-at, moved-up}
-use Rattle.rules_jobs.specs.Rejoin.{partOf, jobAt, part-fits, part-long, changes, job-after, Rejoined, Unchanged, job-kept}
+use Rattle.rules_jobs.specs.Rejoin.{partOf, jobAt, part-fits, part-long, changes, job-after, Rejoined}
+use Rattle.rules_jobs.specs.Standing.{jobs-stand}
 
 -- ---- parts of parts
 
@@ -288,28 +289,29 @@ mtu-suffices {s} r i w v m e =
 
 -- ---- jobs taken one after the other
 
--- From s to s′ slot i hands out n jobs, each by a take that is not refused; and other calls, that leave the slot and its part of the room unchanged.
+-- From s to s′ there are n takes from slot i that are not refused; and other calls, whatever they do, after which no fewer jobs wait there.
 pub data HandsOut (i : ℕ) : ℕ → State → State → Type 0 where
   all : {s : State} → HandsOut i 0 s s
-  between : {n : ℕ} {s s′ : State} (a : Call) → Fits a → Unchanged s (after s a) i → HandsOut i n (after s a) s′ → HandsOut i n s s′
+  between : {n : ℕ} {s s′ : State} (a : Call) → Fits a → slotAt (s .table) i .queue .count ≤ slotAt (after s a .table) i .queue .count → HandsOut i n (after s a) s′ → HandsOut i n s s′
   handed : {n : ℕ} {s s′ : State} (w v : Window) → answerNumber (outcome s (taking i w v) .answer) ≡ 0 → HandsOut i n (after s (taking i w v)) s′ → HandsOut i (suc n) s s′
 
--- then the job that stood n-th waits first
+-- Then the job before which n waited is the oldest.
 pub record First (s s′ : State) (i n : ℕ) : Type 0 where
   pub reached : Reached s′
   pub some : 0 < slotAt (s′ .table) i .queue .count
   pub is : jobAt s′ i 0 ≡ jobAt s i n
 
-pub handed-out : {i n : ℕ} {s s′ : State} → HandsOut i n s s′ → Reached s → n < slotAt (s .table) i .queue .count → First s s′ i n
-handed-out all r h = record { reached = r; some = h; is = refl }
-handed-out {i} {n} {s} (between a f u q) r h =
-    let z = handed-out q (next a r f) (rw (u .slot) h) in
-    record { reached = z .reached; some = z .some; is = z .is ∙ job-kept s (reached-good r) a f i u n }
-handed-out {i} (handed {n} w v e q) r h =
+pub handed-out : {i n : ℕ} {s s′ : State} → HandsOut i n s s′ → Reached s → i < s .table .n → n < slotAt (s .table) i .queue .count → First s s′ i n
+handed-out all r h l = record { reached = r; some = l; is = refl }
+handed-out {i} {n} {s} (between a f c q) r h l =
+    let g = reached-good r in
+    let z = handed-out q (next a r f) (subst (λ (k : ℕ). i < k) (sym (same-sizes s a g f .n)) h) (omega arith) in
+    record { reached = z .reached; some = z .some; is = z .is ∙ jobs-stand s g a f i h c n l }
+handed-out {i} {s = s} (handed {n} w v e q) r h l =
     let y = takes-waiting r i w v (omega arith) e in
     let c = y .count in
-    let z = handed-out q (next (taking i w v) r tt) (omega arith) in
-    record { reached = z .reached; some = z .some; is = z .is ∙ y .others n h }
+    let z = handed-out q (next (taking i w v) r tt) (subst (λ (k : ℕ). i < k) (sym (same-sizes s (taking i w v) (reached-good r) tt .n)) h) (omega arith) in
+    record { reached = z .reached; some = z .some; is = z .is ∙ y .others n l }
 
 -- ---- the job that was rejoined is the job taken
 

@@ -7,7 +7,10 @@
 /* Frames of 23 octets: the longest job, of PACKET - 6 octets, is three of them, and a phone gets credits for so many (the header, Credits). */
 enum { SLOTS = 4, WAITING = 1, PACKET = 64, MPS = 23, CREDITS = 3, SPSM = 0x80, SIGNALLING = 5, LINE = 16 };
 
-static uint8_t table[L2CAP_TABLE_OCTETS], answer[L2CAP_ANSWER_OCTETS], room[L2CAP_ROOM_OCTETS(SLOTS, WAITING, PACKET)], signal[L2CAP_SIGNAL_OCTETS], job[PACKET];
+static uint8_t table[L2CAP_TABLE_OCTETS], answer[L2CAP_ANSWER_OCTETS], room[L2CAP_ROOM_OCTETS(SLOTS, WAITING, PACKET)], signal[L2CAP_SIGNAL_OCTETS];
+
+/* What a job is taken into: as long as the longest that a phone may send, our MTU. So a take never finds it too short. */
+static uint8_t job[PACKET - 6];
 
 /* The frame that is being filled in each slot: no two open jobs may share one. It holds the frames of a phone whose MPS is at most PACKET - 4; for a longer one a start is refused by 3. */
 static uint8_t filling[SLOTS][PACKET];
@@ -50,13 +53,13 @@ static void signals(uint16_t link, const uint8_t *pdu, size_t n) {
     }
 }
 
-/* All that is due: jobs that wait, then disconnects, with which waiting jobs would go, then the holds on slots whose channel has ended: these have no SPSM any more. */
+/* All that is due: jobs that wait, until there is none or a take is refused (a refused one would be refused again); then disconnects, with which waiting jobs would go, then the holds on slots whose channel has ended: these have no SPSM any more. */
 static void settle(void) {
     uint8_t slot;
     uint16_t set = l2cap_attention(LENT) ? 0 : l2cap_answer_attention_set(answer);
     for (slot = 0; slot < SLOTS; slot++)
         while (set >> slot & 1 && l2cap_receive(LENT, IN(room), IN(signal), IN(job), slot) == 0 && l2cap_answer_kind(answer) == L2CAP_ANSWER_JOB) {
-            print_job(l2cap_answer_link(answer), job, l2cap_answer_job_copied(answer));
+            print_job(l2cap_answer_link(answer), job, l2cap_answer_job_length(answer));
             if (l2cap_answer_written(answer)) send_packet(l2cap_answer_link(answer), signal, l2cap_answer_written(answer));
         }
     while (l2cap_next_disconnect(LENT, IN(room), IN(signal)) == 0 && l2cap_answer_kind(answer) == L2CAP_ANSWER_DUE)

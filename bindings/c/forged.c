@@ -1,5 +1,5 @@
 /* Tables that no call wrote. Every octet of busy tables is changed, and each call that works on the table's octets where they stand is made on what comes of it, beside the same call made by value on the whole table, which the
- * archive of the crate edge_whole has; the calls of a job in portions, beside document 02's words on the same octets. Octets that a question refuses by 1 are refused by 1, and nothing changes; of all others number, answer, table, room and buffers are equal. Then faults are planted, and each is found.
+ * archive of the crate edge_whole has; the calls of a job in portions, beside document 02's words on the same octets. Octets that a question refuses by 1 are refused by 1, and nothing changes; of all others number, answer, table, room and buffers are equal; a take is refused by 12 where its buffer is shorter than the oldest job, and writes nothing. Then faults are planted, and each is found.
  * gcc -std=c99 -O1 -o forged bindings/c/forged.c target/unproved/libentries.a target/unproved/libedge_whole.a && ./forged */
 #include "l2cap_channels.h"
 #include <stdio.h>
@@ -26,10 +26,10 @@ typedef struct {
 static const char *const names[CALLS] = {"l2cap_dispatch", "l2cap_send", "l2cap_receive", "l2cap_signal", "l2cap_dispatch_run", "l2cap_send_run", "l2cap_start_job", "l2cap_give_portion", "l2cap_cancel_job"};
 static memory bases[2], was, placed, whole;
 static size_t table_len = L2CAP_TABLE_OCTETS, room_len = ROOM;
-static unsigned passed, failed, compared, refused, differing, fault, fault_at, done[CALLS], turned_down[CALLS], above, below;
+static unsigned passed, failed, compared, refused, differing, fault, fault_at, done[CALLS], turned_down[CALLS], above, below, kept, exact;
 
 /* How many forms each call has. */
-static const unsigned forms[CALLS] = {3, 2, 2, 4, 1, 1, 2, 2, 1};
+static const unsigned forms[CALLS] = {3, 2, 4, 4, 1, 1, 2, 2, 1};
 
 /* ---- the tables */
 
@@ -203,6 +203,15 @@ static size_t signalled(uint8_t slot, unsigned form, uint8_t octets[14]) {
     return n;
 }
 
+/* What a job is taken into. The jobs of the tables have 4 octets: none of them, one octet less, all, and what holds every job. */
+static size_t taken_into(unsigned form) { return form == 0 ? 0 : form == 1 ? 3 : form == 2 ? 4 : PLACE; }
+
+/* Whether that is shorter than the oldest job of an open or disconnecting slot. */
+static int is_short(uint8_t slot, unsigned form) {
+    uint8_t state = slot < N ? was.table[cell(slot, 0)] : 0;
+    return (state == 3 || state == 5 || state == 6) && was.table[cell(slot, 30)] && taken_into(form) < number(&was, slot, 31);
+}
+
 /* Call k for a slot, of this form: where it stands, or by value. */
 static void call(memory *m, int by_value, unsigned k, uint8_t slot, unsigned form) {
     uint8_t octets[LONG];
@@ -211,7 +220,7 @@ static void call(memory *m, int by_value, unsigned k, uint8_t slot, unsigned for
     switch (k) {
         case 0: m->number = (by_value ? whole_dispatch : l2cap_dispatch)(LENT(m), m->room, room_len, link, cid, octets, n); break;
         case 1: m->number = (by_value ? whole_send : l2cap_send)(LENT(m), IN(m->out), slot, sdu, form ? sizeof sdu : 3); break;
-        case 2: m->number = (by_value ? whole_receive : l2cap_receive)(LENT(m), m->room, room_len, IN(m->signal), m->job, form ? sizeof m->job : 2, slot); break;
+        case 2: m->number = (by_value ? whole_receive : l2cap_receive)(LENT(m), m->room, room_len, IN(m->signal), m->job, taken_into(form), slot); break;
         case 3: m->number = (by_value ? whole_signal : l2cap_signal)(LENT(m), m->room, room_len, IN(m->signal), link, 1, 0, octets, n); break;
         case 4:
         case 5: run_call(m, by_value, k == 5, slot, link); break;
@@ -242,13 +251,18 @@ static void calls(uint8_t slot, const char *what, size_t place) {
             plant(&placed);
             call(&whole, 1, k, slot, form);
             same = !memcmp(&placed, &whole, sizeof placed) && (placed.number == L2CAP_BAD_TABLE) == bad;
-            if (bad) { /* nothing but the answer was written */
-                memcpy(placed.answer, was.answer, sizeof was.answer), placed.number = was.number;
-                same = same && !memcmp(&placed, &was, sizeof placed);
-            } else {
+            if (!bad) {
                 placed.number ? turned_down[k]++ : done[k]++;
                 above += k == 0 && form == 2 && placed.number == L2CAP_INVALID_VALUE && number(&was, slot, 6) < LONG;
                 below += k == 3 && form == 2 && placed.number == L2CAP_INVALID_VALUE;
+            }
+            if (k == 2 && !bad) {
+                kept += placed.number == L2CAP_INSUFFICIENT_SPACE, exact += form == 2 && placed.number == 0 && l2cap_answer_kind(placed.answer) == L2CAP_ANSWER_JOB && l2cap_answer_job_length(placed.answer) == 4;
+                same = same && (is_short(slot, form) && placed.number != L2CAP_BAD_ROOM && placed.number != L2CAP_BAD_SLOT ? placed.number == L2CAP_INSUFFICIENT_SPACE : placed.number != L2CAP_INSUFFICIENT_SPACE);
+            }
+            if (bad || (k == 2 && placed.number)) { /* nothing but the answer was written */
+                memcpy(placed.answer, was.answer, sizeof was.answer), placed.number = was.number;
+                same = same && !memcmp(&placed, &was, sizeof placed);
             }
             compared++;
             if (!same && differing++ < 3 && !fault) printf("%s of slot %u, form %u: %s %u\n", names[k], slot, form, what, (unsigned)place);
@@ -316,6 +330,7 @@ int main(void) {
     }
     for (k = 0; k < CALLS; k++) check(done[k] > 1000 && (k == 4 || k == 5 || turned_down[k] > 1000), names[k]);
     check(above > 50 && below > 1000, "frames above our MPS, and responses below the least");
+    check(kept > 1000 && exact > 1000, "takes into buffers that are too short, and just long enough");
     printf("%u calls compared\n", compared);
     for (fault = 1; fault <= 18; fault++) {
         differing = compared = 0, fault_at = 40 + fault;

@@ -18,6 +18,7 @@
  *         Numbers have the lower octet first.
  * room    the memory in which jobs arrive and wait: L2CAP_ROOM_OCTETS(n, d, m) octets, zeroed by l2cap_make. Another length is refusal 2. Octets of no live job are zero.
  * signal  what goes out on the signalling channel is written here, with its L2CAP header: at least L2CAP_SIGNAL_OCTETS octets, else refusal 3.
+ * job     of l2cap_receive: a job that is taken is copied here, whole. Fewer octets than the job has are refusal 12.
  * buffer  of a job that is handed over in portions: its frame is filled here, L2CAP_JOB_BUFFER_OCTETS(mps, length) octets or more. See Portions.
  * answers  of runs: L2CAP_ANSWER_OCTETS octets for each frame or job, whose answers are written one behind the other.
  *
@@ -56,8 +57,8 @@
 extern "C" {
 #endif
 
-/* It goes up when an entry's parameters, the table's layout or the answer's change. The archive has it in the name of an entry, l2cap_version_2. */
-#define L2CAP_CHANNELS_VERSION 2
+/* It goes up when an entry's parameters, the table's layout or the answer's change. The archive has it in the name of an entry, l2cap_version_3. */
+#define L2CAP_CHANNELS_VERSION 3
 
 #define L2CAP_TABLE_OCTETS 800
 #define L2CAP_ANSWER_OCTETS 16
@@ -93,7 +94,7 @@ enum l2cap_refusal {
     L2CAP_INVALID_VALUE = 9,         /* a signal longer than its PDU: a reject is written; a response with an MTU or MPS under 23, credits above 65,535, a frame above our MPS, a job above our MTU or a frame past its job's end: the channel is disconnecting */
     L2CAP_OUT_OF_MEMORY = 10,        /* a frame for which the peer had no credit */
     L2CAP_CHANNEL_CLOSED = 11,       /* the channel isn't open */
-    L2CAP_INSUFFICIENT_SPACE = 12,   /* our MPS above m - 4 or our MTU above m - 6; a job above the peer's MTU; a create has used an identifier */
+    L2CAP_INSUFFICIENT_SPACE = 12,   /* our MPS above m - 4 or our MTU above m - 6; a job above the peer's MTU; a buffer shorter than the job that l2cap_receive would take: the job waits on; a create has used an identifier */
     L2CAP_NO_CHANNEL_AVAILABLE = 13, /* no slot is free; the create has used an identifier */
     L2CAP_BUSY = 14,                 /* the job needs more frames than we have credits */
     L2CAP_DECODE = 15,               /* a signal that can't be read: a reject is written where its header can; a result that is no result code; a run that ends in the middle of a frame or a job: what was done before stands */
@@ -118,7 +119,7 @@ enum l2cap_answer {
     L2CAP_ANSWER_OPENED = 4,
     L2CAP_ANSWER_DUE = 5,       /* link, slot */
     L2CAP_ANSWER_FRAMES = 6,    /* link, count: of a start, the frames to come */
-    L2CAP_ANSWER_JOB = 7,       /* link, octets copied, octets in all */
+    L2CAP_ANSWER_JOB = 7,       /* link, length: the whole job */
     L2CAP_ANSWER_ATTENTION = 8, /* set, count, lowest */
     L2CAP_ANSWER_NUMBER = 9,    /* the number asked for */
     L2CAP_ANSWER_EVENT = 10,    /* min, max, latency, timeout */
@@ -179,9 +180,8 @@ static inline uint16_t l2cap_answer_value(const uint8_t *answer) { return l2cap_
 /* How many frames a job was cut into, or will be: the credits that it took or set aside. */
 static inline uint16_t l2cap_answer_frame_count(const uint8_t *answer) { return l2cap_answer_number(answer, 1); }
 
-/* How many of a job's octets were copied, and how many it had. */
-static inline uint16_t l2cap_answer_job_copied(const uint8_t *answer) { return l2cap_answer_number(answer, 1); }
-static inline uint16_t l2cap_answer_job_length(const uint8_t *answer) { return l2cap_answer_number(answer, 2); }
+/* How many octets a job has that was taken: all of them stand at the start of `job`. */
+static inline uint16_t l2cap_answer_job_length(const uint8_t *answer) { return l2cap_answer_number(answer, 1); }
 
 /* How many octets of a portion were taken; the caller gives the others again. And whether a frame is full: l2cap_answer_written octets at the buffer's start go out. */
 static inline uint16_t l2cap_answer_portion_taken(const uint8_t *answer) { return l2cap_answer_number(answer, 1); }
@@ -232,8 +232,8 @@ static inline size_t l2cap_run_job(uint8_t *run, size_t run_len, uint8_t slot, c
 
 /* ---- making a table */
 
-/* The archive's version: 2. An archive of another version has another name for it. */
-uint32_t l2cap_version_2(void);
+/* The archive's version: 3. An archive of another version has another name for it. */
+uint32_t l2cap_version_3(void);
 
 /* Makes a table of n slots, d waiting jobs a slot and packets of m octets.
  * Refusals: 1 2. They leave a table of no slots, which every call refuses by 1; the room, and a table of another length than L2CAP_TABLE_OCTETS, stay as they are.
@@ -241,12 +241,12 @@ uint32_t l2cap_version_2(void);
  * Answer: Done. */
 uint32_t l2cap_make(uint8_t *table, size_t table_len, uint8_t *answer, size_t answer_len, uint8_t *room, size_t room_len, uint16_t n, uint16_t d, uint16_t m);
 
-/* Whoever makes a table calls l2cap_version_2 before it: so no program that makes one links with an archive of another version, and the linker's message names the entry. One that only takes up a table which another program
+/* Whoever makes a table calls l2cap_version_3 before it: so no program that makes one links with an archive of another version, and the linker's message names the entry. One that only takes up a table which another program
  * made isn't held to it. It is a function behind the entry's name, and not a pointer that each file would hold, because linkers for firmware drop data that nobody reads. It takes one empty call.
  * It is a macro, and so asks two things: a struct with a member of that name is declared behind this include, and not before it; and a stand-in for the entry, in tests, is defined before the include or behind an #undef, with an
- * l2cap_version_2 beside it. */
+ * l2cap_version_3 beside it. */
 static inline uint32_t l2cap_make_of_this_version(uint8_t *table, size_t table_len, uint8_t *answer, size_t answer_len, uint8_t *room, size_t room_len, uint16_t n, uint16_t d, uint16_t m) {
-    (void)l2cap_version_2();
+    (void)l2cap_version_3();
     return l2cap_make(table, table_len, answer, answer_len, room, room_len, n, d, m);
 }
 #define l2cap_make l2cap_make_of_this_version
@@ -434,11 +434,14 @@ uint32_t l2cap_give_portion(uint8_t *table, size_t table_len, uint8_t *answer, s
  * Answer: Done. */
 uint32_t l2cap_cancel_job(uint8_t *table, size_t table_len, uint8_t *answer, size_t answer_len, uint8_t *room, size_t room_len, uint8_t slot);
 
-/* Takes the oldest job that waits in a slot: copies as much of it as the buffer holds (the rest is gone), moves later jobs up, and grants the peer new credits where they are due. A job finished before can be taken while the channel
- * disconnects; it grants nothing then.
- * Refusals: 1 2 3 6 11. 11 where no channel is open or disconnecting in this slot.
+/* Takes the oldest job that waits in a slot, whole: copies it to the start of `job`, moves later jobs up, and grants the peer new credits where they are due. A job finished before can be taken while the channel disconnects; it grants
+ * nothing then.
+ * Refusals: 1 2 3 6 11 12. 11 where no channel is open or disconnecting in this slot. 12 where the job is longer than `job`, also while the channel disconnects: nothing changes and nothing is written, neither room, job nor signal. No
+ * credits go back, no identifier is used, the job is still the oldest, later ones wait behind it, and l2cap_attention goes on naming the slot. Take again with a longer buffer: one of l2cap_mtu octets, asked of this slot while its channel is
+ * open or disconnecting, is never too short, nor is one of m - 6. (A freed slot has no job, and an mtu of 0: that take is 11.)
+ * Mind loops that take until Done, or while the slot calls: a 12 has to end them, since the same buffer is refused again, for ever. And l2cap_next_disconnect wipes what waits where the peer disconnects: take it before.
  * Writes: table; room; job; signal, the grant, which uses an identifier. l2cap_answer_written is 0 where none is due.
- * Answer: Job; Done where no job waits, and nothing is written. */
+ * Answer: Job; Done where no job waits, whatever the buffer's length, and nothing is written. A job of 0 octets is a job, and needs none: `job` may be a null pointer of length 0. */
 uint32_t l2cap_receive(uint8_t *table, size_t table_len, uint8_t *answer, size_t answer_len, uint8_t *room, size_t room_len, uint8_t *signal, size_t signal_len, uint8_t *job, size_t job_len, uint8_t slot);
 
 /* ---- runs: many frames or jobs at once, each as if by a call of its own. The table is tested once for all of them. */
@@ -474,7 +477,7 @@ uint32_t l2cap_attention(const uint8_t *table, size_t table_len, uint8_t *answer
  * Answer: Number. */
 uint32_t l2cap_spsm(const uint8_t *table, size_t table_len, uint8_t *answer, size_t answer_len, uint8_t slot);
 
-/* The longest job that we take in a slot; 0 where it has no channel, or a pending one.
+/* The longest job that we take in a slot: a buffer of so many octets holds every job that waits there (l2cap_receive, 12). 0 where it has no channel, or a pending one.
  * Refusals: 1 6.
  * Answer: Number. */
 uint32_t l2cap_mtu(const uint8_t *table, size_t table_len, uint8_t *answer, size_t answer_len, uint8_t slot);

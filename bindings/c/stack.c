@@ -112,7 +112,7 @@ static void calls(void) {
     l2cap_create(LENT, IN(signal), 1, 0x80, DEFAULTS);
     CALL("signal, an unmatched response", SIGNAL(stranger));
     CALL("disconnected", l2cap_disconnected(LENT, IN(room), 1));
-    CALL("version_2", (void)l2cap_version_2());
+    CALL("version_3", (void)l2cap_version_3());
 }
 
 int main(void) {

@@ -1,4 +1,4 @@
-/* The archive from C and from C++: a phone connects, a job comes in and is taken, the link goes down; a channel of our own; runs of frames and jobs; jobs in portions; Core's least MTU and MPS, and frames at our own; then the refusals that no script reaches. Every reader of an answer is used. */
+/* The archive from C and from C++: a phone connects, a job comes in and is taken, the link goes down; a channel of our own; runs of frames and jobs; jobs in portions; Core's least MTU and MPS, and frames at our own; buffers that are too short for a job; then the refusals that no script reaches. Every reader of an answer is used. */
 #include "l2cap_channels.h"
 #include <stdio.h>
 #include <string.h>
@@ -49,7 +49,7 @@ static void a_phone(void) {
     static const uint8_t grant[] = {8, 0, 5, 0, 0x16, 1, 4, 0, 0x40, 0, 1, 0};
     static const uint8_t sent[] = {5, 0, 0x50, 0, 3, 0, 1, 2, 3};
 
-    check(l2cap_version_2() == L2CAP_CHANNELS_VERSION, "the version is the header's");
+    check(l2cap_version_3() == L2CAP_CHANNELS_VERSION, "the version is the header's");
     memset(room, 7, sizeof room);
     check(ROOM == L2CAP_ROOM_OCTETS(N, D, M) && l2cap_make(LENT, IN(room), N, D, M) == 0 && is(L2CAP_ANSWER_DONE), "make");
     check(zeros(IN(room)), "making zeroes the room");
@@ -69,9 +69,10 @@ static void a_phone(void) {
     check(l2cap_dispatch(LENT, IN(room), 1, L2CAP_CID_BASE, IN(frame)) == 0, "a frame");
     check(l2cap_attention(LENT) == 0 && is(L2CAP_ANSWER_ATTENTION), "attention");
     check(l2cap_answer_attention_set(answer) == 1 && l2cap_answer_attention_count(answer) == 1 && l2cap_answer_attention_lowest(answer) == 0, "slot 0 calls");
-    check(l2cap_receive(LENT, IN(room), IN(signal), job, 2, 0) == 0 && is(L2CAP_ANSWER_JOB), "take");
-    check(l2cap_answer_link(answer) == 1 && l2cap_answer_job_copied(answer) == 2 && l2cap_answer_job_length(answer) == 3, "two octets of the three");
-    check(!memcmp(job, frame + 2, 2) && wrote(signal, IN(grant)), "the job, and the phone's credit");
+    check(refused(l2cap_receive(LENT, IN(room), IN(signal), job, 2, 0), L2CAP_INSUFFICIENT_SPACE), "a job of three octets into two is refusal 12");
+    check(l2cap_receive(LENT, IN(room), IN(signal), job, 3, 0) == 0 && is(L2CAP_ANSWER_JOB), "take");
+    check(l2cap_answer_link(answer) == 1 && l2cap_answer_job_length(answer) == 3, "three octets");
+    check(!memcmp(job, frame + 2, 3) && wrote(signal, IN(grant)), "the job, and the phone's credit");
     check(zeros(IN(room)), "a take leaves nothing");
     check(l2cap_attention(LENT) == 0 && l2cap_answer_attention_count(answer) == 0 && l2cap_answer_attention_lowest(answer) == N, "nobody calls");
     check(l2cap_send(LENT, IN(out), 0, frame + 2, 3) == 0 && is(L2CAP_ANSWER_FRAMES), "send");
@@ -443,6 +444,127 @@ static void own_offers(void) {
     check(l2cap_signal(IN(peer), IN(its_answer), IN(its_room), IN(its_signal), 1, 1, 0, signal + 4, 8) == 0 && l2cap_spsm(IN(peer), IN(its_answer), 0) == 0 && l2cap_answer_value(its_answer) == 0, "and both slots have no channel any more");
 }
 
+/* ---- a buffer shorter than the job */
+
+static const uint8_t asks[] = {0x14, 7, 10, 0, 0x80, 0, 0x50, 0, 100, 0, 23, 0, 5, 0};
+
+/* A whole job of n octets, of this one. */
+static uint32_t brings(size_t n, uint8_t octet) {
+    memset(payload, octet, sizeof payload), payload[0] = (uint8_t)n, payload[1] = 0;
+    return l2cap_dispatch(LENT, IN(room), 1, L2CAP_CID_BASE, payload, n + 2);
+}
+
+/* A phone's channel in slot 0, on which every take grants credits, with this MTU of ours. Two jobs wait there, of 0xA1 and of 0xB2. What is lent is painted. */
+static int waits(uint16_t mtu, size_t first, size_t second) {
+    int made = anew() && l2cap_signal(LENT, IN(room), IN(signal), 1, 1, 0, IN(asks)) == 0 && l2cap_next_pending(LENT, 1, 1) == 0 && l2cap_accept_pending(LENT, IN(signal), 0, mtu, 60, L2CAP_EVERY, 1, 9) == 0;
+    memset(room, 0, ROOM / N), made = made && brings(first, 0xA1) == 0 && brings(second, 0xB2) == 0;
+    memset(signal, 9, sizeof signal), memset(job, 9, sizeof job);
+    return expect(), made;
+}
+
+static uint32_t take(size_t size) { return l2cap_receive(LENT, IN(room), IN(signal), job, size, 0); }
+
+/* Nothing but the answer was written, and the answer has the refusal alone. */
+static int nothing_written(uint32_t returned, enum l2cap_refusal refusal) {
+    uint8_t told[L2CAP_ANSWER_OCTETS] = {L2CAP_ANSWER_REFUSED};
+    told[1] = (uint8_t)refusal;
+    return refused(returned, refusal) && !memcmp(answer, told, sizeof told) && as_expected() && all(IN(signal), 9) && all(IN(job), 9);
+}
+
+/* The whole job was taken, of this length and octet, and no octet behind it was written. */
+static int took(uint32_t returned, size_t n, uint8_t octet) {
+    int whole = returned == 0 && is(L2CAP_ANSWER_JOB) && l2cap_answer_link(answer) == 1 && l2cap_answer_job_length(answer) == n && all(job, n, octet) && all(job + n, sizeof job - n, 9);
+    memset(job, 9, sizeof job);
+    return whole;
+}
+
+/* What a take must leave of two jobs, of which the second moves up; `granted` of two credits that go back. */
+static void moved_up(size_t second, int granted) {
+    if (granted) expected[5]++, put(expected, 0, 13, 9), put(expected, 0, 15, 0);
+    expected[cell(0, 30)] = 1, put(expected, 0, 31, second), put(expected, 0, 33, 0);
+    memset(places, 0, ROOM / N), memset(places + M - 6, 0xB2, second);
+}
+
+static const uint8_t two_credits[] = {8, 0, 5, 0, 0x16, 1, 4, 0, 0x40, 0, 2, 0};
+
+/* Jobs of every length into buffers of every length. */
+static void short_buffers(void) {
+    size_t n, size;
+    for (n = 0; n <= M - 6; n++) {
+        int same = 1;
+        for (size = 0; size <= sizeof job; size++) {
+            same = same && waits(M - 6, n, 3);
+            if (size < n) {
+                same = same && nothing_written(take(size), L2CAP_INSUFFICIENT_SPACE);
+            } else {
+                moved_up(3, 1);
+                same = same && took(take(size), n, 0xA1) && as_expected() && wrote(signal, IN(two_credits)) && all(signal + 12, sizeof signal - 12, 9);
+            }
+        }
+        check(same, "a buffer that holds the job gets it whole, and a shorter one is refusal 12 and gets nothing");
+    }
+    check(waits(M - 6, 3, 0) && nothing_written(l2cap_receive(LENT, IN(room), IN(signal), NONE, 0), L2CAP_INSUFFICIENT_SPACE), "a null pointer of length 0 is a short buffer too");
+}
+
+/* A buffer of the slot's MTU is never short. */
+static void mtu_suffices(void) {
+    static const uint16_t ours[] = {0, 1, 23, 24, 57, M - 6};
+    unsigned i;
+    for (i = 0; i < sizeof ours / sizeof *ours; i++) {
+        check(waits(ours[i], ours[i], 0) && l2cap_mtu(LENT, 0) == 0 && took(take(l2cap_answer_value(answer)), ours[i], 0xA1), "the longest job into a buffer of the MTU");
+        check(waits(ours[i], ours[i], 0) && l2cap_disconnect(LENT, IN(room), 0) == 0 && l2cap_mtu(LENT, 0) == 0 && took(take(l2cap_answer_value(answer)), ours[i], 0xA1), "also while it disconnects");
+        check(!ours[i] || (waits(ours[i], ours[i], 0) && nothing_written(take(ours[i] - 1u), L2CAP_INSUFFICIENT_SPACE)), "one octet less is refusal 12");
+    }
+}
+
+/* What 12 leaves: the job is the oldest still, its place is taken, the slot calls, and no identifier is used. */
+static void kept(void) {
+    static const uint8_t wish[] = {12, 0, 5, 0, 0x12, 2, 8, 0, 6, 0, 12, 0, 0, 0, 100, 0}, first_wish[] = {12, 0, 5, 0, 0x12, 1, 8, 0, 6, 0, 12, 0, 0, 0, 100, 0};
+    unsigned k;
+    check(waits(M - 6, 6, 2), "jobs of six and of two octets wait");
+    for (k = 0; k < 300; k++) /* more often than there are identifiers */
+        if (!nothing_written(take(k % 6), L2CAP_INSUFFICIENT_SPACE)) break;
+    check(k == 300, "refused as often as it is asked, though the second job would fit");
+    check(l2cap_attention(LENT) == 0 && l2cap_answer_attention_set(answer) == 1 && l2cap_answer_attention_count(answer) == 1 && l2cap_answer_attention_lowest(answer) == 0, "the slot goes on calling");
+    check(brings(1, 0xC3) == L2CAP_QUEUE_FULL && (expect(), 1), "the job keeps its place: a third is refusal 21");
+    check(nothing_written(take(5), L2CAP_INSUFFICIENT_SPACE) && l2cap_send_conn_param_update_req(LENT, IN(signal), 1, 6, 12, 0, 100) == 0 && wrote(signal, IN(first_wish)), "the next identifier is the first");
+    memcpy(table, expected, sizeof table);
+    check(took(take(6), 6, 0xA1) && l2cap_answer_written(answer) == 12 && signal[5] == 1 && signal[10] == 3, "then it is taken whole, and grants three credits");
+    check(l2cap_send_conn_param_update_req(LENT, IN(signal), 1, 6, 12, 0, 100) == 0 && wrote(signal, IN(wish)), "the grant used that identifier");
+    check(took(take(2), 2, 0xB2) && l2cap_answer_written(answer) == 0, "the second behind it; no frame came since, and nothing is granted");
+    memset(signal, 9, sizeof signal), expect();
+    check(take(0) == 0 && is(L2CAP_ANSWER_DONE) && take(sizeof job) == 0 && is(L2CAP_ANSWER_DONE) && l2cap_receive(LENT, IN(room), IN(signal), NONE, 0) == 0 && is(L2CAP_ANSWER_DONE), "no job waits: Done, whatever the buffer");
+    check(as_expected() && all(IN(signal), 9) && all(IN(job), 9) && !l2cap_answer_written(answer), "and nothing is written");
+    check(l2cap_attention(LENT) == 0 && l2cap_answer_attention_count(answer) == 0, "the slot doesn't call any more");
+}
+
+/* While the channel disconnects, at our wish and at the peer's: the same, and nothing is granted. */
+static void short_while_disconnecting(void) {
+    static const uint8_t request[] = {0x06, 8, 4, 0, 0x40, 0, 0x50, 0};
+    int ours;
+    for (ours = 0; ours < 2; ours++) {
+        check(waits(M - 6, 3, 1) && (ours ? l2cap_disconnect(LENT, IN(room), 0) : l2cap_signal(LENT, IN(room), IN(signal), 1, 1, 0, IN(request))) == 0, "the channel disconnects");
+        expect();
+        check(nothing_written(take(2), L2CAP_INSUFFICIENT_SPACE) && nothing_written(take(0), L2CAP_INSUFFICIENT_SPACE), "a short buffer is refusal 12");
+        moved_up(1, 0);
+        check(took(take(3), 3, 0xA1) && as_expected() && !l2cap_answer_written(answer) && all(IN(signal), 9), "the job is taken, and nothing is granted");
+        check(took(take(1), 1, 0xB2) && take(0) == 0 && is(L2CAP_ANSWER_DONE), "and the next; then none waits");
+        check(waits(M - 6, 3, 1) && (ours ? l2cap_disconnect(LENT, IN(room), 0) : l2cap_signal(LENT, IN(room), IN(signal), 1, 1, 0, IN(request))) == 0 && refused(take(2), L2CAP_INSUFFICIENT_SPACE), "a job that was refused so");
+        check(l2cap_next_disconnect(LENT, IN(room), IN(signal)) == 0 && is(L2CAP_ANSWER_DUE) && (ours ? took(take(3), 3, 0xA1) : refused(take(3), L2CAP_CHANNEL_CLOSED) && zeros(room, ROOM / N)), "waits on behind our request, and is wiped with our response");
+    }
+}
+
+/* 12 is the last: 1, 2, 3, 6 and 11 come first. */
+static void short_comes_last(void) {
+    check(waits(M - 6, 3, 1) && nothing_written(l2cap_receive(LENT, IN(room), signal, 17, job, 2, 0), L2CAP_NO_ROOM), "3 before 12");
+    check(nothing_written(l2cap_receive(LENT, room, sizeof room - 1, IN(signal), job, 2, 0), L2CAP_BAD_ROOM) && nothing_written(l2cap_receive(LENT, IN(room), IN(signal), job, 2, N), L2CAP_BAD_SLOT), "2 and 6 before 12");
+    check((table[6] = 1, expect(), nothing_written(take(2), L2CAP_BAD_TABLE)) && (table[6] = 0, expect(), 1), "1 before 12");
+    check(nothing_written(l2cap_receive(LENT, IN(room), IN(signal), NONE, 1), L2CAP_CHANNEL_CLOSED), "a slot without a channel is refusal 11");
+    /* A job waits in an open or disconnecting slot alone. Where octets say otherwise, 11 is given all the same. */
+    check((put_state(table, 0, 0, 0), expect(), nothing_written(take(2), L2CAP_CHANNEL_CLOSED)) && nothing_written(take(sizeof job), L2CAP_CHANNEL_CLOSED), "11 before 12");
+    check(waits(M - 6, 3, 1) && l2cap_disconnected(LENT, IN(room), 1) == 0 && (expect(), nothing_written(take(0), L2CAP_CHANNEL_CLOSED)) && l2cap_mtu(LENT, 0) == 0 && !l2cap_answer_value(answer), "a freed slot is refusal 11, and its MTU is 0");
+}
+
 /* The octets of an answer, each number above what one octet holds. */
 static void readers(void) {
     static const uint8_t octets[L2CAP_ANSWER_OCTETS] = {L2CAP_ANSWER_DUE, 2, 0x01, 0x02, 0x03, 0x84, 0x11, 0x12, 0x13, 0x14, 0x15, 0x16, 0x17, 0x98, 0, 0};
@@ -450,6 +572,7 @@ static void readers(void) {
     check(l2cap_answer_number(octets, 0) == 0x1211 && l2cap_answer_number(octets, 3) == 0x9817, "numbers of two octets");
     check(l2cap_answer_attention_set(octets) == 0x1211, "a set of sixteen slots");
     check(l2cap_answer_slot(octets) == 0x13, "a slot behind its link");
+    check(l2cap_answer_job_length(octets) == 0x1413 && l2cap_answer_frame_count(octets) == 0x1413, "a job's length behind its link");
     check(l2cap_answer_portion_taken(octets) == 0x1413 && l2cap_answer_portion_full(octets) == 1, "a portion's numbers");
     check(l2cap_answer_run_count(octets) == 0x14131211 && l2cap_answer_run_used(octets) == 0x98171615, "a run's numbers, of four octets");
     check(l2cap_run_answer(octets, 1) == octets + 16, "the next answer of a run");
@@ -468,6 +591,11 @@ int main(void) {
     own_mps();
     forged_mps();
     own_offers();
+    short_buffers();
+    mtu_suffices();
+    kept();
+    short_while_disconnecting();
+    short_comes_last();
     readers();
     printf("%d passed, %d failed\n", passed, failed);
     return failed != 0;

@@ -1,7 +1,7 @@
 //! What deep places a run reached, counted: the list of issue texts and bench cases that a generator has to meet to be worth its time.
 
-use crate::kinds::{fields, signal_verdict};
-use language::{signals, Answer, Call, Reply, State, View, SIZE_LEAST};
+use crate::kinds::{fields, grants, signal_verdict};
+use language::{signals, Answer, Call, Reply, SlotView, State, View, SIZE_LEAST};
 
 /// The notable things about one call, from the table before it and what the original answered.
 pub fn marks(view: &View, call: &Call, reply: &Reply) -> Vec<&'static str> {
@@ -10,6 +10,9 @@ pub fn marks(view: &View, call: &Call, reply: &Reply) -> Vec<&'static str> {
     let ok = answered == Some(Answer::Number(0));
     let named = call.slot().and_then(|slot| view.slots.get(usize::from(slot)));
     let columns = &reply.rows[0].columns;
+    if let (Call::Take { size, .. }, Some(slot)) = (call, named) {
+        marks.extend(buffer(slot, *size));
+    }
     match call {
         Call::Frame { link, cid, payload } => {
             let slot = view.slot_of(*cid).map(|slot| &view.slots[slot]);
@@ -35,9 +38,6 @@ pub fn marks(view: &View, call: &Call, reply: &Reply) -> Vec<&'static str> {
         }
         Call::Take { .. } if ok && columns.len() == 3 => {
             marks.push("a job taken");
-            if columns[0] != columns[1] {
-                marks.push("a job cut by a short buffer");
-            }
             if columns[2] != "-" {
                 marks.push("credits granted");
             }
@@ -121,6 +121,34 @@ pub fn marks(view: &View, call: &Call, reply: &Reply) -> Vec<&'static str> {
     }
     if view.next_identifier == 255 && matches!(call, Call::Create { .. } | Call::NextDisconnect | Call::Take { .. }) {
         marks.push("identifier 255 before a request, grant or attempt");
+    }
+    marks
+}
+
+/// How a take's buffer stands to the job.
+fn buffer(slot: &SlotView, size: u16) -> Vec<&'static str> {
+    let open = slot.state == State::Connected;
+    let closing = matches!(slot.state, State::Disconnecting { .. } | State::PeerDisconnecting(_));
+    let one = |of_open, of_closing| vec![if open { of_open } else { of_closing }];
+    let mut marks = match slot.jobs.first() {
+        _ if !(open || closing) => vec!["a take from a slot that is neither open nor disconnecting"],
+        None if size == 0 => one("no job waits, a buffer of 0 octets", "no job waits while disconnecting, a buffer of 0 octets"),
+        None => vec![],
+        Some(0) if size == 0 => vec!["a job of 0 octets into 0 octets"],
+        Some(job) if size == *job => one("a buffer of exactly the job", "a buffer of exactly the job while disconnecting"),
+        Some(job) if size == job + 1 => one("a buffer one octet longer than the job", "one octet longer while disconnecting"),
+        Some(job) if size > *job => vec![],
+        Some(job) if size + 1 == *job => one("a buffer one octet short", "a buffer one octet short while disconnecting"),
+        Some(_) if size == 0 => one("a job into 0 octets", "a job into 0 octets while disconnecting"),
+        Some(_) => one("a buffer two octets short or more", "a buffer two octets short or more while disconnecting"),
+    };
+    if open && slot.jobs.first().is_some_and(|job| size < *job) {
+        if slot.received > 0 && grants(slot) {
+            marks.push("a short buffer where credits are due");
+        }
+        if slot.jobs.len() > 1 {
+            marks.push("a short buffer with another job behind");
+        }
     }
     marks
 }

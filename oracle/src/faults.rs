@@ -4,7 +4,7 @@
 use crate::kinds::Kind;
 use crate::port::Port;
 use crate::script::{Script, Step};
-use language::{played, Call, Manner};
+use language::{hex, played, Call, Manner, Row};
 
 #[derive(Clone, Copy, Debug, PartialEq, Eq)]
 pub enum Fault {
@@ -32,10 +32,17 @@ pub enum Fault {
     SmallWrongResult,
     SmallOpened,
     MpsForgotten,
+    ShortCut,
+    ShortTold0,
+    ShortAtEquality,
+    ShortDropped,
+    ShortGranted,
+    LengthOnce,
+    LengthOff,
 }
 
 impl Fault {
-    pub const ALL: [Fault; 23] = [
+    pub const ALL: [Fault; 30] = [
         Fault::LostLine,
         Fault::TakenOctet,
         Fault::CidsTurned,
@@ -59,6 +66,13 @@ impl Fault {
         Fault::SmallWrongResult,
         Fault::SmallOpened,
         Fault::MpsForgotten,
+        Fault::ShortCut,
+        Fault::ShortTold0,
+        Fault::ShortAtEquality,
+        Fault::ShortDropped,
+        Fault::ShortGranted,
+        Fault::LengthOnce,
+        Fault::LengthOff,
     ];
 
     pub fn title(self) -> &'static str {
@@ -87,10 +101,18 @@ impl Fault {
             Fault::SmallWrongResult => "a request below 23 is refused by result 4",
             Fault::SmallOpened => "a response below 23 is answered 0",
             Fault::MpsForgotten => "a frame longer than our MPS is answered 0",
+            Fault::ShortCut => "a job is cut to a shorter buffer",
+            Fault::ShortTold0 => "a short take is told that no job waits",
+            Fault::ShortAtEquality => "a buffer of exactly the job is too short",
+            Fault::ShortDropped => "a job whose take was short isn't in the view behind it",
+            Fault::ShortGranted => "the frames that a grant is due for aren't in the view behind a short take",
+            Fault::LengthOnce => "a taken job's length is printed once",
+            Fault::LengthOff => "a taken job's length is printed one too many, the second time",
         }
     }
 
-    fn slip(self, step: &Step, lines: &mut Vec<String>, last_identifier: &mut u8) {
+    /// `last` is the step before.
+    fn slip(self, step: &Step, last: Option<&Step>, lines: &mut Vec<String>, last_identifier: &mut u8) {
         let call = &step.call;
         match (self, call) {
             (Fault::TakenOctet, Call::Take { .. }) => change_words(&mut lines[0], |words| {
@@ -171,6 +193,28 @@ impl Fault {
                 lines.iter_mut().filter(|line| *line == "9 -").for_each(|line| *line = "0 -".to_string());
             }
             (Fault::MpsForgotten, Call::Frame { .. }) if step.kinds.contains(&Kind::LongerThanMps) => lines[0] = "0 -".to_string(),
+            (Fault::ShortCut, Call::Take { slot, size }) if lines[0] == "12 -" => lines[0] = cut(step, *slot, *size),
+            (Fault::ShortTold0, Call::Take { .. }) if lines[0] == "12 -" => lines[0] = "0 -".to_string(),
+            (Fault::ShortAtEquality, Call::Take { size, .. }) => change_words(&mut lines[0], |words| {
+                if words.len() == 5 && words[2] == size.to_string() {
+                    *words = ["12", "-"].map(str::to_string).to_vec();
+                }
+            }),
+            (Fault::ShortDropped | Fault::ShortGranted, Call::View) => {
+                if let Some(slot) = last.and_then(short) {
+                    change_words(&mut lines[1 + usize::from(slot)], |words| self.slip_behind_short(words));
+                }
+            }
+            (Fault::LengthOnce, Call::Take { .. }) => change_words(&mut lines[0], |words| {
+                if words.len() == 5 {
+                    words.remove(3);
+                }
+            }),
+            (Fault::LengthOff, Call::Take { .. }) => change_words(&mut lines[0], |words| {
+                if words.len() == 5 {
+                    words[3] = (words[3].parse::<usize>().unwrap_or(0) + 1).to_string();
+                }
+            }),
             (_, Call::View) => lines.iter_mut().skip(1).for_each(|line| change_words(line, |words| self.slip_in_view(words))),
             _ => {}
         }
@@ -186,6 +230,33 @@ impl Fault {
             _ => {}
         }
     }
+
+    /// The line of a slot whose take was short.
+    fn slip_behind_short(self, words: &mut Vec<String>) {
+        match self {
+            Fault::ShortDropped => {
+                words.remove(19);
+                words[18] = (words.len() - 19).to_string();
+            }
+            _ => words[10] = "0".to_string(),
+        }
+    }
+}
+
+/// The slot of a take that was short.
+fn short(step: &Step) -> Option<u16> {
+    match &step.call {
+        Call::Take { slot, .. } if step.kinds == [Kind::ShortTake] => Some(*slot),
+        _ => None,
+    }
+}
+
+/// The row of a take that cuts its job, which stands in the room's second place of its slot.
+fn cut(step: &Step, slot: u16, size: u16) -> String {
+    let Some(sight) = step.after.last() else { return "12 -".to_string() };
+    let place = usize::from(sight.view.m) - 6;
+    let octets = sight.places(slot.into())[place..][..usize::from(size)].to_vec();
+    Row::number(0).octets(octets).column(size).column(sight.view.slots[usize::from(slot)].jobs[0]).column(hex(&[])).to_string()
 }
 
 fn change_words(line: &mut String, change: impl FnOnce(&mut Vec<String>)) {
@@ -240,10 +311,11 @@ impl Port for Faulty {
             let end = starts.get(at + 1).copied().unwrap_or(calls.len());
             let script = Script::in_manner(&calls[*start..end], manner).ok_or("a script of the domain starts with a table")?;
             let mut last_identifier = 0;
-            for step in &script.steps {
+            let last = std::iter::once(None).chain(script.steps.iter().map(Some));
+            for (step, last) in script.steps.iter().zip(last) {
                 let lines = step.port.iter().zip(&step.original).map(|(port, original)| port.as_ref().unwrap_or(original).clone());
                 let mut lines: Vec<String> = lines.collect();
-                self.0.slip(step, &mut lines, &mut last_identifier);
+                self.0.slip(step, last, &mut lines, &mut last_identifier);
                 rows.extend(lines);
             }
         }

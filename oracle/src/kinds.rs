@@ -34,10 +34,11 @@ pub enum Kind {
     LateCancel = 48,
     BelowLeast = 50,
     LongerThanMps = 51,
+    ShortTake = 54,
 }
 
 impl Kind {
-    pub const ALL: [Kind; 28] = [
+    pub const ALL: [Kind; 29] = [
         Kind::SpsmIgnored,
         Kind::SlotPanic,
         Kind::HeldPanic,
@@ -66,6 +67,7 @@ impl Kind {
         Kind::LateCancel,
         Kind::BelowLeast,
         Kind::LongerThanMps,
+        Kind::ShortTake,
     ];
 
     pub fn number(self) -> usize {
@@ -102,6 +104,7 @@ impl Kind {
             Kind::LateCancel => "a job that is let go of behind its first frame gives credits back, and the channel stays",
             Kind::BelowLeast => "a peer's MTU or MPS below 23 is taken",
             Kind::LongerThanMps => "a frame longer than our MPS is taken",
+            Kind::ShortTake => "a job is cut to a shorter buffer, and its rest is gone",
         }
     }
 }
@@ -344,13 +347,15 @@ fn start(view: &View, slot: &SlotView, length: usize, size: usize) -> Option<Ver
 }
 
 fn take(slot: &SlotView, oldest_job: Option<&[u8]>, size: usize) -> Option<Verdict> {
-    // What a take without a grant prints.
-    let taken = oldest_job.map_or(Row::number(0), |job| {
-        let copied = job.len().min(size);
-        Row::number(0).octets(job[..copied].to_vec()).column(copied).column(job.len()).column(hex(&[]))
-    });
+    // What a take without a grant prints: the job's length twice.
+    let taken =
+        oldest_job.map_or(Row::number(0), |job| Row::number(0).octets(job.to_vec()).column(job.len()).column(job.len()).column(hex(&[])));
     let waits = oldest_job.is_some();
     match slot.state {
+        // The tables stay equal: of an open channel the original isn't asked (`cuts`), and while disconnecting it refuses every take.
+        State::Connected | State::Disconnecting { .. } | State::PeerDisconnecting(_) if short(slot, size) => {
+            refusal(Kind::ShortTake, 12, false)
+        }
         State::Disconnecting { .. } | State::PeerDisconnecting(_) => {
             Some(Verdict { kind: Kind::TakeWhileClosing, row: taken.to_string(), parts: waits })
         }
@@ -361,8 +366,20 @@ fn take(slot: &SlotView, oldest_job: Option<&[u8]>, size: usize) -> Option<Verdi
     }
 }
 
+/// A buffer of this size is shorter than the oldest waiting job.
+fn short(slot: &SlotView, size: usize) -> bool {
+    slot.jobs.first().is_some_and(|job| size < usize::from(*job))
+}
+
+/// A take at which the original would cut the job, and its rest would be gone. Document 02 has it refused, and nothing changes: so the original isn't asked, and all that
+/// follows is compared.
+pub fn cuts(view: &View, call: &Call) -> bool {
+    let Call::Take { slot, size } = call else { return false };
+    view.slots.get(usize::from(*slot)).is_some_and(|slot| slot.state == State::Connected && short(slot, usize::from(*size)))
+}
+
 /// The original's policy test.
-fn grants(slot: &SlotView) -> bool {
+pub fn grants(slot: &SlotView) -> bool {
     match slot.policy {
         Policy::Every(count) => slot.received >= count,
         Policy::MinThreshold(threshold) => slot.credits < threshold,

@@ -1,9 +1,10 @@
 //! Writes scripts of the domain with what the original answered, for places where it can't be run. `NN.script` is given to a program and
 //! `NN.rows` is what it must print. A line that shows a record is written as document 01 frees records; `NN.raw` has such lines, by
-//! number, as the original printed them.
+//! number, as the original printed them, and `~` for a short take, of which it wasn't asked.
 
+use crate::kinds::Kind;
 use crate::run::{script, Extent};
-use crate::script::Script;
+use crate::script::{Script, Step};
 use std::path::Path;
 
 /// What was written.
@@ -43,10 +44,11 @@ pub fn record(folder: &Path, extent: &Extent) -> std::io::Result<Recorded> {
 }
 
 /// Signals in one PDU may lead out of the domain: such a script is no sample of it. Nor is one that the driver answered itself, nor one
-/// with long lines: the runs have them, a file needn't.
+/// with long lines: the runs have them, a file needn't. Short takes it has: the rows behind them are the original's, which wasn't asked for them.
 fn is_sample(made: &Script) -> bool {
     let foretold = made.steps.iter().all(|step| step.port.iter().all(Option::is_some));
-    let inside = made.steps.iter().all(|step| step.call.only_looks() || step.kinds.is_empty() && step.not_run.is_empty());
+    let plain = |step: &Step| step.kinds.is_empty() && step.not_run.is_empty();
+    let inside = made.steps.iter().all(|step| step.call.only_looks() || plain(step) || step.kinds == [Kind::ShortTake]);
     let printed: usize = made.steps.iter().flat_map(|step| &step.original).map(String::len).sum();
     foretold && inside && made.text().len() + printed <= 12_000
 }

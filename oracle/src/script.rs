@@ -3,9 +3,12 @@
 
 use crate::depth::marks;
 use crate::foretell::foretold;
-use crate::kinds::{left_in, signal_verdicts, verdict, Kind, Verdict};
+use crate::kinds::{cuts, left_in, signal_verdicts, verdict, Kind, Verdict};
 use crate::play;
-use language::{can_be_made, Call, Eyes, Feed, Manner, Reply, Row, Sight, View, HIGHEST_LINK};
+use language::{can_be_made, Answer, Call, Eyes, Feed, Manner, Reply, Row, Sight, View, HIGHEST_LINK};
+
+/// Why the original isn't asked for a take.
+const CUT: &str = "a take into a buffer that is shorter than the job: the original would cut it";
 
 /// Where the calls of a script come from; it sees the table before each.
 pub trait Source {
@@ -122,17 +125,24 @@ impl Feed for Judge<'_> {
         if self.parted {
             return None;
         }
-        let sight = eyes.sight();
-        // What the original left of the call before.
-        self.script.steps.last_mut().expect("a script has its first step").after.push(sight.clone().settled());
-        let call = self.source.next(&sight.view)?;
-        let named = call.slot().map(usize::from).filter(|slot| *slot < sight.view.slots.len());
-        let oldest_job = match call {
-            Call::Take { .. } => named.and_then(|slot| eyes.oldest_job(slot)),
-            _ => None,
-        };
-        self.asked = Some(Before { call: call.clone(), sight, oldest_job });
-        Some(call)
+        loop {
+            let sight = eyes.sight();
+            // What the original left of the call before.
+            self.script.steps.last_mut().expect("a script has its first step").after.push(sight.clone().settled());
+            let call = self.source.next(&sight.view)?;
+            let named = call.slot().map(usize::from).filter(|slot| *slot < sight.view.slots.len());
+            let oldest_job = match call {
+                Call::Take { .. } => named.and_then(|slot| eyes.oldest_job(slot)),
+                _ => None,
+            };
+            let before = Before { call: call.clone(), sight, oldest_job };
+            if !cuts(&before.sight.view, &call) {
+                self.asked = Some(before);
+                return Some(call);
+            }
+            let (step, _) = before.judge(&Row::new(Answer::Skipped).not_run(CUT).into());
+            self.script.steps.push(step);
+        }
     }
 
     fn answered(&mut self, reply: Reply) {

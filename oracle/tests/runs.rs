@@ -1,7 +1,7 @@
 //! The oracle's own tests: that it plays what document 01 prints, that its list and its parts fit together, that the comparison finds what
 //! it must, and the findings that are too long for a file.
 
-use language::{hex, Answer, Call, Manner, Reply};
+use language::{hex, Answer, Call, Manner, Reply, State};
 use oracle::compare::{batch, Counts};
 use oracle::faults::{Fault, Faulty};
 use oracle::generate::{Generator, Plan};
@@ -13,6 +13,7 @@ use oracle::script::Script;
 use oracle::shrink::shrink;
 use oracle::twin::Twin;
 use std::io::Write;
+use std::path::Path;
 use std::process::{Command, Stdio};
 
 fn rows(text: &str) -> Vec<String> {
@@ -165,6 +166,78 @@ fn sizes_around_23_and_frames_around_our_mps_are_met() {
     let mut counts = Counts::default();
     (0..300).for_each(|number| counts.add(&script(&domain, number)));
     assert!(![Kind::BelowLeast, Kind::LongerThanMps].iter().any(|kind| counts.kinds.contains_key(kind)));
+}
+
+/// The places of document 02 (v) that a run has to reach: buffers around the job's length, in open channels and in those that are disconnecting.
+#[test]
+fn buffers_around_the_job_are_met() {
+    quiet();
+    let mut counts = Counts::default();
+    (0..900).for_each(|number| counts.add(&script(&extent(1, 0), number)));
+    let sizes = ["a buffer of exactly the job", "a buffer one octet short", "a buffer two octets short or more", "a job into 0 octets"];
+    let closing = sizes.map(|size| format!("{size} while disconnecting"));
+    let others = [
+        "a buffer one octet longer than the job",
+        "a job of 0 octets into 0 octets",
+        "no job waits, a buffer of 0 octets",
+        "no job waits while disconnecting, a buffer of 0 octets",
+        "a take from a slot that is neither open nor disconnecting",
+        "a short buffer where credits are due",
+        "a short buffer with another job behind",
+    ];
+    for mark in sizes.into_iter().chain(others).chain(closing.iter().map(String::as_str)) {
+        assert!(counts.marks.contains_key(mark), "{mark}");
+    }
+}
+
+/// The original isn't asked for a take that it would cut, and for no other. A script of the domain goes on behind it, nothing has changed, and the job that was kept is taken later.
+#[test]
+fn short_takes_alone_are_kept_from_the_original() {
+    quiet();
+    let domain = Extent { outside: 0, ..extent(1, 0) };
+    let (mut short, mut kept) = (0, 0);
+    for number in 0..300 {
+        let made = script(&domain, number);
+        let mut refused = [false; 16];
+        for two in made.steps.windows(2) {
+            let (before, step) = (two[0].after.last().expect("what stood before"), &two[1]);
+            let Call::Take { slot, size } = step.call else { continue };
+            let record = before.view.slots.get(usize::from(slot));
+            let cut = record.is_some_and(|record| record.state == State::Connected && record.jobs.first().is_some_and(|job| size < *job));
+            assert_eq!(step.original == ["~ -"], cut, "{}", step.call);
+            assert_eq!(step.kinds == [Kind::ShortTake], cut, "{}", step.call);
+            if cut {
+                assert_eq!(step.port, [Some("12 -".to_string())]);
+                assert_eq!(&step.after, std::slice::from_ref(before));
+                short += 1;
+            } else if step.original[0].split(' ').count() == 5 {
+                kept += usize::from(refused[usize::from(slot)]);
+            }
+            if let Some(refused) = refused.get_mut(usize::from(slot)) {
+                *refused = cut;
+            }
+        }
+    }
+    assert!(short > 50 && kept > 20, "{short} {kept}");
+}
+
+/// Each kind, and each finding by the number that its file's name begins with, has its entry in DIFFERENCES.
+#[test]
+fn kinds_and_findings_have_their_entries() {
+    let folder = Path::new(env!("CARGO_MANIFEST_DIR"));
+    let list = std::fs::read_to_string(folder.join("../docs/DIFFERENCES.md")).expect("the list");
+    let named = |number: usize| list.contains(&format!("\n**{number}. ")) || list.contains(&format!("\n| {number} | "));
+    for kind in Kind::ALL {
+        assert!(named(kind.number()), "{}", kind.title());
+    }
+    let mut findings = 0;
+    for file in std::fs::read_dir(folder.join("findings")).expect("the findings") {
+        let name = file.expect("a finding").file_name().to_string_lossy().into_owned();
+        let number = name.chars().take_while(char::is_ascii_digit).collect::<String>().parse();
+        assert!(number.is_ok_and(named), "{name}");
+        findings += 1;
+    }
+    assert!(findings > 50);
 }
 
 /// What a script says must stand after a call, against the lines that show it.

@@ -1,7 +1,7 @@
 //! The answer of a row, by name and in words.
 
 use crate::look::{open_job, room, table};
-use crate::refusals::{refused, result};
+use crate::refusals::{refused, refused_so, result};
 use crate::seen::Seen;
 use crate::words::{count, list, parameters, short_hex, sizes};
 use language::{Answer, Call, JobView, Row, State, View};
@@ -18,7 +18,7 @@ pub fn answer(call: &Call, row: &Row, view: Option<&View>, before: &Seen) -> Vec
     if number != 0 {
         let code = columns.first().and_then(|code| u16::try_from(*code).ok());
         let code = code.filter(|_| number == 17).map(|code| format!(", {}", result(code)));
-        return vec![refused(number) + &code.unwrap_or_default()];
+        return vec![named(call, number, before) + &code.unwrap_or_default()];
     }
     if let Some(view) = view {
         return [vec!["0 done".to_string()], table(view)].concat();
@@ -26,6 +26,19 @@ pub fn answer(call: &Call, row: &Row, view: Option<&View>, before: &Seen) -> Vec
     match said(call, row, &columns, before) {
         Some(said) => vec![format!("0 done: {said}")],
         None => vec!["0 done".to_string()],
+    }
+}
+
+/// A refusal, in words that fit the call.
+fn named(call: &Call, number: u16, before: &Seen) -> String {
+    match (call, number) {
+        (Call::Take { slot, size }, 12) => match before.slot(*slot).and_then(|slot| slot.jobs.first()) {
+            Some(length) if length > size => {
+                refused_so(12, &format!("the job of {} is longer than the buffer, and waits on", count(*length, "octet")))
+            }
+            _ => refused_so(12, "but no job waits that is longer than the buffer"),
+        },
+        _ => refused(number),
     }
 }
 
@@ -58,12 +71,13 @@ fn said(call: &Call, row: &Row, columns: &[u64], before: &Seen) -> Option<String
             open_job(job, &row.octets)
         }
         (Call::Take { .. }, []) => "no job waits".to_string(),
-        (Call::Take { .. }, [copied, length, ..]) => {
-            let length = count(usize::try_from(*length).ok()?, "octet");
-            let copy = short_hex(&row.octets);
-            match row.columns.first() == row.columns.get(1) {
-                true => format!("the whole job of {length}: {copy}"),
-                false => format!("the first {copied} of the job's {length}: {copy}; the rest is lost"),
+        (Call::Take { .. }, [_, length, ..]) => {
+            let length = usize::try_from(*length).ok()?;
+            let job = short_hex(&row.octets);
+            match row.octets.len() == length {
+                true => format!("the whole job of {}: {job}", count(length, "octet")),
+                // A program that cuts.
+                false => format!("only {} of the job's {}: {job}", row.octets.len(), count(length, "octet")),
             }
         }
         (Call::Attention, [set, _, lowest]) => {

@@ -11,7 +11,7 @@ const fn refusal(number: u16, name: &'static str, says: &'static str) -> Refusal
     Refusal { number, name, says }
 }
 
-pub const REFUSALS: [Refusal; 25] = [
+pub static REFUSALS: [Refusal; 25] = [
     refusal(1, "BadTable", "there is no table, or none can have these sizes"),
     refusal(2, "BadRoom", "the room has not the length that the table's sizes ask for"),
     refusal(3, "NoRoom", "the buffer lent is too short"),
@@ -59,10 +59,19 @@ pub fn result(number: u16) -> String {
 
 /// A refusal, by number, name and what it says.
 pub fn refused(number: u16) -> String {
-    match REFUSALS.iter().find(|refusal| refusal.number == number) {
-        Some(Refusal { name, says, .. }) => format!("{number} {name}: {says}"),
+    refused_so(number, of(number).map_or("", |refusal| refusal.says))
+}
+
+/// A refusal that says more of one call.
+pub fn refused_so(number: u16, says: &str) -> String {
+    match of(number) {
+        Some(Refusal { name, .. }) => format!("{number} {name}: {says}"),
         None => format!("{number}, a refusal that has no name here"),
     }
+}
+
+fn of(number: u16) -> Option<&'static Refusal> {
+    REFUSALS.iter().find(|refusal| refusal.number == number)
 }
 
 #[cfg(test)]

@@ -31,7 +31,7 @@ fn text(file: &PathBuf) -> String {
 #[ignore = "needs a program"]
 fn examples_are_told_as_they_stand() {
     let told = files("examples", "told");
-    assert!(told.len() >= 3, "{told:?}");
+    assert!(told.len() >= 4, "{told:?}");
     for file in told {
         let script = text(&file.with_extension("script"));
         let mut page = Page::new(Vec::new());

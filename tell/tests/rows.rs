@@ -99,7 +99,8 @@ fn a_job_arrives_waits_and_is_taken() {
         ("H 0", "0 -", OPEN, [NONE; 2]),
         ("F 1 64 0400aa00cc", "0 -", HALF, [ARRIVED, NONE]),
         ("F 1 64 dd", "0 -", waits, [NONE, "aa00ccdd"]),
-        ("B 0 3", "0 aa00cc 3 4 080005001601040040000200", OPEN, [NONE; 2]),
+        ("B 0 3", "12 -", waits, [NONE, "aa00ccdd"]),
+        ("B 0 4", "0 aa00ccdd 4 4 080005001601040040000200", OPEN, [NONE; 2]),
         ("B 0 3", "0 -", OPEN, [NONE; 2]),
     ]);
     let expected = "   3  F 1 64 0400aa00cc
@@ -112,15 +113,31 @@ fn a_job_arrives_waits_and_is_taken() {
       changed  slot 0: a job of 4 octets is whole and waits; the phone's credits 8 → 7
    5  B 0 3
       asked    take the oldest job of the phone on link 1 (slot 0) into a buffer of 3 octets
-      answer   0 done: the first 3 of the job's 4 octets: aa00cc; the rest is lost
+      answer   12 InsufficientSpace: the job of 4 octets is longer than the buffer, and waits on
+      changed  nothing
+   6  B 0 4
+      asked    take the oldest job of the phone on link 1 (slot 0) into a buffer of 4 octets
+      answer   0 done: the whole job of 4 octets: aa00ccdd
       out      to the phone on link 1: credit signal 1: 2 credits for the phone, our CID 64 (slot 0)
       changed  slot 0: the job is out of the room, no job waits; the phone's credits 7 → 9
-   6  B 0 3
+   7  B 0 3
       asked    take the oldest job of the phone on link 1 (slot 0) into a buffer of 3 octets
       answer   0 done: no job waits
       changed  nothing
 ";
     assert!(text.ends_with(expected), "{text}");
+    // A program that cuts is told, and so is one that refuses and loses the job all the same.
+    let cut = step((waits, [NONE, "aa00ccdd"]), ("B 0 3", "0 aa00cc 3 4 080005001601040040000200", OPEN, [NONE; 2]));
+    assert!(cut.contains("answer   0 done: only 3 of the job's 4 octets: aa00cc\n"), "{cut}");
+    let lost = step((waits, [NONE, "aa00ccdd"]), ("B 0 3", "12 -", OPEN, [NONE; 2]));
+    assert!(lost.contains("changed  slot 0: the job is out of the room, no job waits; the phone's credits 7 → 9\n"), "{lost}");
+    for (from, size) in [((waits, [NONE, "aa00ccdd"]), 4), ((OPEN, [NONE; 2]), 0)] {
+        let wrong = step(from, (&format!("B 0 {size}"), "12 -", from.0, from.1));
+        assert!(wrong.contains("answer   12 InsufficientSpace: but no job waits that is longer than the buffer\n"), "{wrong}");
+    }
+    // Of other calls 12 says what it said.
+    let long = step((OPEN, [NONE; 2]), ("K 0 0102", "12 -", OPEN, [NONE; 2]));
+    assert!(long.contains("answer   12 InsufficientSpace: larger than our packets hold, or than the phone takes\n"), "{long}");
 }
 
 #[test]

@@ -195,6 +195,7 @@ impl<'r> Printer<'r> {
 
     /// All that is due: jobs that wait, then disconnects, with which waiting jobs would go, then the holds on channels that are closed.
     fn settle(&mut self, out: &mut impl Out) -> Result<(), Fault> {
+        // A packet's octets hold the longest job: no take is refused by 12, which would leave the job where the disconnects below wipe it.
         let (mut job, mut signal) = ([0; PACKET as usize], [0; SIGNAL_OCTETS]);
         for index in self.channels.attention()?.set {
             // An attempt of the printer's own that failed calls too, and has no job: that is 11, and the rest is due all the same. Whoever made it asks

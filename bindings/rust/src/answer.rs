@@ -90,12 +90,12 @@ impl Answer {
         Given { handle: self.handle(), taken: self.number(1).into(), frame, done }
     }
 
+    /// The job that was taken. The call gives one only where the buffer holds it, and nothing is tested here: `get` is what can't panic.
     pub(crate) fn job<'j, 'b>(&self, job: &'j [u8], signal: &'b [u8]) -> Option<Received<'j, 'b>> {
         match self.0[0] {
             JOB => Some(Received {
                 handle: self.handle(),
                 sdu: job.get(..usize::from(self.number(1))).unwrap_or(&[]),
-                len: self.number(2),
                 credits: self.written(signal),
             }),
             _ => None,
@@ -225,15 +225,13 @@ pub struct Given<'b> {
     pub done: bool,
 }
 
-/// A job that was taken.
+/// A job that was taken, whole.
 #[derive(Clone, Copy, Debug, PartialEq, Eq)]
 pub struct Received<'j, 'b> {
     /// The link that it came on, and on which the credits go out.
     pub handle: ConnHandle,
-    /// The job, as far as the lent buffer reaches.
+    /// The job: the start of the lent buffer.
     pub sdu: &'j [u8],
-    /// The job's whole length. Where it is more than `sdu` has, the rest is gone.
-    pub len: u16,
     /// The signal that grants the peer new credits, with its L2CAP header; empty where none are due.
     pub credits: &'b [u8],
 }

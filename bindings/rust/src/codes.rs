@@ -186,7 +186,8 @@ pub enum Refusal {
     OutOfMemory,
     /// 11: the channel isn't open. Jobs that wait in one that disconnects can still be taken.
     ChannelClosed,
-    /// 12: MPS or MTU above our packets, or a job above the peer's MTU. A refused create has used an identifier.
+    /// 12: MPS or MTU above our packets, or a job above the peer's MTU. A refused create has used an identifier. Of a take: the buffer is shorter than the job,
+    /// which waits on; one of [`mtu`](crate::ChannelManager::mtu) octets never is.
     InsufficientSpace,
     /// 13: no slot is free. The create has used an identifier.
     NoChannelAvailable,

@@ -8,8 +8,9 @@
 //! [`attention`] doesn't name pendings. Then, after each packet that came in and after each link that went down, a loop does three things in this order, and
 //! forgets nothing:
 //!
-//! 1. jobs: [`receive`] on every slot that [`attention`] names, until none waits; the credits go out. (An attempt of ours that failed is named too,
-//!    and refused by 11 here: go on with the next slot; [`opened`] tells why it failed, and closes it.)
+//! 1. jobs: [`receive`] on every slot that [`attention`] names, until none waits or it is refused; the credits go out. The buffer has the slot's [`mtu`], or the packet
+//!    size less 6: a shorter one can be refused by 12, and then the job waits on, its slot goes on calling, and the next step can wipe it. (An attempt of ours that
+//!    failed is named too, and refused by 11 here: go on with the next slot; [`opened`] tells why it failed, and closes it.)
 //! 2. disconnects: [`next_disconnect`] until none is due; what it writes goes out;
 //! 3. holds: [`dec_ref`] on every slot that [`Table::held`] names.
 //!
@@ -142,6 +143,7 @@
 //! [`next_disconnect`]: crate::ChannelManager::next_disconnect
 //! [`next_pending`]: crate::ChannelManager::next_pending
 //! [`opened`]: crate::ChannelManager::opened
+//! [`mtu`]: crate::ChannelManager::mtu
 //! [`receive`]: crate::ChannelManager::receive
 //! [`reject_pending`]: crate::ChannelManager::reject_pending
 //! [`signal`]: crate::ChannelManager::signal

@@ -526,9 +526,45 @@ impl<'r> ChannelManager<'r> {
         run.made(returned, out, answers)
     }
 
-    /// Takes the oldest job that waits, as far as `sdu` reaches, and grants the peer new credits where they are due; none where no job waits.
+    /// Takes the oldest job that waits, whole, into the start of `sdu`, and grants the peer new credits where they are due; none where no job waits, however short `sdu` is.
+    /// While the channel disconnects nothing is granted.
     ///
-    /// Refusals: 1, 2, 3, 6; 11 where the slot is closed, or its channel isn't open yet or failed.
+    /// Refusals: 1, 2, 3, 6; 11 where the slot is closed, or its channel isn't open yet or failed; 12 where the job is longer than `sdu`, also while the channel
+    /// disconnects. After a 12 nothing has changed, and nothing was written to `sdu` or `buffer`: the job is the oldest still, later ones wait behind it, no credits went
+    /// back, no identifier is used, and [`attention`](Self::attention) goes on naming the slot. Take it with a longer buffer. One of the slot's [`mtu`](Self::mtu) is never
+    /// too short; ask it while the channel is open or disconnecting, as a slot that is closed has 0 and no job. The same buffer is refused again for ever, so that a loop
+    /// that takes until there is none ends at a refusal, as `?` and `while let Ok(Some(_))` do. Where the peer disconnects, [`next_disconnect`](Self::next_disconnect) wipes what
+    /// still waits: take it before.
+    ///
+    /// ```
+    /// # use l2cap_channels::*;
+    /// # fn main() -> Result<(), Box<dyn core::error::Error>> {
+    /// # let mut room = [0; room_octets(2, 2, 64)];
+    /// # let mut channels = ChannelManager::new(2, 2, 64, &mut room)?;
+    /// # channels.register_spsm(0x80)?;
+    /// # let (phone, mut signal) = (ConnHandle(1), [0; SIGNAL_OCTETS]);
+    /// # channels.feed_pdu(phone, true, LeConnRole::Peripheral, &[0x14, 7, 10, 0, 0x80, 0, 0x50, 0, 100, 0, 23, 0, 5, 0], |_, _| {});
+    /// # let index = channels.next_pending(phone, true)?.expect("a pending channel").into_index();
+    /// # channels.accept_pending(index, &L2capChannelConfig::default(), &mut signal)?;
+    /// channels.dispatch(phone, index.cid(), b"\x0d\x00|||4006381333")?;
+    ///
+    /// // A tray for eight octets, and a barcode of thirteen: not half of it comes out.
+    /// let mut tray = [0; 8];
+    /// assert_eq!(channels.receive(index, &mut tray, &mut signal), Err(Refusal::InsufficientSpace));
+    /// assert_eq!(tray, [0; 8]);
+    ///
+    /// // It waits on, and its slot calls. A buffer of the slot's MTU holds every job that waits there.
+    /// assert_eq!(channels.attention()?.lowest, Some(index));
+    /// let mut tray = vec![0; channels.mtu(index)?.into()];
+    /// let taken = channels.receive(index, &mut tray, &mut signal)?.expect("a job");
+    /// assert_eq!(taken.sdu, b"|||4006381333");
+    /// assert_eq!(taken.credits, [8, 0, 5, 0, 0x16, 1, 4, 0, 0x40, 0, 1, 0]);
+    ///
+    /// // No job waits: that needs no buffer.
+    /// assert_eq!(channels.receive(index, &mut [], &mut signal), Ok(None));
+    /// # Ok(())
+    /// # }
+    /// ```
     pub fn receive<'j, 'b>(
         &mut self,
         index: ChannelIndex,
@@ -560,7 +596,7 @@ impl<'r> ChannelManager<'r> {
         self.asked(entries::spsm, index)
     }
 
-    /// The longest job that we take on this channel; 0 where the slot is closed, and for a peer's request that was never accepted.
+    /// The longest job that we take on this channel: a buffer of so many octets holds every job that waits there ([`receive`](Self::receive)). 0 where the slot is closed, and for a peer's request that was never accepted.
     ///
     /// Refusals: 1, 6.
     pub fn mtu(&self, index: ChannelIndex) -> Result<u16, Refusal> {

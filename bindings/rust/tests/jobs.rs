@@ -39,7 +39,7 @@ fn half_job_is_gone() {
     channels.dispatch(OTHER, second.cid(), &[5, 0, b't', b'i']).unwrap();
     channels.dispatch(OTHER, second.cid(), b"cke").unwrap();
     let taken = channels.receive(second, &mut job, &mut signal).unwrap().unwrap();
-    assert_eq!((taken.handle, taken.sdu, taken.len), (OTHER, &b"ticke"[..], 5));
+    assert_eq!((taken.handle, taken.sdu), (OTHER, &b"ticke"[..]));
     assert_eq!(hex(taken.credits), "0800050016010400".to_owned() + "40000200");
     assert!(channels.room().iter().all(|octet| *octet == 0));
 }
@@ -104,7 +104,7 @@ fn jobs_both_ways() {
             }
             assert_eq!(receiver.attention(), Ok(Attention { set: Slots::from_bits(1), count: 1, lowest: Some(SLOT) }));
             let taken = receiver.receive(SLOT, &mut job, &mut reply).unwrap().unwrap();
-            assert_eq!((taken.handle, taken.sdu, usize::from(taken.len)), (to, &sdu[..], length));
+            assert_eq!((taken.handle, taken.sdu), (to, &sdu[..]));
             // The credits go back to the sender.
             let got = sender.signal(from, true, LeConnRole::Central, &taken.credits[4..], &mut signal);
             assert_eq!(got.outcome, Ok(None));
@@ -129,7 +129,7 @@ fn jobs_both_ways() {
     assert_eq!(phone.next_disconnect(&mut signal), Ok(None));
 }
 
-/// A short buffer gets as much of the job as it holds, and the job's length is told; a job of no octets is a job.
+/// A job is taken once, into a buffer that holds it; a job of no octets is a job.
 #[test]
 fn a_job_is_taken_once() {
     let mut room = [0; ROOM];
@@ -138,13 +138,12 @@ fn a_job_is_taken_once() {
     let mut signal = [0; SIGNAL_OCTETS];
     channels.dispatch(PHONE, index.cid(), &[3, 0, 1, 2, 3]).unwrap();
     channels.dispatch(PHONE, index.cid(), &[0, 0]).unwrap();
-    let mut job = [9; 2];
+    let mut job = [9; 4];
+    assert_eq!(channels.receive(index, &mut job, &mut signal).unwrap().unwrap().sdu, [1, 2, 3]);
     let taken = channels.receive(index, &mut job, &mut signal).unwrap().unwrap();
-    assert_eq!((taken.sdu, taken.len), (&[1, 2][..], 3));
-    let taken = channels.receive(index, &mut job, &mut signal).unwrap().unwrap();
-    assert_eq!((taken.sdu, taken.len, taken.credits), (&[][..], 0, &[][..]));
+    assert_eq!((taken.sdu, taken.credits), (&[][..], &[][..]));
     assert_eq!(channels.receive(index, &mut job, &mut signal), Ok(None));
-    assert_eq!(job, [1, 2]);
+    assert_eq!(job, [1, 2, 3, 9]);
 }
 
 /// Every signal of a PDU is handled, each with its own reply.

@@ -298,6 +298,12 @@ fn refusal_12_insufficient_space() {
     unchanged(&mut channels, Refusal::InsufficientSpace, |channels| channels.send(SLOT, &[1; 101], &mut out).map(|_| ()));
     assert_eq!(out, [0x77; 256]);
     channels.send(SLOT, &[1; 100], &mut out).unwrap();
+    // A take: `takes.rs` has the rest.
+    channels.dispatch(PHONE, SLOT.cid(), &[3, 0, 1, 2, 3]).unwrap();
+    let (mut job, mut signal) = ([0x77; 2], BUFFER);
+    unchanged(&mut channels, Refusal::InsufficientSpace, |channels| channels.receive(SLOT, &mut job, &mut signal).map(|_| ()));
+    assert_eq!((job, signal), ([0x77; 2], BUFFER));
+    assert_eq!(channels.receive(SLOT, &mut [0; 3], &mut signal).unwrap().unwrap().sdu, [1, 2, 3]);
 }
 
 #[test]

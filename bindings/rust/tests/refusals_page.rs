@@ -234,6 +234,16 @@ fn the_other_tests_are_in_its_order() {
     }
     before("dispatch", InvalidValue, QueueFull, channels.dispatch(PHONE, SLOT.cid(), &[1, 0, 1, 2]).err());
 
+    // A job waits in a slot that is closed, as no call leaves it, and the buffer is shorter.
+    let mut room = [0; ROOM];
+    let mut channels = made(&mut room);
+    opened(&mut channels);
+    channels.dispatch(PHONE, SLOT.cid(), &[1, 0, 1]).expect("a job");
+    let mut octets = *channels.table().octets();
+    octets[cell(0, 0)] = 0;
+    let mut channels = ChannelManager::from_parts(Table::from_octets(octets), &mut room);
+    before("receive", ChannelClosed, InsufficientSpace, channels.receive(SLOT, &mut [], &mut signal).err());
+
     // An open channel with an open job.
     let mut room = [0; ROOM];
     let mut channels = made(&mut room);
@@ -383,6 +393,7 @@ fn any_call(name: &str, chance: &mut Chance, channels: &mut ChannelManager<'_>, 
             let most = chance.of(&[5, out.len(), out.len(), out.len()]);
             channels.give_portion(index, &[1; 60][..chance.of(&[0, 1, 22, 60])], &mut out[..most]).err()
         }
+        "receive" => channels.receive(index, &mut [0; 2][..chance.of(&[0, 1, 2])], &mut signal).err(),
         // a run that has no place for an answer
         "dispatch_run" if chance.of(&[true, false]) => channels.dispatch_run(&mut one_frame(&mut [0; 8], link), &mut []).err(),
         "send_run" if chance.of(&[true, false]) => channels.send_run(&mut one_job(&mut [0; 8], index), out, &mut []).err(),

@@ -153,10 +153,9 @@ pub enum Answer {
         link: u16,
         count: usize,
     },
-    // 0, and the job that was taken: octets copied, its length, and the link for the credit signal.
+    // 0, and the job that was taken: its length, and the link for the credit signal.
     Job {
         link: u16,
-        copied: usize,
         length: u16,
     },
     // 0, and the slots that call: a bit each, how many, and the lowest.

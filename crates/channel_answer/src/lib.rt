@@ -96,11 +96,7 @@ pub fn tells(a: Answer) -> Told
         Answer::Opened => plain(OPENED, 0, 0, 0, 0),
         Answer::Due { link, slot } => plain(DUE, link, slot.0 as u16, 0, 0),
         Answer::Frames { link, count } => plain(FRAMES, link, shown(count), 0, 0),
-        Answer::Job {
-            link,
-            copied,
-            length,
-        } => plain(JOB, link, shown(copied), length, 0),
+        Answer::Job { link, length } => plain(JOB, link, length, 0, 0),
         Answer::Attention { set, count, lowest } => plain(
             ATTENTION,
             set,

@@ -99,7 +99,7 @@ module _ (id a b c x y e : ℕ) where
 
   record Channel : Type 0 where
     answered : answers start (calls id a b c x y e)
-        ≡ Done ∷ Done ∷ At (index 0) ∷ Link 1 ∷ Done ∷ Done ∷ Job 1 3 3 ∷ Frames 1 1 ∷ Done ∷ Done ∷ Due 1 (index 0) ∷ Done ∷ Done ∷ []
+        ≡ Done ∷ Done ∷ At (index 0) ∷ Link 1 ∷ Done ∷ Done ∷ Job 1 3 ∷ Frames 1 1 ∷ Done ∷ Done ∷ Due 1 (index 0) ∷ Done ∷ Done ∷ []
     -- our response: CID 0x40, MTU 23, MPS 25, 5 credits, result 0
     response : take 18 (at 4 .memory) ≡ 14 ∷ 0 ∷ 5 ∷ 0 ∷ 0x15 ∷ id ∷ 10 ∷ 0 ∷ 0x40 ∷ 0 ∷ 23 ∷ 0 ∷ 25 ∷ 0 ∷ 5 ∷ 0 ∷ 0 ∷ 0 ∷ []
     -- the first frame's octets stand in the assembly place, the finished job in the place behind it, and later none
@@ -166,7 +166,7 @@ module _ (id a b e : ℕ) where
 
   record NextPhone : Type 0 where
     answered : answers start (accident id a b e)
-        ≡ Done ∷ Done ∷ At (index 0) ∷ Link 1 ∷ Done ∷ Done ∷ Due 1 (index 0) ∷ Done ∷ Done ∷ At (index 0) ∷ Link 2 ∷ Done ∷ Job 2 1 1 ∷ []
+        ≡ Done ∷ Done ∷ At (index 0) ∷ Link 1 ∷ Done ∷ Done ∷ Due 1 (index 0) ∷ Done ∷ Done ∷ At (index 0) ∷ Link 2 ∷ Done ∷ Job 2 1 ∷ []
     half : later 5 .room ≡ a ∷ b ∷ replicate 90 0
     closed : states (later 6) ≡ PeerDisconnecting id ∷ Disconnected ∷ []
     cleared : later 6 .room ≡ replicate 92 0

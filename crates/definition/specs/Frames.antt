@@ -3,10 +3,10 @@
 use mathlib.Core.Bool.{Bool, false, _||_, not}
 use mathlib.Core.List.{List, [], _∷_, _++_}
 use Prim.Native.Nat.{ℕ, zero, suc, _+_, _-_, _*_, min}
-use lib.Dec.{eqb}
+use lib.Dec.{eqb, ltb}
 use lib.ListN.{length, getD, set, drop}
 use Rattle.octets.specs.Octets.{le16, u16At}
-use Rattle.codes.specs.declared.Refusal.the-variants.{InvalidChannelId, NotFound, OutOfMemory, ChannelClosed, QueueFull, JobOpen}
+use Rattle.codes.specs.declared.Refusal.the-variants.{InvalidChannelId, NotFound, OutOfMemory, ChannelClosed, InsufficientSpace, QueueFull, JobOpen}
 use Rattle.credit.specs.declared.Grant.{Grant}
 use Rattle.credit.specs.declared.Grant.the-variants as Grant
 use Rattle.credit.specs.Account.{received, granted, grantOf}
@@ -155,17 +155,13 @@ movingUp t x = upwards (placeOf t) (x .queue .count)
 abbrev pub oldestAt : Table → (slot : ℕ) → ℕ
 oldestAt t s = s * width t + place (placeOf t) 1
 
--- The octets of a slot's oldest job, and how many of them are copied: "min(job, buffer) octets".
+-- How many octets it has.
 abbrev pub oldest : Slot → ℕ
 oldest x = getD (x .queue .lens) 0 0
 
-abbrev pub copied : Slot → (size : ℕ) → ℕ
-copied x size = min (oldest x) size
-
--- The oldest job is copied out; x is the slot with its account as it is left.
-abbrev pub handing : Table → (slot : ℕ) → Slot → (size : ℕ) → List Fill → Outcome
-handing t s x size signal =
-    handout t s (withQueue (shifted (x .queue)) x) (movingUp t x) (Job (x .link) (copied x size) (oldest x)) signal (held (oldestAt t s) (copied x size) ∷ [])
+-- The oldest job is handed out, whole; x is the slot with its account as it is left.
+abbrev pub handing : Table → (slot : ℕ) → Slot → List Fill → Outcome
+handing t s x signal = handout t s (withQueue (shifted (x .queue)) x) (movingUp t x) (Job (x .link) (oldest x)) signal (held (oldestAt t s) (oldest x) ∷ [])
 
 -- "Connected only: Every(k) grants all received when received ≥ k, MinThreshold(t) when credits < t, never 0 credits."
 unfoldable pub grantIn : Slot → Grant
@@ -175,21 +171,23 @@ grantIn x = if isConnected (x .state) then grantOf (x .account) else Grant.Nothi
 abbrev pub crediting : (slot n : ℕ) → LeCreditFlowInd
 crediting s n = record { cid = cidOf s; credits = n }
 
-unfoldable pub taken : Table → (slot : ℕ) → Slot → (size : ℕ) → Grant → Outcome
-taken t s x size Grant.Nothing = handing t s x size []
-taken t s x size (Grant.Credits n) = handing (spent t) s (withAccount (granted (x .account) n) x) size (given (encodeOf (nextId t) (Signal.LeCreditFlowInd (crediting s n))) ∷ [])
+unfoldable pub taken : Table → (slot : ℕ) → Slot → Grant → Outcome
+taken t s x Grant.Nothing = handing t s x []
+taken t s x (Grant.Credits n) = handing (spent t) s (withAccount (granted (x .account) n) x) (given (encodeOf (nextId t) (Signal.LeCreditFlowInd (crediting s n))) ∷ [])
 
 -- Row 11: "taking when free, connecting, pending or failed"
 abbrev pub closed : ChannelState → Bool
 closed k = isDisconnected k || (isConnecting k || (isPeerConnecting k || isConnectFailed k))
 
--- "no job waiting is reported as such .. and writes and grants nothing". Behind the first refusals:
+-- "no job waiting is reported as such .. and writes and grants nothing"; "A buffer shorter than the job should now be refused and the job kept for the next
+-- call, with no credits granted .. 12 then stands after 11" (document 02). Behind the first refusals:
 abbrev pub takenOn : Table → (slot size : ℕ) → Outcome
 takenOn t s size =
     let x = slotAt t s in
     if closed (x .state) then refuse t ChannelClosed
     else if eqb (x .queue .count) 0 then done t
-    else taken t s x size (grantIn x)
+    else if ltb size (oldest x) then refuse t InsufficientSpace
+    else taken t s x (grantIn x)
 
 unfoldable pub receive : Table → (room signal slot size : ℕ) → Outcome
 receive t room signal s size = gate t (Is room) (Is signal) Nothing (Is s) (takenOn t s size)

@@ -3,7 +3,7 @@
 use mathlib.Core.Path.{_≡_, refl, sym, _∙_, ap}
 use mathlib.Core.Bool.{Bool, true, false, _&&_, false≢true}
 use mathlib.Core.List.{List, [], _∷_}
-use Prim.Native.Nat.{ℕ, zero, suc, _+_, _*_, _≤_, _<_, min}
+use Prim.Native.Nat.{ℕ, zero, suc, _+_, _*_, _≤_, _<_}
 use lib.Dec.{eqb, leb}
 use borrow.Author.Tests.{leb-true, leb-false}
 use Rattle.lists.specs.Choose.{choose, if-cases}
@@ -343,26 +343,26 @@ module _ (t : Table) where
   oldest place (suc count) [] z e = omega arith
   oldest place (suc count) (n ∷ lens) z e = leb-true n place (and-left (leb n place) _ e)
 
-  handing-hands : {c : Holder} (t′ : Table) (s size : ℕ) (x : Slot) (signal : List Fill) → t′ .d ≡ t .d → t′ .m ≡ t .m → plainFills signal ≡ true
-      → s < t .n → 1 ≤ t .d → getD (x .queue .lens) 0 0 ≤ placeOf t → Hands t c nobody (holder (slotAt t s)) (handing t′ s x size signal)
-  handing-hands t′ s size x signal ed em q lt one fits =
+  handing-hands : {c : Holder} (t′ : Table) (s : ℕ) (x : Slot) (signal : List Fill) → t′ .d ≡ t .d → t′ .m ≡ t .m → plainFills signal ≡ true
+      → s < t .n → 1 ≤ t .d → getD (x .queue .lens) 0 0 ≤ placeOf t → Hands t c nobody (holder (slotAt t s)) (handing t′ s x signal)
+  handing-hands t′ s x signal ed em q lt one fits =
       let p : ℕ = placeOf t in
       let len : ℕ = getD (x .queue .lens) 0 0 in
       let room : p + len ≤ width t = omega (arith, fits, suc-mul (t .d) p, mul-le-mul-right p one, one-mul p) in
-      let part : OwnPart t (holder (slotAt t s)) (oldestAt t s) (min len size) =
+      let part : OwnPart t (holder (slotAt t s)) (oldestAt t s) len =
       record { slot = s; within = lt; whose = refl; low = omega arith; high = omega (arith, room) } in
       record { out = quiet-fills signal q; tray = rw (ed, em) (more (stored part) none) }
 
-  taken-hands : {c : Holder} (s size : ℕ) (g : Grant) → s < t .n → 1 ≤ t .d → getD (slotAt t s .queue .lens) 0 0 ≤ placeOf t → Hands t c nobody (holder (slotAt t s)) (taken t s (slotAt t s) size g)
+  taken-hands : {c : Holder} (s : ℕ) (g : Grant) → s < t .n → 1 ≤ t .d → getD (slotAt t s .queue .lens) 0 0 ≤ placeOf t → Hands t c nobody (holder (slotAt t s)) (taken t s (slotAt t s) g)
   unfolding taken
-  taken-hands s size Grant.Nothing lt one fits = handing-hands t s size (slotAt t s) [] refl refl refl lt one fits
-  taken-hands s size (Grant.Credits n) lt one fits =
-      handing-hands (spent t) s size (withAccount (granted (slotAt t s .account) n) (slotAt t s)) _ refl refl refl lt one fits
+  taken-hands s Grant.Nothing lt one fits = handing-hands t s (slotAt t s) [] refl refl refl lt one fits
+  taken-hands s (Grant.Credits n) lt one fits =
+      handing-hands (spent t) s (withAccount (granted (slotAt t s .account) n) (slotAt t s)) _ refl refl refl lt one fits
 
   takes-hands : Fit t → {c : Holder} (room signal s size : ℕ) → Hands t c nobody (holder (slotAt t s)) (receive t room signal s size)
   unfolding receive wellFormed slotFits
   takes-hands fit room signal s size =
-      pass-hands (verdict t (Is room) (Is signal) Nothing (Is s)) λ v. else-hands _ _ _ λ _. else-hands _ _ _ λ z.
+      pass-hands (verdict t (Is room) (Is signal) Nothing (Is s)) λ v. else-hands _ _ _ λ _. else-hands _ _ _ λ z. else-hands _ _ _ λ _.
       let x : Slot = slotAt t s in
       let lt : s < t .n = leb-false (t .n) s (pass-slot t (Is room) (Is signal) Nothing s v) in
       let well : wellFormed t ≡ true = pass-well t (Is room) (Is signal) Nothing (Is s) v in
@@ -374,7 +374,7 @@ module _ (t : Table) where
       and-left _ _ (and-right (leb (x .queue .count) (t .d)) _ mine) in
       let sizes : sizesFit (t .n) (t .d) (t .m) ≡ true = and-left (sizesFit (t .n) (t .d) (t .m)) _ well in
       let one : 1 ≤ t .d = leb-true 1 (t .d) (and-left (leb 1 (t .d)) _ (and-right (leb (t .n) slotsMost) _ (and-right (leb 1 (t .n)) _ sizes))) in
-      taken-hands s size (grantIn x) lt one (oldest (placeOf t) (x .queue .count) (x .queue .lens) z jobs-fit)
+      taken-hands s (grantIn x) lt one (oldest (placeOf t) (x .queue .count) (x .queue .lens) z jobs-fit)
 
 -- ---- all calls
 

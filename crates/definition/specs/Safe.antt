@@ -296,21 +296,21 @@ module _ (t : Table) (fit : Fit t) where
   unfolding send
   sends-safe s count out = gate-at on Nothing Nothing Nothing s λ v. else-does on _ _ _ itself λ _. else-does on _ _ _ itself λ _. planned-safe s count v _
 
-  handing-safe : {l : Holder} {t′ : Table} (s size : ℕ) (x : Slot) (signal : List Fill) → Like t t′ → leb (t .n) s ≡ false → holder x ≡ holder (slotAt t s) → Safe t l (handing t′ s x size signal)
-  handing-safe {t′ = t′} s size x signal q a e =
+  handing-safe : {l : Holder} {t′ : Table} (s : ℕ) (x : Slot) (signal : List Fill) → Like t t′ → leb (t .n) s ≡ false → holder x ≡ holder (slotAt t s) → Safe t l (handing t′ s x signal)
+  handing-safe {t′ = t′} s x signal q a e =
       let c = change-does on s {y = withQueue (shifted (x .queue)) x} {ms = movingUp t′ x} {a = Done} {out = signal} q a (kept e refl) in
       record { parts = c .parts; slots = c .slots; width = c .width; fit = c .fit }
 
-  taken-safe : {l : Holder} (s size : ℕ) → leb (t .n) s ≡ false → (g : Grant) → Safe t l (taken t s (slotAt t s) size g)
+  taken-safe : {l : Holder} (s : ℕ) → leb (t .n) s ≡ false → (g : Grant) → Safe t l (taken t s (slotAt t s) g)
   unfolding taken
-  taken-safe s size a Grant.Nothing = handing-safe s size (slotAt t s) _ itself a refl
-  taken-safe s size a (Grant.Credits n) = handing-safe s size (withAccount (granted (slotAt t s .account) n) (slotAt t s)) _ with-id a refl
+  taken-safe s a Grant.Nothing = handing-safe s (slotAt t s) _ itself a refl
+  taken-safe s a (Grant.Credits n) = handing-safe s (withAccount (granted (slotAt t s .account) n) (slotAt t s)) _ with-id a refl
 
   takes-safe : {l : Holder} (room signal s size : ℕ) → Safe t l (receive t room signal s size)
   unfolding receive
   takes-safe room signal s size =
       gate-at on (Is room) (Is signal) Nothing s λ v.
-      else-does on _ _ _ itself λ _. else-does on _ _ _ itself λ _. taken-safe s size v _
+      else-does on _ _ _ itself λ _. else-does on _ _ _ itself λ _. else-does on _ _ _ itself λ _. taken-safe s v _
 
   -- ---- Portions.antt
 

@@ -110,7 +110,7 @@ module _ (a b c d e x y : ℕ) where
   record Story : Type 0 where
     answers : map (λ o. told (o .answer)) (outcomes begin (story a b c d e x y))
         ≡ answered Done ∷ answered Done ∷ answered Done ∷ answered (At (index 0)) ∷ answered (At (index 1)) ∷ answered (Link 1) ∷ answered (Link 2)
-        ∷ answered Done ∷ answered Done ∷ answered Done ∷ answered Done ∷ refused 10 ∷ answered (Job 1 5 5) ∷ answered (Job 2 1 1)
+        ∷ answered Done ∷ answered Done ∷ answered Done ∷ answered Done ∷ refused 10 ∷ answered (Job 1 5) ∷ answered (Job 2 1)
         ∷ answered (Frames 1 3) ∷ refused 14 ∷ answered Done ∷ answered Done ∷ answered Done ∷ answered (Due 2 (index 1)) ∷ answered Done ∷ answered Done ∷ []
     -- the request of the second phone is no second use of the CID
     pendings : seen 3 ≡ (PeerConnecting 7, 0 ∷ 0 ∷ 0 ∷ 3 ∷ []) ∷ (PeerConnecting 7, 0 ∷ 0 ∷ 0 ∷ 3 ∷ []) ∷ []
@@ -595,6 +595,10 @@ grant id cid n = 8 ∷ 0 ∷ 5 ∷ 0 ∷ 0x16 ∷ id ∷ 4 ∷ 0 ∷ cid ∷ 0 �
 abbrev with : CreditFlowControl → Queue → Slot
 with a q = channel Connected 1 1 a (peer 3) (partly 1 2) q
 
+-- a call with a job buffer of so many octets
+abbrev into : (size : ℕ) → Request → Call
+into size r = plain r (window 0 18) (window 18 size)
+
 record Take-lines : Type 0 where
   states : Hold (
       two (free 1) (free 0) ⊢ ask (takes 0) ⇒ no 11  -- each of the four states, before "no job waits"
@@ -604,31 +608,45 @@ record Take-lines : Type 0 where
       ∷ two (with (every 1 2 1) none) (free 0) ⊢ ask (takes 0) ⇒ yes Done  -- no job waits: nothing is granted
       ∷ two (quiet (Disconnecting true) 1 1) (free 0) ⊢ ask (takes 0) ⇒ yes Done
       ∷ two (channel (Disconnecting true) 1 1 (every 1 2 1) (peer 3) idle (one 2)) (free 0) ⊢ ask (takes 0)
-      ⇒ yes (Job 1 2 2) & slots (channel (Disconnecting true) 1 1 (every 1 2 1) (peer 3) idle none) (free 0) & part0 (place 1) (place 0) (place 3) & hands (2 ∷ 2 ∷ [])  -- grants: Connected only
+      ⇒ yes (Job 1 2) & slots (channel (Disconnecting true) 1 1 (every 1 2 1) (peer 3) idle none) (free 0) & part0 (place 1) (place 0) (place 3) & hands (2 ∷ 2 ∷ [])  -- grants: Connected only
       ∷ two (free 0) (channel (PeerDisconnecting 8) 2 1 (every 1 2 1) (peer 3) idle (one 0)) ⊢ ask (takes 1)
-      ⇒ yes (Job 2 0 0) & slots (free 0) (channel (PeerDisconnecting 8) 2 1 (every 1 2 1) (peer 3) idle none) & part1 (place 4) (place 0) (place 6)
+      ⇒ yes (Job 2 0) & slots (free 0) (channel (PeerDisconnecting 8) 2 1 (every 1 2 1) (peer 3) idle none) & part1 (place 4) (place 0) (place 6)
       ∷ [])
   jobs-out : Hold (
-      two (with (every 1 2 1) (both 6 3)) (free 0) ⊢ ask (takes 0)
-      ⇒ yes (Job 1 4 6) & slots (with (every 1 3 0) (one 3)) (free 0) & next 6 & part0 (place 1) (place 3) (place 0)
+      two (with (every 1 2 1) (both 4 3)) (free 0) ⊢ ask (takes 0)  -- as many octets as the buffer has
+      ⇒ yes (Job 1 4) & slots (with (every 1 3 0) (one 3)) (free 0) & next 6 & part0 (place 1) (place 3) (place 0)
       & hands (2 ∷ 2 ∷ 2 ∷ 2 ∷ []) & writes (grant 5 0x40 1)
       ∷ two (free 0) (channel Connected 2 1 (every 1 0 3) (peer 3) idle (one 2)) ⊢ ask (takes 1)
-      ⇒ yes (Job 2 2 2) & slots (free 0) (channel Connected 2 1 (every 1 3 0) (peer 3) idle none) & next 6 & part1 (place 4) (place 0) (place 6)
+      ⇒ yes (Job 2 2) & slots (free 0) (channel Connected 2 1 (every 1 3 0) (peer 3) idle none) & next 6 & part1 (place 4) (place 0) (place 6)
       & hands (5 ∷ 5 ∷ []) & writes (grant 5 0x41 3)
       ∷ [])
+  -- a buffer shorter than the oldest job: all stays, though a grant is due
+  short : Hold (
+      two (with (every 1 2 1) (both 5 3)) (free 0) ⊢ ask (takes 0) ⇒ no 12  -- the later one, which would fit, waits behind it
+      ∷ two (with (every 1 2 1) (one 1)) (free 0) ⊢ into 0 (takes 0) ⇒ no 12
+      ∷ two (free 0) (channel Connected 2 1 (every 1 0 3) (peer 3) idle (one 23)) ⊢ ask (takes 1) ⇒ no 12
+      ∷ two (channel (Disconnecting true) 1 1 (every 1 2 1) (peer 3) idle (one 5)) (free 0) ⊢ ask (takes 0) ⇒ no 12  -- while disconnecting too
+      ∷ two (free 0) (channel (PeerDisconnecting 8) 2 1 (every 1 2 1) (peer 3) idle (one 5)) ⊢ ask (takes 1) ⇒ no 12
+      ∷ two (channel (ConnectFailed NoResources) 1 1 (every 1 2 1) (peer 3) idle (one 5)) (free 0) ⊢ ask (takes 0) ⇒ no 11  -- 11 before 12
+      ∷ two (with (every 1 2 1) (record { count = 0; lens = 5 ∷ 0 ∷ 0 ∷ 0 ∷ [] })) (free 0) ⊢ ask (takes 0) ⇒ yes Done  -- no job waits, whatever the buffer
+      ∷ two (with (every 1 2 1) none) (free 0) ⊢ into 0 (takes 0) ⇒ yes Done
+      ∷ two (with (every 2 1 1) (one 0)) (free 0) ⊢ into 0 (takes 0) ⇒ yes (Job 1 0) & slots (with (every 2 1 1) none) (free 0) & part0 (place 1) (place 0) (place 3)
+      ∷ [])
+  -- 3 before 12, for a signal buffer of 17
+  signal-first : answerNumber (decide (two (with (every 1 2 1) (one 5)) (free 0)) (ask (takes 0)) 0 138 17 4 .answer) ≡ 3
   -- a job of 0 octets taken: what is granted
   policies : Hold (
-      two (with (every 2 1 1) (one 0)) (free 0) ⊢ ask (takes 0) ⇒ yes (Job 1 0 0) & slots (with (every 2 1 1) none) (free 0) & part0 (place 1) (place 0) (place 3)  -- received 1, under 2
-      ∷ two (with (every 2 1 2) (one 0)) (free 0) ⊢ ask (takes 0) ⇒ yes (Job 1 0 0) & slots (with (every 2 3 0) none) (free 0) & part0 (place 1) (place 0) (place 3) & next 6 & writes (grant 5 0x40 2)
-      ∷ two (with (every 0 3 0) (one 0)) (free 0) ⊢ ask (takes 0) ⇒ yes (Job 1 0 0) & slots (with (every 0 3 0) none) (free 0) & part0 (place 1) (place 0) (place 3)  -- never 0 credits
-      ∷ two (with (threshold 2 2 1) (one 0)) (free 0) ⊢ ask (takes 0) ⇒ yes (Job 1 0 0) & slots (with (threshold 2 2 1) none) (free 0) & part0 (place 1) (place 0) (place 3)  -- 2 held, not under 2
-      ∷ two (with (threshold 2 1 2) (one 0)) (free 0) ⊢ ask (takes 0) ⇒ yes (Job 1 0 0) & slots (with (threshold 2 3 0) none) (free 0) & part0 (place 1) (place 0) (place 3) & next 6 & writes (grant 5 0x40 2)
-      ∷ two (with (threshold 2 0 0) (one 0)) (free 0) ⊢ ask (takes 0) ⇒ yes (Job 1 0 0) & slots (with (threshold 2 0 0) none) (free 0) & part0 (place 1) (place 0) (place 3)  -- never 0 credits
+      two (with (every 2 1 1) (one 0)) (free 0) ⊢ ask (takes 0) ⇒ yes (Job 1 0) & slots (with (every 2 1 1) none) (free 0) & part0 (place 1) (place 0) (place 3)  -- received 1, under 2
+      ∷ two (with (every 2 1 2) (one 0)) (free 0) ⊢ ask (takes 0) ⇒ yes (Job 1 0) & slots (with (every 2 3 0) none) (free 0) & part0 (place 1) (place 0) (place 3) & next 6 & writes (grant 5 0x40 2)
+      ∷ two (with (every 0 3 0) (one 0)) (free 0) ⊢ ask (takes 0) ⇒ yes (Job 1 0) & slots (with (every 0 3 0) none) (free 0) & part0 (place 1) (place 0) (place 3)  -- never 0 credits
+      ∷ two (with (threshold 2 2 1) (one 0)) (free 0) ⊢ ask (takes 0) ⇒ yes (Job 1 0) & slots (with (threshold 2 2 1) none) (free 0) & part0 (place 1) (place 0) (place 3)  -- 2 held, not under 2
+      ∷ two (with (threshold 2 1 2) (one 0)) (free 0) ⊢ ask (takes 0) ⇒ yes (Job 1 0) & slots (with (threshold 2 3 0) none) (free 0) & part0 (place 1) (place 0) (place 3) & next 6 & writes (grant 5 0x40 2)
+      ∷ two (with (threshold 2 0 0) (one 0)) (free 0) ⊢ ask (takes 0) ⇒ yes (Job 1 0) & slots (with (threshold 2 0 0) none) (free 0) & part0 (place 1) (place 0) (place 3)  -- never 0 credits
       ∷ [])
 
 take-lines : Take-lines
 unfolding after decide serve jobs bare receive taken grantIn grantOf due verdict wellFormed slotFits Each.every first only choose parts moves move fill fills written encodeOf
-take-lines = record { states = refl; jobs-out = refl; policies = refl }
+take-lines = record { states = refl; jobs-out = refl; short = refl; signal-first = refl; policies = refl }
 
 -- ---- registering, asking, the two senders
 
@@ -900,7 +918,8 @@ making-lines = record { limits = refl; short = refl; no-slots = refl; left = ref
 --                long-frames: MPS 1, 3, at the limit 2, 4, 11; state > MPS 5; link > MPS 6; credit > MPS 7; MPS > 19 8, > 21 9, 10
 -- first frame    idle 12, 13; 19 1, > MTU 2; MTU 3, 4; more 5, > 21 6; fewer 7, > 21 8; 21 9. Joining: not idle 3, 4, 6; overrun 1, > 21 2; fewer 3, > 21 3; 21 5
 -- send           11 1, > 12 2; 12 3, > 23 4; 23 5, > 20 6; 20 7, > 14 8; 14 9, > 3 10; 3 11
--- take           each state > none: states 1 to 4; none 5; grants Connected only 7, 8; never 0 policies 3, 6; Every 1, 2; MinThreshold 4, 5
+-- take           each state > none: states 1 to 4; none 5; grants Connected only 7, 8; never 0 policies 3, 6; Every 1, 2; MinThreshold 4, 5.
+--                short: 12 1 to 5, at the job's length jobs-out 1; signal buffer > 12 signal-first; state > 12 6; none > 12 7, none into 0 octets 8; 0 octets into 0 9
 -- attention      a job 3; a disconnect due 2, 5; ConnectFailed 4. Lowest free: Disconnected, no hold: lowest-free
 -- every state    of each test of a state, in each of the states: State-lines
 --

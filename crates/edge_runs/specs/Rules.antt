@@ -1,10 +1,10 @@
 -- The rules of every run, at the octets: what a run of entries from a making that returns 0 reaches is a state that a run of the definition reaches, spelled
--- (`reached`); so the room rule, the fresh-slot rule and exact rejoining hold of its octets. `stateOf` reads the table from its octets.
+-- (`reached`); so the room rule, the fresh-slot rule, exact rejoining and the law of a take hold of its octets. `stateOf` reads the table from its octets.
 use mathlib.Core.Path.{_≡_, refl, sym, ap, _∙_, subst}
 use mathlib.Core.Bool.{true, false}
 use mathlib.Core.List.{List, [], _∷_}
 use mathlib.Core.Logic.{inl}
-use Prim.Native.Nat.{ℕ, _+_, _*_, _≤_, _<_}
+use Prim.Native.Nat.{ℕ, suc, _+_, _-_, _*_, _≤_, _<_}
 use native.Mathlib.Omega.{arith}
 use lib.ListN.{length, take, getD}
 use lib.Seq.{sets, take-all}
@@ -33,11 +33,14 @@ use Rattle.rules.specs.Run as Run
 use Rattle.rules.specs.Forms.{gate-cases}
 use Rattle.rules.specs.Places.{jobIn}
 use Rattle.rules.specs.RoomRule.{Empty, room-rule, unbegun-empty, free-fresh, new-connection, connection-begins}
-use Rattle.rules.specs.Rules.{well-formed, identifiers, credit-sum, peer-least, never-20}
+use Rattle.rules.specs.Rules.{well-formed, identifiers, credit-sum, peer-least, never-20, within-mtu}
+use Rattle.rules.specs.Sound.{Within}
 use Rattle.rules.specs.Tests.{begun, offered}
 use Rattle.rules_jobs.specs.Rejoin.{jobAt, Receiver, Rejoined, Unchanged, Arrives}
 use Rattle.rules_jobs.specs.Rejoin as Rejoin
-use Rattle.rules_jobs.specs.Sending.{sends-frames, exact-rejoining, exact-taking}
+use Rattle.rules_jobs.specs.Taking.{takes-waiting, short-refused, short-only, mtu-suffices, HandsOut}
+use Rattle.rules_jobs.specs.Taking as Taking
+use Rattle.rules_jobs.specs.Sending.{sends-frames, exact-rejoining, exact-taking, sent-comes-out}
 use Rattle.edge_asking.specs.Asking.{makeEdge}
 use Rattle.edge_sized.specs.Sized.{after-sized}
 use Rattle.edge_runs.specs.Entries as Entries
@@ -91,7 +94,7 @@ unfolding spells
 entered-state r a apart o = let p = spells r in said (spells (next a r apart o)) ∙ ap (λ (x : State). after x (callIn a)) (sym (said p))
 
 -- ---- the table that the octets spell is never one that 1 refuses; identifiers are 1 to 255; credits held plus received never pass 65,535; a PeerConnecting or
--- Connected slot's peer MTU and MPS are at least 23
+-- Connected slot's peer MTU and MPS are at least 23; what waits in a slot, and what arrives there, is no longer than its MTU
 
 pub well-formed-at : {s : EdgeState} → ReachedAt s → wellFormed (stateOf s .table) ≡ true
 well-formed-at r = well-formed (reached r)
@@ -105,6 +108,10 @@ credit-sum-at r = credit-sum (reached r)
 pub peer-least-at : {s : EdgeState} → ReachedAt s → (i : ℕ) → i < stateOf s .table .n → offered (slotAt (stateOf s .table) i .state) ≡ true
     → (sizeLeast ≤ slotAt (stateOf s .table) i .peer .mtu) × (sizeLeast ≤ slotAt (stateOf s .table) i .peer .mps)
 peer-least-at r = peer-least (reached r)
+
+pub within-mtu-at : {s : EdgeState} → ReachedAt s → (i : ℕ) → i < stateOf s .table .n
+    → Within (slotAt (stateOf s .table) i .mtu) (slotAt (stateOf s .table) i .assembly) (slotAt (stateOf s .table) i .queue)
+within-mtu-at r = within-mtu (reached r)
 
 -- ---- "Every octet of room that holds no octet of a live job is zero": octet j of place k of slot i
 
@@ -218,9 +225,13 @@ exact-rejoining-at {sender} q w j sdu answer e {s} r i link handle v z m b arriv
     let f = sends-frames (stateOf sender) j sdu w (a .link) (a .count) (a .is) in
     exact-rejoining (stateOf sender) j sdu w (a .link) (a .count) (a .is) i link handle (reached r) (subst (λ (n : ℕ). Receiver (stateOf s) i link n) (f .count) v) z m b (arrives arrived r)
 
--- Where no job waited before it, the next l2cap_receive returns 0 and hands out the SDU: it stands at the start of the job buffer.
+-- Where no job waited before it, the next l2cap_receive whose buffer holds it returns 0 and hands out the SDU: it stands at the start of the job buffer.
 abbrev pub taking : (w v : Window) (slot : ℕ) (answer : List ℕ) → Asked
 taking w v slot answer = record { entry = Entries.receive w v slot; answer = answer }
+
+-- what is handed out stands at the start of the buffer that holds it
+stands : (buffer xs : List ℕ) → length xs ≤ length buffer → take (length xs) (sets buffer 0 xs) ≡ xs
+stands buffer xs big = over-take (length xs) buffer xs (omega arith) ∙ ap (take (length xs)) (take-all (length buffer) xs big) ∙ take-all (length xs) xs (omega arith)
 
 pub exact-taking-at : {s : EdgeState} → ReachedAt s → (i : ℕ) (sdu : List ℕ) (others : ℕ → List ℕ) → Rejoined (stateOf s) i sdu 0 others → (w v : Window) (answer : List ℕ)
     → signalMost ≤ length (lent w (s .memory)) → length sdu ≤ length (lent v (s .memory))
@@ -229,7 +240,87 @@ unfolding jobs
 exact-taking-at {s} r i sdu others h w v answer l big =
     let a = taking w v i answer in
     let t = exact-taking (reached r) i sdu others h w v l big in
-    let e : edgeOf s a .job ≡ sets (lent v (s .memory)) 0 sdu = job-at r a ∙ ap (sets (lent v (s .memory)) 0) (t .0) in (
-      number-at r a ∙ ap answerNumber (t .1),
-      ap (take (length sdu)) e ∙ over-take (length sdu) (lent v (s .memory)) sdu (omega arith) ∙ ap (take (length sdu)) (take-all (length (lent v (s .memory))) sdu big) ∙ take-all (length sdu) sdu (omega arith),
+    (number-at r a ∙ ap answerNumber (t .1), ap (take (length sdu)) (job-at r a ∙ ap (sets (lent v (s .memory)) 0) (t .0)) ∙ stands (lent v (s .memory)) sdu big)
+
+-- ---- the law of a take: an l2cap_receive that returns 0 where a job waits leaves the whole job at the start of its buffer, and the others one nearer
+
+pub takes-whole-at : {s : EdgeState} → ReachedAt s → (i : ℕ) (w v : Window) (answer : List ℕ) → Apart w v → 0 < slotIn s i .queue .count → edgeOf s (taking w v i answer) .number ≡ 0
+    → (take (length (jobAt (stateOf s) i 0)) (edgeOf s (taking w v i answer) .job) ≡ jobAt (stateOf s) i 0)
+    × (slotIn (entered s (taking w v i answer)) i .queue .count ≡ slotIn s i .queue .count - 1)
+    × ((k : ℕ) → suc k < slotIn s i .queue .count → jobAt (stateOf (entered s (taking w v i answer))) i k ≡ jobAt (stateOf s) i (suc k))
+unfolding jobs
+takes-whole-at {s} r i w v answer apart c e =
+    let a = taking w v i answer in
+    let t = takes-waiting (reached r) i w v c (sym (number-at r a) ∙ e) in
+    let z = entered-state r a apart tt in (
+      ap (take (length (jobAt (stateOf s) i 0))) (job-at r a ∙ ap (sets (lent v (s .memory)) 0) (t .octets)) ∙ stands (lent v (s .memory)) (jobAt (stateOf s) i 0) (t .fits),
+      ap (λ (x : State). slotAt (x .table) i .queue .count) z ∙ t .count,
+      (λ k l. ap (λ (x : State). jobAt x i k) z ∙ t .others k l),
     )
+
+-- Into a buffer that is too short nothing is taken: it returns 12, and table, room and memory are the octets that they were. It returns 12 nowhere else, and a buffer of the
+-- slot's MTU never is too short.
+pub short-refused-at : {s : EdgeState} → ReachedAt s → (i : ℕ) → i < stateOf s .table .n → begun (slotIn s i .state) ≡ true → 0 < slotIn s i .queue .count
+    → (w v : Window) (answer : List ℕ) → Apart w v → signalMost ≤ length (lent w (s .memory)) → length (lent v (s .memory)) < length (jobAt (stateOf s) i 0)
+    → (edgeOf s (taking w v i answer) .number ≡ 12) × (entered s (taking w v i answer) ≡ s)
+short-refused-at {s} r i h b c w v answer apart l f =
+    let a = taking w v i answer in
+    let t = short-refused (reached r) i h b c w v l f in
+    (number-at r a ∙ ap answerNumber (t .0), spelling (next a r apart tt) ∙ ap spelled (entered-state r a apart tt ∙ t .1) ∙ sym (spelling r))
+
+pub short-only-at : {s : EdgeState} → ReachedAt s → (i : ℕ) (w v : Window) (answer : List ℕ) → edgeOf s (taking w v i answer) .number ≡ 12
+    → (i < stateOf s .table .n) × (0 < slotIn s i .queue .count) × (length (lent v (s .memory)) < length (jobAt (stateOf s) i 0))
+short-only-at r i w v answer e = short-only (reached r) i w v (sym (number-at r (taking w v i answer)) ∙ e)
+
+pub mtu-suffices-at : {s : EdgeState} → ReachedAt s → (i : ℕ) (w v : Window) (answer : List ℕ) → slotIn s i .mtu ≤ length (lent v (s .memory)) → edgeOf s (taking w v i answer) .number ≡ 12 → ⊥
+mtu-suffices-at r i w v answer m e = mtu-suffices (reached r) i w v m (sym (number-at r (taking w v i answer)) ∙ e)
+
+-- ---- what was sent is what comes out
+
+-- From s to s′ there are n calls of l2cap_receive on slot i that return 0; and other entries, whatever they do, after which no fewer jobs wait there.
+pub data HandsOutAt (i : ℕ) : ℕ → EdgeState → EdgeState → Type 0 where
+  all : {s : EdgeState} → HandsOutAt i 0 s s
+  between : {n : ℕ} {s s′ : EdgeState} (a : Asked) → Apart (outWindow (callIn a)) (jobWindow (callIn a)) → InOctets (a .entry) → slotIn s i .queue .count ≤ slotIn (entered s a) i .queue .count → HandsOutAt i n (entered s a) s′
+      → HandsOutAt i n s s′
+  handed : {n : ℕ} {s s′ : EdgeState} (w v : Window) (answer : List ℕ) → Apart w v → edgeOf s (taking w v i answer) .number ≡ 0 → HandsOutAt i n (entered s (taking w v i answer)) s′ → HandsOutAt i (suc n) s s′
+
+-- (the run goes on)
+record Handing (i n : ℕ) (s s′ : EdgeState) : Type 0 where
+  out : HandsOut i n (stateOf s) (stateOf s′)
+  reached : ReachedAt s′
+
+hands-out : {i n : ℕ} {s s′ : EdgeState} → HandsOutAt i n s s′ → ReachedAt s → Handing i n s s′
+hands-out all r = record { out = Taking.all; reached = r }
+hands-out {i} {n} {s} {s′} (between a h o u v) r =
+    let e = entered-state r a h o in
+    let z = hands-out v (next a r h o) in
+    record {
+      out = Taking.between (callIn a) (entry-fits (a .entry) o) (subst (λ (x : State). slotIn s i .queue .count ≤ slotAt (x .table) i .queue .count) e u) (subst (λ (x : State). HandsOut i n x (stateOf s′)) e (z .out));
+      reached = z .reached;
+    }
+hands-out {i} {s = s} {s′} (handed {n} w v answer h e q) r =
+    let a = taking w v i answer in
+    let z = hands-out q (next a r h tt) in
+    record { out = Taking.handed w v (sym (number-at r a) ∙ e) (subst (λ (x : State). HandsOut i n x (stateOf s′)) (entered-state r a h tt) (z .out)); reached = z .reached }
+
+arrived : {i link : ℕ} {ps : List (List ℕ)} {s s′ : EdgeState} → ArrivesAt i link ps s s′ → ReachedAt s → ReachedAt s′
+arrived all r = r
+arrived (between a h o u v) r = arrived v (next a r h o)
+arrived {i} {link} (comes p answer v) r = arrived v (next (framing link i p answer) r (inl (omega arith)) tt)
+
+-- An l2cap_send returned 0, its frames came to a receiver, as above, the jobs that waited there before it are taken, and by no other entry do fewer jobs wait there. Then an
+-- l2cap_receive that returns 0 leaves the SDU at the start of its buffer.
+pub sent-comes-out-at : {sender : EdgeState} → ReachedAt sender → (x : Window) (j : ℕ) (sdu answer : List ℕ) → edgeOf sender (sending x j sdu answer) .number ≡ 0
+    → {s s′ s″ : EdgeState} → ReachedAt s → (i link : ℕ) → link ≤ handleMost → Receiver (stateOf s) i link (length (payloads (slotIn sender j .peer .mps) sdu))
+    → slotIn s i .assembly .want ≡ 0 → length sdu ≤ slotIn s i .mtu → AllWithin (slotIn s i .mps) (payloads (slotIn sender j .peer .mps) sdu) → ArrivesAt i link (payloads (slotIn sender j .peer .mps) sdu) s s′
+    → HandsOutAt i (slotIn s i .queue .count) s′ s″
+    → (w v : Window) (answer′ : List ℕ) → edgeOf s″ (taking w v i answer′) .number ≡ 0 → take (length sdu) (edgeOf s″ (taking w v i answer′) .job) ≡ sdu
+unfolding jobs
+sent-comes-out-at {sender} q x j sdu answer e {s} {s″ = s″} r i link handle k z m b came out w v answer′ f =
+    let a = send-answered (stateOf sender) j sdu x (sym (number-at q (sending x j sdu answer)) ∙ e) in
+    let n = sends-frames (stateOf sender) j sdu x (a .link) (a .count) (a .is) .count in
+    let o = hands-out out (arrived came r) in
+    let c = taking w v i answer′ in
+    let y = sent-comes-out (stateOf sender) j sdu x (a .link) (a .count) (a .is) i link handle (reached r) (subst (λ (n : ℕ). Receiver (stateOf s) i link n) n k) z m b (arrives came r)
+    (o .out) w v (sym (number-at (o .reached) c) ∙ f) in
+    ap (take (length sdu)) (job-at (o .reached) c ∙ ap (sets (lent v (s″ .memory)) 0) (y .0)) ∙ stands (lent v (s″ .memory)) sdu (y .2)

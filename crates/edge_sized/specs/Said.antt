@@ -238,14 +238,14 @@ module _ (t : Table) where
 
   -- ---- Frames.antt: a take
 
-  taken-worked : (s size : ℕ) (x : Slot) (g : Grant) → Worked (taken t s x size g)
+  taken-worked : (s : ℕ) (x : Slot) (g : Grant) → Worked (taken t s x g)
   unfolding taken
-  taken-worked s size x Grant.Nothing = leaf refl refl refl
-  taken-worked s size x (Grant.Credits n) = leaf refl refl refl
+  taken-worked s x Grant.Nothing = leaf refl refl refl
+  taken-worked s x (Grant.Credits n) = leaf refl refl refl
 
   takes-worked : (room signal s size : ℕ) → Worked (receive t room signal s size)
   unfolding receive
-  takes-worked room signal s size = gated t (Is room) (Is signal) Nothing (Is s) (either _ (leaf refl refl refl) (either _ (leaf refl refl refl) (taken-worked s size _ _)))
+  takes-worked room signal s size = gated t (Is room) (Is signal) Nothing (Is s) (either _ (leaf refl refl refl) (either _ (leaf refl refl refl) (either _ (leaf refl refl refl) (taken-worked s _ _))))
 
   -- ---- Portions.antt: a start, a cancel
 

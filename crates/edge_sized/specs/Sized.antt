@@ -257,21 +257,21 @@ module _ (t : Table) (w : Sized t) where
   unfolding send
   sends-keeps s count out = gate-at w Nothing Nothing Nothing s λ v. else-keeps w _ _ _ itself λ _. else-keeps w _ _ _ itself λ _. planned-keeps s count v _
 
-  handing-keeps : {t′ : Table} (s size : ℕ) (x : Slot) (signal : List Fill) → Like t t′ → leb (t .n) s ≡ false → Long x → Kept t (handing t′ s x size signal)
-  handing-keeps {t′ = t′} s size x signal q a h =
+  handing-keeps : {t′ : Table} (s : ℕ) (x : Slot) (signal : List Fill) → Like t t′ → leb (t .n) s ≡ false → Long x → Kept t (handing t′ s x signal)
+  handing-keeps {t′ = t′} s x signal q a h =
       let c = change-keeps w (withQueue (shifted (x .queue)) x) (movingUp t′ x) s {a = Done} {out = signal} q a (shifted-long (x .queue) h) in
       record { sized = c .sized; n = c .n; past = c .past }
 
-  taken-keeps : (s size : ℕ) → leb (t .n) s ≡ false → (g : Grant) → Kept t (taken t s (slotAt t s) size g)
+  taken-keeps : (s : ℕ) → leb (t .n) s ≡ false → (g : Grant) → Kept t (taken t s (slotAt t s) g)
   unfolding taken
-  taken-keeps s size a Grant.Nothing = handing-keeps s size (slotAt t s) _ itself a (old s)
-  taken-keeps s size a (Grant.Credits n) = handing-keeps s size (withAccount (granted (slotAt t s .account) n) (slotAt t s)) _ with-id a (old s)
+  taken-keeps s a Grant.Nothing = handing-keeps s (slotAt t s) _ itself a (old s)
+  taken-keeps s a (Grant.Credits n) = handing-keeps s (withAccount (granted (slotAt t s .account) n) (slotAt t s)) _ with-id a (old s)
 
   takes-keeps : (room signal s size : ℕ) → Kept t (receive t room signal s size)
   unfolding receive
   takes-keeps room signal s size =
       gate-at w (Is room) (Is signal) Nothing s λ v.
-      else-keeps w _ _ _ itself λ _. else-keeps w _ _ _ itself λ _. taken-keeps s size v _
+      else-keeps w _ _ _ itself λ _. else-keeps w _ _ _ itself λ _. else-keeps w _ _ _ itself λ _. taken-keeps s v _
 
   -- ---- Portions.antt
 

@@ -460,8 +460,8 @@ pub extern "C" fn l2cap_signal_rest(pdu: &[u8]) -> usize
 // The version of this edge, the header's L2CAP_CHANNELS_VERSION. The number is in the name too: it goes up when an entry's parameters, the table's layout or the answer's
 // change, so that a header and an archive of different versions are not linked.
 #[no_mangle]
-pub extern "C" fn l2cap_version_2() -> u32
-    ensures { λ r. ⌜ r ≡ 2 ⌝ }
+pub extern "C" fn l2cap_version_3() -> u32
+    ensures { λ r. ⌜ r ≡ 3 ⌝ }
 {
-    2
+    3
 }

@@ -164,8 +164,8 @@ module _ (z a b c x y p e u v w : ℕ) where
 
   record Told : Type 0 where
     answered : map (λ o. o .answer) (outcomes (start z) (calls a b c x y p e u v w))
-        ≡ Done ∷ Done ∷ At (index 0) ∷ Link 1 ∷ Done ∷ At (index 1) ∷ Link 2 ∷ Done ∷ Done ∷ Refused Refusal.NotFound ∷ Done ∷ Job 1 3 3 ∷ Job 2 1 1 ∷ Frames 1 1 ∷ Frames 2 1
-        ∷ Done ∷ Refused Refusal.BadHandle ∷ Done ∷ Done ∷ Done ∷ At (index 0) ∷ Link 1 ∷ Done ∷ Job 1 1 1 ∷ Done ∷ []
+        ≡ Done ∷ Done ∷ At (index 0) ∷ Link 1 ∷ Done ∷ At (index 1) ∷ Link 2 ∷ Done ∷ Done ∷ Refused Refusal.NotFound ∷ Done ∷ Job 1 3 ∷ Job 2 1 ∷ Frames 1 1 ∷ Frames 2 1
+        ∷ Done ∷ Refused Refusal.BadHandle ∷ Done ∷ Done ∷ Done ∷ At (index 0) ∷ Link 1 ∷ Done ∷ Job 1 1 ∷ Done ∷ []
     -- every signal, octet by octet, and link 2's job and frame; link 1's jobs and frames are not in it
     given : handed 1 (start z) (calls a b c x y p e u v w)
         ≡ replicate 3 (gives [] [])

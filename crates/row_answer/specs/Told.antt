@@ -17,7 +17,7 @@ columnsIn x =
     (choose (eqb (x .kind) Kind.opened) (1 ∷ [])  -- "1 where a hold was taken"
     (choose (eqb (x .kind) Kind.due) (x .first ∷ x .second ∷ [])  -- "link and slot"
     (choose (eqb (x .kind) Kind.frames) (x .second ∷ [])  -- the number of frames
-    (choose (eqb (x .kind) Kind.job) (x .second ∷ x .third ∷ [])  -- "copied, job length"
+    (choose (eqb (x .kind) Kind.job) (x .second ∷ x .second ∷ [])  -- "the job's length, twice"
     (choose (eqb (x .kind) Kind.attention) (x .first ∷ x .second ∷ x .third ∷ [])  -- "the set, the number of slots calling, the lowest"
     (choose (eqb (x .kind) Kind.number) (x .first ∷ [])
     (choose (eqb (x .kind) Kind.event) (x .first ∷ x .second ∷ x .third ∷ x .fourth ∷ [])  -- "min max latency timeout"

@@ -56,7 +56,7 @@ pub fn columns_of(x: Told) -> Columns
     if kind == JOB {
         return Columns {
             count: 2,
-            numbers: [x.second, x.third, 0, 0],
+            numbers: [x.second, x.second, 0, 0],
         };
     }
     if kind == ATTENTION {

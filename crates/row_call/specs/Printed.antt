@@ -19,7 +19,7 @@ use Rattle.channel_answer.specs.Tells.{tells}
 unfoldable pub openedText : Answer → List ℕ
 openedText a = choose (eqb (tells a .kind) Kind.done) (moreText a [] (0 ∷ [])) (rowText a [])
 
--- `B`: "copied, job length, the credit signal's octets or `-`; none of these where no job waits"
+-- `B`: "the job's length, twice; the credit signal's octets or `-`; none of these where no job waits"
 abbrev jobText : Answer → (job signal : List ℕ) → List ℕ
 jobText a job signal = ((answerText a job ++ text " ") ++ hexText signal) ++ text "\n"
 

@@ -35,7 +35,7 @@ pub fn opened(row: &mut [u8], a: Answer) -> usize
     }
 }
 
-// `B`: a job's octets, as many as were copied, its lengths and the credit signal.
+// `B`: a job's octets, its length twice and the credit signal.
 pub fn taken(row: &mut [u8], a: Answer, job: &[u8], signal: &[u8]) -> usize
     ensures { λ r. ⌜ Writes (now (row .entry)) 0 (takenText a (now (job .entry)) (now (signal .entry))) r (now (row .exit)) ⌝ }
 {

@@ -395,15 +395,15 @@ module _ (t : Table) (k room : ℕ) (l : t .n ≤ length (t .slots)) (well : wel
 
   -- ---- frames and jobs
 
-  -- a take's outcome is that of the change, but for what is copied out
+  -- a take's outcome is that of the change, but for what is handed out
   with-job : {o : Outcome} (j : List Fill) → Stepped t k o → Stepped t k (record { answer = o .answer; table = o .table; parts = o .parts; at = o .at; out = o .out; octets = o .octets; job = j })
   with-job j p = record { answer = p .answer; n = p .n; d = p .d; m = p .m; long = p .long; identifier = p .identifier; slots = p .slots }
 
-  taken-steps : (s size : ℕ) → s < t .n → begun (slotAt t s .state) ≡ true → 0 < slotAt t s .queue .count → (g : Grant)
-      → ((n : ℕ) → g ≡ Grant.Credits n → grantOf (slotAt t s .account) ≡ Grant.Credits n) → Stepped t k (taken t s (slotAt t s) size g)
+  taken-steps : (s : ℕ) → s < t .n → begun (slotAt t s .state) ≡ true → 0 < slotAt t s .queue .count → (g : Grant)
+      → ((n : ℕ) → g ≡ Grant.Credits n → grantOf (slotAt t s .account) ≡ Grant.Credits n) → Stepped t k (taken t s (slotAt t s) g)
   unfolding taken
-  taken-steps s size h b c Grant.Nothing f = with-job _ (stepped-change t k s _ _ h l (go (goes-on (begun-live (slotAt t s .state) b) b refl (λ f. f)) same (hand b c) stay) _ _ refl)
-  taken-steps s size h b c (Grant.Credits n) f =
+  taken-steps s h b c Grant.Nothing f = with-job _ (stepped-change t k s _ _ h l (go (goes-on (begun-live (slotAt t s .state) b) b refl (λ f. f)) same (hand b c) stay) _ _ refl)
+  taken-steps s h b c (Grant.Credits n) f =
       with-job _ (stepped-change-spent t k s _ _ h l (go (goes-on (begun-live (slotAt t s .state) b) b refl (λ f. f)) (grant (f n refl)) (hand b c) stay) _ _ refl (told (Signal.LeCreditFlowInd (record { cid = cidOf s; credits = n }))))
 
   receive-steps : (signal s size : ℕ) → Stepped t k (receive t room signal s size)
@@ -412,7 +412,8 @@ module _ (t : Table) (k room : ℕ) (l : t .n ≤ length (t .slots)) (well : wel
       stepped-gate t k _ _ _ _ well sized
       (λ h. if-cases P _ (λ _. stays refl)
       (λ e. if-cases P _ (λ _. stays refl)
-      (λ c. taken-steps s size h (takes-begun (slotAt t s .state) e) (let z = eqb-false (slotAt t s .queue .count) 0 c in omega arith) _ (granted-in (slotAt t s)))))
+      (λ c. if-cases P _ (λ _. stays refl)
+      (λ _. taken-steps s h (takes-begun (slotAt t s .state) e) (let z = eqb-false (slotAt t s .queue .count) 0 c in omega arith) _ (granted-in (slotAt t s))))))
 
   -- ---- a frame that comes as the definition says
   dispatch-steps : (link cid : ℕ) (head : List ℕ) → ((s : ℕ) → s < t .n → Sound (t .d) (placeOf t) (slotAt t s))
@@ -431,7 +432,7 @@ module _ (t : Table) (k room : ℕ) (l : t .n ≤ length (t .slots)) (well : wel
       let h = cid-within t cid on in
       let ok = sound s h in
       stepped-joined t k s h l (not-false (isConnected (x .state)) c) (eqb-false (x .account .credits) 0 z) _
-      (step-joins (placeOf t) (t .d) (x .assembly) (x .queue .count) k (ok .holding .closed) (x .mtu) (x .mps) (u16At head 0) head (ok .mtu) (ok .holding .want) (headed on)))))))
+      (step-joins (t .d) (x .assembly) (x .queue .count) k (ok .holding .closed) (x .mtu) (x .mps) (u16At head 0) head (ok .within .want) (headed on)))))))
 
   -- a Connected slot's peer MPS is at least 23
   wide : ((s : ℕ) → s < t .n → Sound (t .d) (placeOf t) (slotAt t s)) → (s : ℕ) → s < t .n → isConnected (slotAt t s .state) ≡ true → sizeLeast ≤ slotAt t s .peer .mps

@@ -5,12 +5,13 @@ use mathlib.Core.List.{List, [], _∷_, map}
 use Prim.Native.Nat.{ℕ, zero, suc, _≤_, _<_}
 use native.Mathlib.Nat.{not-suc-le-zero, le-of-suc-le-suc}
 use native.Mathlib.Omega.{arith}
-use lib.Dec.{eqb}
+use lib.Dec.{eqb, lit≤}
 use lib.ListN.{length, getD, take, set, length-set, length-take}
 use lib.Seq.{getD-take, take-set-lt}
 use Rattle.lists.specs.Choose.{choose, if-cases}
 use Rattle.lists.specs.First.{first-passes}
 use Rattle.lists.specs.Each.{take-mapFirst, length-mapFirst}
+use Rattle.codes.specs.Codes.{refusalNumber}
 use Rattle.codes.specs.declared.Refusal.{Refusal}
 use Rattle.channel.specs.declared.Answer.{Answer}
 use Rattle.channel.specs.declared.Given.{Given}
@@ -117,11 +118,17 @@ stepped-gate t k room signal link slot {o} well sized f =
     P : Verdict → Type 0
     P v = Stepped t k (passed t v o)
 
--- and for whatever else holds of an outcome
-pub gate-cases : (P : Outcome → Type 0) (t : Table) (room signal link slot : Given) {o : Outcome} → ((r : Refusal) → P (refuse t r)) → (InUse t slot → P o) → P (gate t room signal link slot o)
+-- and for whatever else holds of an outcome. Its refusals are 1, 2, 3, 4 and 6.
+pub gate-refusals : (P : Outcome → Type 0) (t : Table) (room signal link slot : Given) {o : Outcome} → ((r : Refusal) → refusalNumber r ≤ 6 → P (refuse t r)) → (InUse t slot → P o)
+    → P (gate t room signal link slot o)
 unfolding verdict
-gate-cases P t room signal link slot {o} stop f =
-    if-cases Q _ (λ _. stop _) (λ _. if-cases Q _ (λ _. stop _) (λ _. if-cases Q _ (λ _. stop _) (λ _. if-cases Q _ (λ _. stop _) (λ _. if-cases Q _ (λ _. stop _) (λ e. f (given-in-use t slot e))))))
+gate-refusals P t room signal link slot {o} stop f =
+    if-cases Q _ (λ _. stop _ (lit≤ tt))
+    (λ _. if-cases Q _ (λ _. stop _ (lit≤ tt))
+    (λ _. if-cases Q _ (λ _. stop _ (lit≤ tt)) (λ _. if-cases Q _ (λ _. stop _ (lit≤ tt)) (λ _. if-cases Q _ (λ _. stop _ (lit≤ tt)) (λ e. f (given-in-use t slot e))))))
   where
     Q : Verdict → Type 0
     Q v = P (passed t v o)
+
+pub gate-cases : (P : Outcome → Type 0) (t : Table) (room signal link slot : Given) {o : Outcome} → ((r : Refusal) → P (refuse t r)) → (InUse t slot → P o) → P (gate t room signal link slot o)
+gate-cases P t room signal link slot stop f = gate-refusals P t room signal link slot (λ r _. stop r) f

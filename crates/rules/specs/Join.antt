@@ -22,7 +22,7 @@ use Rattle.channel.specs.declared.Answer.the-variants.{Done, Refused, Frames}
 use Rattle.channel.specs.declared.Slot.{Slot}
 use Rattle.channel.specs.declared.Table.{Table}
 use Rattle.definition.specs.Mem.{job, put}
-use Rattle.definition.specs.Table.{placeOf, slotAt, isDisconnected, isConnected, withAccount, withAssembly, withQueue}
+use Rattle.definition.specs.Table.{slotAt, isDisconnected, isConnected, withAccount, withAssembly, withQueue}
 use Rattle.definition.specs.Outcome.{Outcome, change}
 use Rattle.definition.specs.Frames.{queued, finishing, frames, joined, planned}
 use Rattle.definition.specs.Portions.{startPlanned}
@@ -36,41 +36,40 @@ pub record Headed (a : Assembly) (head : List ℕ) (k : ℕ) : Type 0 where
   pub opens : a .want ≡ 0 → 2 ≤ length head + k → length head ≡ 2
 
 -- What a step may come to: a refusal other than 1, 2 and 20; an assembly grows by the frame's job octets and stays below what it wants; a finished job is all of
--- them, and there is a place for it. What comes first goes where the assembly ends.
-abbrev pub Joins : (p d : ℕ) → Assembly → (queued k : ℕ) → Joined → Type 0
-Joins p d a q k (Joined.Refused r) = passes (Refused r) ≡ true
-Joins p d a q k (Joined.Assembling b) = (b .have ≡ a .have + k) × (b .have < b .want) × (b .want ≤ p) × (assembled a ≡ a .have)
-Joins p d a q k (Joined.Finished len) = (len ≡ a .have + k) × (len ≤ p) × (q < d)
-Joins p d a q k Joined.Dropped = Unit {0}
+-- them, and there is a place for it. No job is above our MTU. What comes first goes where the assembly ends.
+abbrev pub Joins : (mtu d : ℕ) → Assembly → (queued k : ℕ) → Joined → Type 0
+Joins mtu d a q k (Joined.Refused r) = passes (Refused r) ≡ true
+Joins mtu d a q k (Joined.Assembling b) = (b .have ≡ a .have + k) × (b .have < b .want) × (b .want ≤ mtu) × (assembled a ≡ a .have)
+Joins mtu d a q k (Joined.Finished len) = (len ≡ a .have + k) × (len ≤ mtu) × (q < d)
+Joins mtu d a q k Joined.Dropped = Unit {0}
 
 -- Where no assembly is open none of its octets are there.
 assembled-is : (a : Assembly) → (a .want ≡ 0 → a .have ≡ 0) → assembled a ≡ a .have
 unfolding assembled
 assembled-is a closed = if-cases (λ n. n ≡ a .have) _ (λ e. sym (closed (eqb-true (a .want) 0 e))) (λ _. refl)
 
-module _ (p d : ℕ) (a : Assembly) (q k : ℕ) (closed : a .want ≡ 0 → a .have ≡ 0) where
-  reached-joins : (want have : ℕ) → have ≡ a .have + k → want ≤ p → Joins p d a q k (reached d q want have)
+module _ (d : ℕ) (a : Assembly) (q k : ℕ) (closed : a .want ≡ 0 → a .have ≡ 0) (mtu : ℕ) where
+  reached-joins : (want have : ℕ) → have ≡ a .have + k → want ≤ mtu → Joins mtu d a q k (reached d q want have)
   unfolding reached
   reached-joins want have e h =
-      if-cases (Joins p d a q k) _ (λ _. refl)
-      (λ f. if-cases (Joins p d a q k) _ (λ g. (e, ltb-true have want g, h, assembled-is a closed))
-      (λ g. if-cases (Joins p d a q k) _ (λ _. tt) (λ i. (omega (arith, ltb-false want have f, ltb-false have want g), h, leb-false d q i))))
+      if-cases (Joins mtu d a q k) _ (λ _. refl)
+      (λ f. if-cases (Joins mtu d a q k) _ (λ g. (e, ltb-true have want g, h, assembled-is a closed))
+      (λ g. if-cases (Joins mtu d a q k) _ (λ _. tt) (λ i. (omega (arith, ltb-false want have f, ltb-false have want g), h, leb-false d q i))))
 
-  pub step-joins : (mtu mps stated : ℕ) (head : List ℕ) → mtu ≤ p → a .want ≤ p → Headed a head k
-      → Joins p d a q k (joinStep mtu mps d a q (length head + k) stated)
+  pub step-joins : (mps stated : ℕ) (head : List ℕ) → a .want ≤ mtu → Headed a head k → Joins mtu d a q k (joinStep mtu mps d a q (length head + k) stated)
   unfolding joinStep firstStep
-  step-joins mtu mps stated head hm hw headed =
-      if-cases (Joins p d a q k) _ (λ _. refl)
-      (λ _. if-cases (Joins p d a q k) _
+  step-joins mps stated head hw headed =
+      if-cases (Joins mtu d a q k) _ (λ _. refl)
+      (λ _. if-cases (Joins mtu d a q k) _
       (λ e.
       let z : a .want ≡ 0 = eqb-true (a .want) 0 e in
       let c = closed z in
-      if-cases (Joins p d a q k) _ (λ _. refl)
-      (λ f. if-cases (Joins p d a q k) _ (λ _. refl)
+      if-cases (Joins mtu d a q k) _ (λ _. refl)
+      (λ f. if-cases (Joins mtu d a q k) _ (λ _. refl)
       (λ g.
       let long = ltb-false (length head + k) 2 f in
       let both = headed .opens z long in
-      reached-joins stated (length head + k - 2) (omega arith) (omega (arith, ltb-false mtu stated g)))))
+      reached-joins stated (length head + k - 2) (omega arith) (ltb-false mtu stated g))))
       (λ e.
       let f = headed .joins (eqb-false (a .want) 0 e) in
       reached-joins (a .want) (a .have + (length head + k)) (omega arith) hw))
@@ -96,7 +95,7 @@ module _ (t : Table) (k s : ℕ) (h : s < t .n) (l : t .n ≤ length (t .slots))
   was-live : isDisconnected (slotAt t s .state) ≡ false
   was-live = begun-live (slotAt t s .state) has-begun
 
-  pub stepped-joined : (slotAt t s .account .credits ≡ 0 → ⊥) → (j : Joined) → Joins (placeOf t) (t .d) (slotAt t s .assembly) (slotAt t s .queue .count) k j
+  pub stepped-joined : (slotAt t s .account .credits ≡ 0 → ⊥) → (j : Joined) → Joins (slotAt t s .mtu) (t .d) (slotAt t s .assembly) (slotAt t s .queue .count) k j
       → Stepped t k (joined t s (withAccount (received (slotAt t s .account) 1) (slotAt t s)) k j)
   unfolding joined
   stepped-joined some (Joined.Refused r) f = stepped-change t k s _ _ h l (go (goes-on was-live refl refl ended) (use-one some) leave shut) _ _ f

@@ -24,10 +24,10 @@ use Rattle.channel.specs.declared.Table.{Table}
 use Rattle.definition.specs.Mem.{Move}
 use Rattle.definition.specs.Table.{placeOf, fresh, isConnected, belowLeast, withHold}
 use Rattle.lists.specs.Both.{and-left, and-right, and-both}
-use Rattle.rules.specs.Tests.{begun, begun-live, pending-off, pending-offered}
+use Rattle.rules.specs.Tests.{begun, begun-live, pending-off, pending-offered, pending-unbegun}
 use Rattle.rules.specs.Step.{Accounting, same, use-one, grant, Jobs, keep, leave, grow, finish, hand, Sending, off, Goes, Step, hold, go, accept, free, allocate, Steps, rest, next}
 use Rattle.rules.specs.Aside.{none-owing, sending-owing}
-use Rattle.rules.specs.Sound.{Holding, Owing, Sound, AllSound}
+use Rattle.rules.specs.Sound.{Holding, Within, Owing, Sound, AllSound}
 
 -- ---- two laws of lists: one more element that passes; one fewer at the front
 
@@ -63,20 +63,20 @@ idle-holding : (d p : ℕ) (a : Assembly) (q : Queue) → Holding d p a q → Ho
 idle-holding d p a q h = record { count = h .count; lens = h .lens; long = h .long; have = omega arith; want = omega arith; closed = λ _. refl }
 
 module _ (t : Table) (k : ℕ) (x : Slot) where
-  jobs-holding : {a : Assembly} {q : Queue} {ms : List Move} → Jobs t k x a q ms → Holding (t .d) (placeOf t) (x .assembly) (x .queue) → Holding (t .d) (placeOf t) a q
-  jobs-holding keep h = h
-  jobs-holding leave h = idle-holding (t .d) (placeOf t) (x .assembly) (x .queue) h
-  jobs-holding (grow b e l w) h = record { count = h .count; lens = h .lens; long = h .long; have = omega arith; want = w; closed = λ z. absurd (omega arith) }
-  jobs-holding (finish {len} b e w f) h =
+  jobs-holding : {a : Assembly} {q : Queue} {ms : List Move} → Jobs t k x a q ms → x .mtu ≤ placeOf t → Holding (t .d) (placeOf t) (x .assembly) (x .queue) → Holding (t .d) (placeOf t) a q
+  jobs-holding keep m h = h
+  jobs-holding leave m h = idle-holding (t .d) (placeOf t) (x .assembly) (x .queue) h
+  jobs-holding (grow b e l w) m h = record { count = h .count; lens = h .lens; long = h .long; have = omega arith; want = omega arith; closed = λ z. absurd (omega arith) }
+  jobs-holding (finish {len} b e w f) m h =
       record {
         count = omega arith;
-        lens = rw (add-one (x .queue .count)) (every-set (λ n. leb n (placeOf t)) (x .queue .lens) (x .queue .count) len (h .lens) (le-leb len (placeOf t) w));
+        lens = rw (add-one (x .queue .count)) (every-set (λ n. leb n (placeOf t)) (x .queue .lens) (x .queue .count) len (h .lens) (le-leb len (placeOf t) (omega arith)));
         long = length-set (x .queue .lens) (x .queue .count) len ∙ h .long;
         have = omega arith;
         want = omega arith;
         closed = λ _. refl;
       }
-  jobs-holding (hand b c) h =
+  jobs-holding (hand b c) m h =
       record {
         count = let g = h .count in omega arith;
         lens = every-shift (λ n. leb n (placeOf t)) (x .queue .lens) (x .queue .count) 0 (h .lens) (le-leb 0 (placeOf t) (omega arith));
@@ -85,6 +85,19 @@ module _ (t : Table) (k : ℕ) (x : Slot) where
         want = h .want;
         closed = h .closed;
       }
+
+  -- no job comes in above our MTU
+  jobs-within : {a : Assembly} {q : Queue} {ms : List Move} → Jobs t k x a q ms → Within (x .mtu) (x .assembly) (x .queue) → Within (x .mtu) a q
+  jobs-within keep h = h
+  jobs-within leave h = record { lens = h .lens; want = omega arith }
+  jobs-within (grow b e l w) h = record { lens = h .lens; want = w }
+  jobs-within (finish {len} b e w f) h =
+      record {
+        lens = rw (add-one (x .queue .count)) (every-set (λ n. leb n (x .mtu)) (x .queue .lens) (x .queue .count) len (h .lens) (le-leb len (x .mtu) w));
+        want = omega arith;
+      }
+  jobs-within (hand b c) h =
+      record { lens = every-shift (λ n. leb n (x .mtu)) (x .queue .lens) (x .queue .count) 0 (h .lens) (le-leb 0 (x .mtu) (omega arith)); want = h .want }
 
   -- what has not begun holds nothing before and after
   pub jobs-quiet : {a : Assembly} {q : Queue} {ms : List Move} → Jobs t k x a q ms → begun (x .state) ≡ false → (x .assembly ≡ idle) × (x .queue .count ≡ 0) → (a ≡ idle) × (q .count ≡ 0)
@@ -103,12 +116,18 @@ not-begun x y g f = by (begun (x .state)) refl
 
 -- ---- a slot
 
+-- where nothing waits and nothing arrives, nothing is too long
+nothing-within : (most : ℕ) (a : Assembly) (q : Queue) → a ≡ idle → q .count ≡ 0 → Within most a q
+unfolding every
+nothing-within most a q e f = record { lens = rw f refl; want = rw e (omega arith) }
+
 pub sound-fresh : (d p h : ℕ) → Sound d p (fresh h)
 unfolding every
 sound-fresh d p h =
     record {
       holding = record { count = omega arith; lens = refl; long = refl; have = omega arith; want = omega arith; closed = λ _. refl };
       mtu = omega arith;
+      within = nothing-within 0 idle (fresh 0 .queue) refl refl;
       sum = omega arith;
       owing = none-owing false _ (omega arith);
       least = λ e. absurd (false≢true e);
@@ -118,11 +137,12 @@ sound-fresh d p h =
 
 pub step-sound : {t : Table} {k : ℕ} {x y : Slot} {ms : List Move} → Step t k x y ms → Sound (t .d) (placeOf t) x → Sound (t .d) (placeOf t) y
 step-sound {x = x} (hold h) s =
-    record { holding = s .holding; mtu = s .mtu; sum = s .sum; owing = s .owing; least = s .least; free = λ e. ap (λ (z : Slot). withHold h z) (s .free e); quiet = s .quiet }
+    record { holding = s .holding; mtu = s .mtu; within = s .within; sum = s .sum; owing = s .owing; least = s .least; free = λ e. ap (λ (z : Slot). withHold h z) (s .free e); quiet = s .quiet }
 step-sound {t} {k} {x} {y} (go g a j o) s =
     record {
-      holding = jobs-holding t k x j (s .holding);
+      holding = jobs-holding t k x j (s .mtu) (s .holding);
       mtu = rw (g .mtu) (s .mtu);
+      within = rw (g .mtu) (jobs-within t k x j (s .within));
       sum = rw (accounting-sum a (s .sum)) (s .sum);
       owing = sending-owing x o (s .owing);
       least = g .least (s .least);
@@ -133,6 +153,7 @@ step-sound {t} {k} {x} {y} (accept c) s =
     record {
       holding = subst₂ (λ (a : Assembly) (q : Queue). Holding (t .d) (placeOf t) a q) (sym (c .assembly)) (sym (c .queue)) (s .holding);
       mtu = c .mtu;
+      within = let z = s .quiet (pending-unbegun (x .state) (c .was)) in nothing-within (y .mtu) (y .assembly) (y .queue) (c .assembly ∙ z .0) (ap (λ (q : Queue). q .count) (c .queue) ∙ z .1);
       sum = c .sum;
       owing = sending-owing x (subst₂ (λ (p : Peer) (j : OpenJob). Sending x (isConnected (y .state)) p j) (sym (c .peer)) (sym (c .job)) (off (pending-off (x .state) (c .was)))) (s .owing);
       least = λ _. subst (λ (p : Peer). belowLeast p ≡ false) (sym (c .peer)) (s .least (pending-offered (x .state) (c .was)));
@@ -144,6 +165,7 @@ step-sound {t} {y = y} (allocate c) s =
     record {
       holding = subst₂ (λ (a : Assembly) (q : Queue). Holding (t .d) (placeOf t) a q) (sym (c .assembly)) (sym (c .queue)) (sound-fresh (t .d) (placeOf t) 0 .holding);
       mtu = c .mtu;
+      within = nothing-within (y .mtu) (y .assembly) (y .queue) (c .assembly) (ap (λ (q : Queue). q .count) (c .queue));
       sum = c .sum;
       owing = subst (λ (j : OpenJob). Owing (isConnected (y .state)) (y .peer) j) (sym (c .job)) (none-owing (isConnected (y .state)) (y .peer) (c .peer));
       least = c .least;

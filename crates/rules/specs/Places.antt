@@ -218,12 +218,12 @@ module _ (t : Table) (k : ℕ) (x : Slot) (js part : List ℕ) (h : Holding (t .
           ∙ clean (suc (suc i)) j l (rw (shifted-at (x .assembly) (x .queue) i (let z = h .long in let y = h .count in omega arith) n) at e)
       place false g = at-end (eqb (suc i) c) refl g
 
-  pub clean-jobs : {a : Assembly} {q : Queue} {ms : List Move} → Jobs t k x a q ms → Clean p a q (moves (λ x. x) js part ms)
+  pub clean-jobs : {a : Assembly} {q : Queue} {ms : List Move} → x .mtu ≤ p → Jobs t k x a q ms → Clean p a q (moves (λ x. x) js part ms)
   unfolding moves move fill
-  clean-jobs keep = clean
-  clean-jobs leave = clean-leave
-  clean-jobs (grow {a} b e l w) = clean-grow a e (omega arith)
-  clean-jobs (finish {len} b e w f) =
+  clean-jobs m keep = clean
+  clean-jobs m leave = clean-leave
+  clean-jobs m (grow {a} b e l w) = clean-grow a e (omega arith)
+  clean-jobs m (finish {len} b e w f) =
       if-cases (λ (ms : List Move). Clean p idle (queued len (x .queue)) (moves (λ x. x) js part ms)) (isIdle (x .assembly))
-      (λ z. clean-whole len (eqb-true (x .assembly .want) 0 z) e w f) (λ _. clean-joined len e w f)
-  clean-jobs (hand b some) = rw (one-mul p) (clean-hand some)
+      (λ z. clean-whole len (eqb-true (x .assembly .want) 0 z) e (omega arith) f) (λ _. clean-joined len e (omega arith) f)
+  clean-jobs m (hand b some) = rw (one-mul p) (clean-hand some)

@@ -45,7 +45,7 @@ step-clean : (t : Table) (k : ℕ) (js : List ℕ) {x y : Slot} {ms : List Move}
     → Clean (placeOf t) (x .assembly) (x .queue) part → Clean (placeOf t) (y .assembly) (y .queue) (moves (λ x. x) js part ms)
 unfolding moves move
 step-clean t k js part (hold h) s l d c = c
-step-clean t k js {x} part (go g a j o) s l d c = clean-jobs t k x js part (s .holding) l d c j
+step-clean t k js {x} part (go g a j o) s l d c = clean-jobs t k x js part (s .holding) l d c (s .mtu) j
 step-clean t k js part (accept g) s l d c = subst₂ (λ (a : Assembly) (q : Queue). Clean (placeOf t) a q part) (sym (g .assembly)) (sym (g .queue)) c
 step-clean t k js part (free h) s l d c = wiped (placeOf t) (fresh h .assembly) (fresh h .queue) part
 step-clean t k js {x} part (allocate g) s l d c =

@@ -43,6 +43,7 @@ use Rattle.rules.specs.Forms.{live-at, gate-cases}
 use Rattle.rules.specs.Aside.{portion-aside}
 use Rattle.rules.specs.Keep.{accounting-sum}
 use Rattle.rules.specs.Tests.{offered, least-sizes}
+use Rattle.rules.specs.Sound.{Within}
 use Rattle.rules.specs.Good.{Good, within, slot-sound, good-formed, call-steps, same-sizes, next-id, reached-good}
 
 -- ---- A. "the table never becomes one that refusal 1 refuses"
@@ -268,3 +269,9 @@ never-20 {s} r a f =
     let n = answerNumber (outcome s a .answer) in
     let p : (not (eqb n 1) && (not (eqb n 2) && not (eqb n 20))) ≡ true = call-steps s (reached-good r) a f .answer in
     eqb-false n 20 (not-true _ (and-right (not (eqb n 2)) _ (and-right (not (eqb n 1)) _ p)))
+
+-- ---- I. "A buffer shorter than the job should now be refused" (document 02): how long a buffer suffices
+
+-- What waits in a slot, and what arrives there, is no longer than its MTU.
+pub within-mtu : {s : State} → Reached s → (i : ℕ) → i < s .table .n → Within (slotAt (s .table) i .mtu) (slotAt (s .table) i .assembly) (slotAt (s .table) i .queue)
+within-mtu r i h = slot-sound (reached-good r) i h .within

@@ -43,9 +43,16 @@ pub record Owing (connected : Bool) (p : Peer) (j : OpenJob) : Type 0 where
   pub owed : 0 < j .aside → j .aside ≡ ceil (j .length + 2 - givenOut j) (p .mps)
   pub sum : p .credits + j .aside ≤ creditsMost
 
+-- Jobs no longer than so many octets: those that wait, and the one that arrives.
+pub record Within (most : ℕ) (a : Assembly) (q : Queue) : Type 0 where
+  pub lens : every (λ n. leb n most) (take (q .count) (q .lens)) ≡ true
+  pub want : a .want ≤ most
+
 pub record Sound (d p : ℕ) (x : Slot) : Type 0 where
   pub holding : Holding d p (x .assembly) (x .queue)
   pub mtu : x .mtu ≤ p
+  -- what arrives and what waits is within our MTU
+  pub within : Within (x .mtu) (x .assembly) (x .queue)
   pub sum : creditSum (x .account) ≤ creditsMost
   pub owing : Owing (isConnected (x .state)) (x .peer) (x .job)
   -- the peer of a connection that is asked for, or that stands, is not below the least

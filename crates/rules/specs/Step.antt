@@ -42,9 +42,9 @@ pub data Accounting (a : CreditFlowControl) : CreditFlowControl → Type 0 where
 pub data Jobs (t : Table) (k : ℕ) (x : Slot) : Assembly → Queue → List Move → Type 0 where
   keep : Jobs t k x (x .assembly) (x .queue) []
   leave : Jobs t k x idle (x .queue) (put 0 (zeros (placeOf t)) ∷ [])
-  grow : {a : Assembly} → begun (x .state) ≡ true → a .have ≡ x .assembly .have + k → a .have < a .want → a .want ≤ placeOf t
+  grow : {a : Assembly} → begun (x .state) ≡ true → a .have ≡ x .assembly .have + k → a .have < a .want → a .want ≤ x .mtu
       → Jobs t k x a (x .queue) (put (x .assembly .have) (job 0 k) ∷ [])
-  finish : {len : ℕ} → begun (x .state) ≡ true → len ≡ x .assembly .have + k → len ≤ placeOf t → x .queue .count < t .d
+  finish : {len : ℕ} → begun (x .state) ≡ true → len ≡ x .assembly .have + k → len ≤ x .mtu → x .queue .count < t .d
       → Jobs t k x idle (queued len (x .queue)) (finishing t x k)
   hand : begun (x .state) ≡ true → 0 < x .queue .count → Jobs t k x (x .assembly) (shifted (x .queue)) (movingUp t x)
 

@@ -122,6 +122,15 @@ pending-off (ConnectFailed c) e = refl
 pending-off (PeerDisconnecting i) e = refl
 pending-off (Disconnecting a) e = refl
 
+pub pending-unbegun : (k : ChannelState) → isPeerConnecting k ≡ true → begun k ≡ false
+pending-unbegun Disconnected e = refl
+pending-unbegun (Connecting i) e = refl
+pending-unbegun (PeerConnecting i) e = refl
+pending-unbegun Connected e = absurd (false≢true e)
+pending-unbegun (ConnectFailed c) e = refl
+pending-unbegun (PeerDisconnecting i) e = absurd (false≢true e)
+pending-unbegun (Disconnecting a) e = absurd (false≢true e)
+
 pub due-off : (k : ChannelState) → isDue k ≡ true → isConnected k ≡ false
 due-off Disconnected e = refl
 due-off (Connecting i) e = refl

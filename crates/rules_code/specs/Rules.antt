@@ -20,7 +20,8 @@ use Rattle.rules.specs.Run.{Fits, AllFit, Reached, start, run-reached}
 use Rattle.rules.specs.Tests.{begun, offered}
 use Rattle.rules.specs.Step.{Numbered}
 use Rattle.rules.specs.Places.{jobIn}
-use Rattle.rules.specs.Rules.{well-formed, never-1-nor-2, credit-sum, peer-credit-sum, no-job-elsewhere, no-job-unpaid, credits-set-aside, identifiers, identifier-used, lasts, Lasts, credits-last, Uses, portion-credits, peer-least, never-20}
+use Rattle.rules.specs.Rules.{well-formed, never-1-nor-2, credit-sum, peer-credit-sum, no-job-elsewhere, no-job-unpaid, credits-set-aside, identifiers, identifier-used, lasts, Lasts, credits-last, Uses, portion-credits, peer-least, never-20, within-mtu}
+use Rattle.rules.specs.Sound.{Within}
 use Rattle.rules.specs.Good.{reached-good}
 use Rattle.rules.specs.RoomRule.{room-rule, Empty, unbegun-empty, free-fresh, new-connection, connection-begins}
 use Rattle.rules_code.specs.Called.{Called, called-after, called-served}
@@ -66,6 +67,10 @@ module _ {s : State} (g : CodeReached s) where
   pub code-peer-least : (i : ℕ) → i < s .table .n → offered (slotAt (s .table) i .state) ≡ true
       → (sizeLeast ≤ slotAt (s .table) i .peer .mtu) × (sizeLeast ≤ slotAt (s .table) i .peer .mps)
   code-peer-least = peer-least (code-reached g)
+
+  -- what waits in a slot, and what arrives there, is no longer than its MTU (document 02)
+  pub code-within-mtu : (i : ℕ) → i < s .table .n → Within (slotAt (s .table) i .mtu) (slotAt (s .table) i .assembly) (slotAt (s .table) i .queue)
+  code-within-mtu = within-mtu (code-reached g)
 
   -- "Identifiers run 1 to 255"
   pub code-identifiers : (1 ≤ nextId (s .table)) × (nextId (s .table) ≤ identifierMost)

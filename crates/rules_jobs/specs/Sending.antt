@@ -2,7 +2,7 @@
 -- the receiver, are that SDU again. Rests on the frames of a job (crate sar_cut) and on the receiving side (Rejoin.antt, Taking.antt).
 use mathlib.Core.Path.{_≡_, sym, ap, _∙_, subst}
 use mathlib.Core.List.{List, [], _∷_, _++_}
-use Prim.Native.Nat.{ℕ, zero, suc, _+_, _-_, _≤_, _<_}
+use Prim.Native.Nat.{ℕ, zero, suc, _-_, _≤_, _<_}
 use native.Mathlib.Omega.{arith}
 use lib.ListN.{length, take, drop, length-drop, take-append-drop}
 use lib.Seq.{take-all}
@@ -19,15 +19,16 @@ use Rattle.channel.specs.declared.Slot.{Slot}
 use Rattle.definition.specs.Mem.{fills}
 use Rattle.definition.specs.Table.{slotAt}
 use Rattle.definition.specs.Outcome.{Outcome, refuse}
-use Rattle.definition.specs.Frames.{frames, send}
+use Rattle.definition.specs.Frames.{send}
 use Rattle.definition.specs.Calls.{Window, sends, jobs, bare, decide}
 use Rattle.definition.specs.Run.{State, outcome}
-use Rattle.rules.specs.Run.{Reached}
+use Rattle.definition.specs.Numbers.{answerNumber}
+use Rattle.rules.specs.Run.{Reached, next}
 use Rattle.rules.specs.Forms.{gate-cases}
 use Rattle.rules.specs.Join.{planned-frames}
 use Rattle.rules_portions.specs.Sent.{frames-octets}
-use Rattle.rules_jobs.specs.Rejoin.{Rest, last, more, Arrives, Receiver, Rejoined, jobAt, rejoins}
-use Rattle.rules_jobs.specs.Taking.{taking, sized, rejoined-taken}
+use Rattle.rules_jobs.specs.Rejoin.{Rest, last, more, framing, Arrives, all, between, comes, Receiver, Rejoined, jobAt, rejoins}
+use Rattle.rules_jobs.specs.Taking.{taking, sized, takes-waiting, HandsOut, handed-out, rejoined-taken}
 
 -- ---- the payloads of a job carry it, and only the last completes it
 
@@ -117,9 +118,37 @@ pub exact-rejoining-told : (sender : State) (j : ℕ) (sdu : List ℕ) (w : Wind
 exact-rejoining-told sender j sdu w link′ n answered {s} i link handle r v z m b a =
     exact-rejoining sender j sdu w link′ n answered i link handle r v z m (payloads-within (slotAt (sender .table) j .peer .mps) (slotAt (s .table) i .mps) sdu b) a
 
--- Where no job waited before it, the next take hands out the SDU and reports its length.
+-- Where no job waited before it, the next take whose buffer holds it hands out the SDU and reports its length.
 pub exact-taking : {s : State} → Reached s → (i : ℕ) (sdu : List ℕ) (others : ℕ → List ℕ) → Rejoined s i sdu 0 others → (w v : Window) → signalMost ≤ sized w s → length sdu ≤ sized v s
     → (fills (λ x. x) [] (s .room) (outcome s (taking i w v) .job) ≡ sdu)
-    × (outcome s (taking i w v) .answer ≡ Job (slotAt (s .table) i .link) (length sdu) (length sdu))
+    × (outcome s (taking i w v) .answer ≡ Job (slotAt (s .table) i .link) (length sdu))
 unfolding jobs
-exact-taking {s} r i sdu others j w v l big = rejoined-taken s r i sdu others j w v l big
+exact-taking r i sdu others j w v l big = rejoined-taken r i sdu others j w v l big
+
+-- ---- WHAT WAS SENT IS WHAT COMES OUT
+
+-- the run goes on
+arrived : {i link : ℕ} {ps : List (List ℕ)} {s s′ : State} → Arrives i link ps s s′ → Reached s → Reached s′
+arrived all r = r
+arrived (between a f u v) r = arrived v (next a r f)
+arrived {i} {link} (comes p v) r = arrived v (next (framing link i p) r tt)
+
+-- A send was answered 0, and its frames came to a receiver, as above. The jobs that waited there before it are taken, however many, and by no other call do fewer jobs
+-- wait there: it is not freed. Then a take that is not refused hands out the SDU, octet for octet, whatever buffer is lent, and reports its length.
+pub sent-comes-out : (sender : State) (j : ℕ) (sdu : List ℕ) (x : Window) (link′ n : ℕ) → outcome sender (sends j sdu x) .answer ≡ Frames link′ n
+    → {s s′ s″ : State} (i link : ℕ) → link ≤ handleMost → Reached s → Receiver s i link n → slotAt (s .table) i .assembly .want ≡ 0
+    → length sdu ≤ slotAt (s .table) i .mtu → AllWithin (slotAt (s .table) i .mps) (payloads (slotAt (sender .table) j .peer .mps) sdu)
+    → Arrives i link (payloads (slotAt (sender .table) j .peer .mps) sdu) s s′
+    → HandsOut i (slotAt (s .table) i .queue .count) s′ s″
+    → (w v : Window) → answerNumber (outcome s″ (taking i w v) .answer) ≡ 0
+    → (fills (λ x. x) [] (s″ .room) (outcome s″ (taking i w v) .job) ≡ sdu)
+    × (outcome s″ (taking i w v) .answer ≡ Job (slotAt (s″ .table) i .link) (length sdu))
+    × (length sdu ≤ sized v s″)
+unfolding jobs
+sent-comes-out sender j sdu x link′ n answered {s} {s′} {s″} i link handle r k z m b a o w v e =
+    let y = exact-rejoining sender j sdu x link′ n answered i link handle r k z m b a in
+    let c = y .count in
+    let f = handed-out o (arrived a r) (y .used) (omega arith) in
+    let q = takes-waiting (f .reached) i w v (f .some) e in
+    let is = f .is ∙ y .whole in
+    (q .octets ∙ is, q .answer ∙ ap (λ (xs : List ℕ). Job (slotAt (s″ .table) i .link) (length xs)) is, subst (λ (xs : List ℕ). length xs ≤ sized v s″) is (q .fits))

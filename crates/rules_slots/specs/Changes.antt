@@ -141,19 +141,20 @@ module _ (t : Table) (fit : Fit t) (Reg : Type 0) where
         else-keeps _ _ _ as-is λ _. else-keeps _ _ _ as-is λ _. if-keeps (λ _. change-keeps s _ _ as-is (h, refl)) λ _. change-keeps s _ _ as-is (h, refl)
 
     -- (what a take writes to the job buffer changes nothing here)
-    handing-alone : (u : Table) (x : Slot) → Like t u → s < t .n → (size : ℕ) (out : List Fill) → Alone (Asking t (takes s)) (handing u s x size out)
-    handing-alone u x q h size out =
+    handing-alone : (u : Table) (x : Slot) → Like t u → s < t .n → (out : List Fill) → Alone (Asking t (takes s)) (handing u s x out)
+    handing-alone u x q h out =
         let k : Alone (Asking t (takes s)) (change u s (withQueue (shifted (x .queue)) x) (movingUp u x) Done []) = change-keeps s _ _ q (h, refl) in
         record { slot = k .slot; moves = k .moves; n = k .n; d = k .d; m = k .m; spsms = k .spsms }
 
-    taken-alone : (x : Slot) (size : ℕ) → s < t .n → (g : Grant) → Alone (Asking t (takes s)) (taken t s x size g)
+    taken-alone : (x : Slot) → s < t .n → (g : Grant) → Alone (Asking t (takes s)) (taken t s x g)
     unfolding taken
-    taken-alone x size h Grant.Nothing = handing-alone t x as-is h size []
-    taken-alone x size h (Grant.Credits n) = handing-alone (spent t) (withAccount (granted (x .account) n) x) with-id h size _
+    taken-alone x h Grant.Nothing = handing-alone t x as-is h []
+    taken-alone x h (Grant.Credits n) = handing-alone (spent t) (withAccount (granted (x .account) n) x) with-id h _
 
     takes-alone : (room signal size : ℕ) → Alone (Asking t (takes s)) (receive t room signal s size)
     unfolding receive
-    takes-alone room signal size = gate-at (Is room) (Is signal) Nothing s λ h. else-keeps _ _ _ as-is λ _. else-keeps _ _ _ as-is λ _. taken-alone _ size h _
+    takes-alone room signal size = gate-at (Is room) (Is signal) Nothing s λ h.
+        else-keeps _ _ _ as-is λ _. else-keeps _ _ _ as-is λ _. else-keeps _ _ _ as-is λ _. taken-alone _ h _
 
     opens-alone : (room l : ℕ) (up : Bool) → Alone (Asking t (opens s l up)) (opened t room s l up)
     unfolding opened

@@ -198,15 +198,15 @@ module _ {R : ℕ → Slot → Slot → Type 0} {t : Table} {ys : List Slot} {qs
         gate-at (Is room) Nothing Nothing s λ h.
         rw e (if-both (λ _. still-both) λ _. if-both (λ _. still-both) λ _. if-both (λ _. change-both s _ _ h) λ _. change-both s _ _ h)
 
-    taken-both : (x : Slot) (size : ℕ) → s < t .n → (g : Grant) → Both R (t .n) (taken t s x size g) (taken u s x size g)
+    taken-both : (x : Slot) → s < t .n → (g : Grant) → Both R (t .n) (taken t s x g) (taken u s x g)
     unfolding taken
-    taken-both x size h Grant.Nothing = record { told = record { answer = refl; parts = refl; at = refl; out = refl; octets = refl; job = refl; identifier = refl }; slots = set-both s _ h }
-    taken-both x size h (Grant.Credits n) = record { told = record { answer = refl; parts = refl; at = refl; out = refl; octets = refl; job = refl; identifier = refl }; slots = set-both s _ h }
+    taken-both x h Grant.Nothing = record { told = record { answer = refl; parts = refl; at = refl; out = refl; octets = refl; job = refl; identifier = refl }; slots = set-both s _ h }
+    taken-both x h (Grant.Credits n) = record { told = record { answer = refl; parts = refl; at = refl; out = refl; octets = refl; job = refl; identifier = refl }; slots = set-both s _ h }
 
     takes-both : (room signal size : ℕ) → Both R (t .n) (receive t room signal s size) (receive u room signal s size)
     unfolding receive
     takes-both room signal size =
-        gate-at (Is room) (Is signal) Nothing s λ h. rw e (if-both (λ _. still-both) λ _. if-both (λ _. still-both) λ _. taken-both (slotAt t s) size h _)
+        gate-at (Is room) (Is signal) Nothing s λ h. rw e (if-both (λ _. still-both) λ _. if-both (λ _. still-both) λ _. if-both (λ _. still-both) λ _. taken-both (slotAt t s) h _)
 
     joined-both : (x : Slot) (count : ℕ) → s < t .n → (j : Joined) → Both R (t .n) (joined t s x count j) (joined u s x count j)
     unfolding joined

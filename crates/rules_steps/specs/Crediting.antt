@@ -5,7 +5,7 @@ use mathlib.Core.Path.{_≡_, refl, sym, ap, _∙_, subst}
 use mathlib.Core.Bool.{false, false≢true}
 use Prim.Native.Nat.{ℕ, zero, suc, _+_, _-_, _≤_, min}
 use native.Mathlib.Omega.{arith}
-use borrow.Author.Tests.{eqb-true, eqb-false, not-false}
+use borrow.Author.Tests.{ltb-true, ltb-false, eqb-true, eqb-false, not-false}
 use Rattle.lists.specs.Choose.{if-cases}
 use Rattle.credit.specs.declared.CreditFlowControl.{CreditFlowControl}
 use Rattle.credit.specs.declared.Grant.{Grant}
@@ -20,12 +20,12 @@ use Rattle.channel.specs.declared.Slot.{Slot}
 use Rattle.channel.specs.declared.Table.{Table}
 use Rattle.definition.specs.Table.{slotAt, isConnected, isOpen}
 use Rattle.definition.specs.Outcome.{Outcome}
-use Rattle.definition.specs.Frames.{laterFrames, frames, send, planned, receive, taken, grantIn}
+use Rattle.definition.specs.Frames.{laterFrames, frames, send, planned, receive, oldest, taken, grantIn}
 use Rattle.definition.specs.Portions.{startPlanned, startJob, cancelJob}
 use Rattle.definition.specs.Calls.{bare, decide, serve}
 use Rattle.definition.specs.Tells.{connected-is}
-use Rattle.rules_steps.specs.Tools.{gate-cases}
-use Rattle.rules_steps.specs.Credits.{LaterFrames, none, more, AllFrames, first, sent, SendsAs, EverySend, started, StartsAs, EveryStart, returns, leaves, CancelsAs, EveryCancel, grants, grants-none, none-waits, TakesAs, EveryTake}
+use Rattle.rules.specs.Forms.{gate-refusals}
+use Rattle.rules_steps.specs.Credits.{LaterFrames, none, more, AllFrames, first, sent, SendsAs, EverySend, started, StartsAs, EveryStart, returns, leaves, CancelsAs, EveryCancel, grants, grants-none, none-waits, short, TakesAs, EveryTake}
 use Rattle.rules_steps.specs.Credits as Credits
 
 -- ---- what is written is n frames
@@ -65,7 +65,7 @@ module _ (t : Table) (s l out : ℕ) where
 
   send-sends : N (send t s l out)
   unfolding send
-  send-sends = gate-cases N t _ _ _ _ (λ r h. Credits.Sends.refused) (λ _. if-cases N _ (λ _. Credits.Sends.refused)
+  send-sends = gate-refusals N t _ _ _ _ (λ r h. Credits.Sends.refused) (λ _. if-cases N _ (λ _. Credits.Sends.refused)
       (λ e. if-cases N _ (λ _. Credits.Sends.refused) (λ f. planned-sends (connected-is (x .state) (not-false _ e)) f _ refl)))
 
 pub every-send : EverySend
@@ -93,7 +93,7 @@ module _ (t : Table) (s : ℕ) where
     start-starts : B (startJob t s l size)
     unfolding startJob
     start-starts =
-        gate-cases B t _ _ _ _ (λ r h. Credits.Starts.refused)
+        gate-refusals B t _ _ _ _ (λ r h. Credits.Starts.refused)
         (λ _. if-cases B _ (λ _. Credits.Starts.refused)
         (λ e. if-cases B _ (λ _. Credits.Starts.refused) (λ f. planned-starts (connected-is (z .state) (not-false _ e)) f _ refl)))
 
@@ -103,7 +103,7 @@ module _ (t : Table) (s : ℕ) where
   cancel-cancels : (room : ℕ) → C (cancelJob t room s)
   unfolding cancelJob
   cancel-cancels room =
-      gate-cases C t _ _ _ _ (λ r h. Credits.Cancels.refused)
+      gate-refusals C t _ _ _ _ (λ r h. Credits.Cancels.refused)
       (λ _. if-cases C _ (λ _. Credits.Cancels.refused)
       (λ e. if-cases C _ (λ _. Credits.Cancels.refused)
       (λ f. if-cases C _ (λ g. returns (connected-is (z .state) (not-false _ e)) (not-false _ f) (eqb-true _ _ g)) (λ g. leaves (connected-is (z .state) (not-false _ e)) (not-false _ f) (eqb-false _ _ g)))))
@@ -138,23 +138,27 @@ module _ (t : Table) (s size : ℕ) where
   y = slotAt t s
 
   abbrev T : Outcome → Type 0
-  T o = TakesAs t s o
+  T o = TakesAs t s size o
 
-  on-grant : y .state ≡ Connected → (g : Grant) → grantOf (y .account) ≡ g → T (taken t s y size g)
+  on-grant : oldest y ≤ size → y .state ≡ Connected → (g : Grant) → grantOf (y .account) ≡ g → T (taken t s y g)
   unfolding taken
-  on-grant on Grant.Nothing e = grants-none (λ _. e)
-  on-grant on (Grant.Credits n) e = grants on e (grant-some (y .account) n e)
+  on-grant fits on Grant.Nothing e = grants-none fits (λ _. e)
+  on-grant fits on (Grant.Credits n) e = grants fits on e (grant-some (y .account) n e)
 
-  off-grant : (y .state ≡ Connected → ⊥) → T (taken t s y size Grant.Nothing)
+  off-grant : oldest y ≤ size → (y .state ≡ Connected → ⊥) → T (taken t s y Grant.Nothing)
   unfolding taken
-  off-grant off = grants-none (λ on. absurd (off on))
+  off-grant fits off = grants-none fits (λ on. absurd (off on))
 
   receive-takes : (room signal : ℕ) → T (receive t room signal s size)
   unfolding receive
   receive-takes room signal =
-      gate-cases T t _ _ _ _ (λ r h. Credits.Takes.refused)
-      (λ _. if-cases T _ (λ _. Credits.Takes.refused)
-      (λ _. if-cases T _ (λ e. none-waits (eqb-true (y .queue .count) 0 e)) (λ _. granted-is y (λ g. T (taken t s y size g)) (λ on. on-grant on _ refl) off-grant)))
+      gate-refusals T t _ _ _ _ (λ r h. Credits.Takes.refused (λ e. omega arith))
+      (λ _. if-cases T _ (λ _. Credits.Takes.refused (λ e. omega arith))
+      (λ _. if-cases T _ (λ e. none-waits (eqb-true (y .queue .count) 0 e))
+      (λ c. if-cases T _ (λ e. short (eqb-false (y .queue .count) 0 c) (ltb-true size (oldest y) e))
+      (λ e.
+      let fits = ltb-false size (oldest y) e in
+      granted-is y (λ g. T (taken t s y g)) (λ on. on-grant fits on _ refl) (off-grant fits)))))
 
 pub every-take : EveryTake
 unfolding decide bare serve

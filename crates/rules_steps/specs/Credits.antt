@@ -3,9 +3,11 @@
 use mathlib.Core.Path.{_≡_}
 use mathlib.Core.Bool.{true, false}
 use mathlib.Core.List.{List, [], _∷_, _++_}
-use Prim.Native.Nat.{ℕ, zero, suc, _+_, _-_, _≤_}
+use Prim.Native.Nat.{ℕ, zero, suc, _+_, _-_, _≤_, _<_}
 use Rattle.octets.specs.Octets.{le16}
+use Rattle.codes.specs.Codes.{refusalNumber}
 use Rattle.codes.specs.declared.Refusal.{Refusal}
+use Rattle.codes.specs.declared.Refusal.the-variants.{InsufficientSpace}
 use Rattle.credit.specs.declared.Grant.the-variants.{Nothing, Credits}
 use Rattle.credit.specs.Account.{granted, grantOf}
 use Rattle.sar_join.specs.Joining.{idle}
@@ -16,10 +18,10 @@ use Rattle.channel.specs.declared.Answer.{Answer}
 use Rattle.channel.specs.declared.Answer.the-variants.{Done, Refused, Frames, Job}
 use Rattle.channel.specs.declared.ChannelState.the-variants.{Connected, Disconnecting}
 use Rattle.channel.specs.declared.Table.{Table}
-use Rattle.definition.specs.Mem.{Fill, given, job}
+use Rattle.definition.specs.Mem.{Fill, given, job, held}
 use Rattle.definition.specs.Table.{slotAt, putSlot, inState, withAccount, withPeerCredits, withAssembly, withQueue, withJob, noJob, isOpen, cidOf, nextId, spent}
 use Rattle.definition.specs.Outcome.{Outcome}
-use Rattle.definition.specs.Frames.{shifted, firstHeader}
+use Rattle.definition.specs.Frames.{shifted, oldestAt, oldest, firstHeader}
 use Rattle.definition.specs.Portions.{givenOut, longest, begun}
 use Rattle.definition.specs.Calls.{Window, sends, plain, takes, starts, cancels, bare, decide}
 
@@ -77,18 +79,21 @@ EveryCancel = (t : Table) (s : ℕ) (v w : Window) (count room out job : ℕ) �
 
 -- ---- a take from slot s: the grant that is told is the grant that is booked, "Connected only", "never 0 credits", and all that the policy grants
 
-pub data Takes (t : Table) (s : ℕ) : Answer → Table → List Fill → Type 0 where
-  grants : {n copied len : ℕ} → slotAt t s .state ≡ Connected → grantOf (slotAt t s .account) ≡ Credits n → 1 ≤ n
-      → Takes t s (Job (slotAt t s .link) copied len)
+-- Into a buffer of `size` octets. The job that is handed out is the oldest, from its place in the room, whole.
+pub data Takes (t : Table) (s size : ℕ) : Answer → Table → (signal job : List Fill) → Type 0 where
+  grants : {n : ℕ} → oldest (slotAt t s) ≤ size → slotAt t s .state ≡ Connected → grantOf (slotAt t s .account) ≡ Credits n → 1 ≤ n
+      → Takes t s size (Job (slotAt t s .link) (oldest (slotAt t s)))
       (putSlot (spent t) s (withQueue (shifted (slotAt t s .queue)) (withAccount (granted (slotAt t s .account) n) (slotAt t s))))
-      (given (encodeOf (nextId t) (LeCreditFlowInd (record { cid = cidOf s; credits = n }))) ∷ [])
-  grants-none : {copied len : ℕ} → (slotAt t s .state ≡ Connected → grantOf (slotAt t s .account) ≡ Nothing)
-      → Takes t s (Job (slotAt t s .link) copied len) (putSlot t s (withQueue (shifted (slotAt t s .queue)) (slotAt t s))) []
-  none-waits : slotAt t s .queue .count ≡ 0 → Takes t s Done t []  -- "no job waiting .. writes and grants nothing"
-  refused : {r : Refusal} → Takes t s (Refused r) t []
+      (given (encodeOf (nextId t) (LeCreditFlowInd (record { cid = cidOf s; credits = n }))) ∷ []) (held (oldestAt t s) (oldest (slotAt t s)) ∷ [])
+  grants-none : oldest (slotAt t s) ≤ size → (slotAt t s .state ≡ Connected → grantOf (slotAt t s .account) ≡ Nothing)
+      → Takes t s size (Job (slotAt t s .link) (oldest (slotAt t s))) (putSlot t s (withQueue (shifted (slotAt t s .queue)) (slotAt t s))) [] (held (oldestAt t s) (oldest (slotAt t s)) ∷ [])
+  none-waits : slotAt t s .queue .count ≡ 0 → Takes t s size Done t [] []  -- "no job waiting .. writes and grants nothing"
+  -- "A buffer shorter than the job should now be refused and the job kept for the next call, with no credits granted" (document 02); by 12 for nothing else
+  short : ¬ (slotAt t s .queue .count ≡ 0) → size < oldest (slotAt t s) → Takes t s size (Refused InsufficientSpace) t [] []
+  refused : {r : Refusal} → ¬ (refusalNumber r ≡ 12) → Takes t s size (Refused r) t [] []
 
-abbrev pub TakesAs : Table → (s : ℕ) → Outcome → Type 0
-TakesAs t s o = Takes t s (o .answer) (o .table) (o .out)
+abbrev pub TakesAs : Table → (s size : ℕ) → Outcome → Type 0
+TakesAs t s size o = Takes t s size (o .answer) (o .table) (o .out) (o .job)
 
 abbrev pub EveryTake : Type 0
-EveryTake = (t : Table) (s : ℕ) (v w : Window) (count room out job : ℕ) → TakesAs t s (decide t (bare t (plain (takes s) v w)) count room out job)
+EveryTake = (t : Table) (s : ℕ) (v w : Window) (count room out job : ℕ) → TakesAs t s job (decide t (bare t (plain (takes s) v w)) count room out job)

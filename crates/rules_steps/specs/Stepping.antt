@@ -74,8 +74,9 @@ use Rattle.definition.specs.Calls.{Window, Call, frame, sends, portions, down, 
 use Rattle.definition.specs.Tells.{cid-within, pending-is, connected-is, free-is, connecting-is}
 use Rattle.definition.specs.Numbers.{refused-not-0}
 use Rattle.definition.specs.Forms.{Fit, found-passes}
-use Rattle.rules_steps.specs.Tools.{gate-cases, is-peer-leaving, is-unannounced, is-failed, leaving-cases, left-cases, given-up-cases, and-off, and-off-right, or-off, or-none, or-right, held}
+use Rattle.rules_steps.specs.Tools.{is-peer-leaving, is-unannounced, is-failed, leaving-cases, left-cases, given-up-cases, and-off, and-off-right, or-off, or-none, or-right, held}
 use Rattle.rules.specs.Tests.{least-sizes, below-sizes}
+use Rattle.rules.specs.Forms.{gate-refusals}
 use Rattle.rules_steps.specs.Steps.{Seen, seen, is, free, Row, byCode, namesAsDcid, namesAsScid, admits, grantsTo, isGood, steps, isNumber, Fills, part, full, last, Step, row, stay, stay-down, stay-frame, stay-send, portion, stay-portion, link-down, overrun, Steps, EveryStep}
 use Rattle.rules_steps.specs.Steps as Steps
 
@@ -159,7 +160,7 @@ module _ (t : Table) (fit : Fit t) (v w : Window) where
   unfolding nextPending
   next-pending link up =
       let P = S (pends link up) in
-      gate-cases P t _ _ _ _ (λ r h i l. stay refl)
+      gate-refusals P t _ _ _ _ (λ r h i l. stay refl)
       (λ _. if-cases P _ (λ _. if-cases P up (λ _ i l. stay refl) (λ _ i l. stay refl))
       (λ e. if-cases P _ (λ _ i l. stay refl)
       (λ f.
@@ -175,7 +176,7 @@ module _ (t : Table) (fit : Fit t) (v w : Window) where
   unfolding rejectAllPending
   reject-all room signal link =
       let P = S (rejectsAll link) in
-      gate-cases P t _ _ _ _ (λ r h i l. stay refl)
+      gate-refusals P t _ _ _ _ (λ r h i l. stay refl)
       (λ _. if-cases P _ (λ _ i l. stay refl)
       (λ e.
       let s = found (unheldPendingOf link) t in
@@ -192,7 +193,7 @@ module _ (t : Table) (fit : Fit t) (v w : Window) where
   accept-pending signal s c =
       let P = S (accepts s c) in
       let x = slotAt t s in
-      gate-cases P t _ _ _ _ (λ r h i l. stay (and-off _ (refused-not-0 r)))
+      gate-refusals P t _ _ _ _ (λ r h i l. stay (and-off _ (refused-not-0 r)))
       (λ h. if-cases P _ (λ _ i l. stay refl)
       (λ _. if-cases P _ (λ _ i l. stay refl)
       (λ _. if-cases P _ (λ _ i l. stay refl)
@@ -207,14 +208,14 @@ module _ (t : Table) (fit : Fit t) (v w : Window) where
   reject-pending room signal s (Known result) =
       let P = S (rejects s (Known result)) in
       let x = slotAt t s in
-      gate-cases P t _ _ _ _ (λ r h i l. stay (and-off _ (refused-not-0 r)))
+      gate-refusals P t _ _ _ _ (λ r h i l. stay (and-off _ (refused-not-0 r)))
       (λ h. if-cases P _ (λ _ i l. stay refl)
       (λ e. if-cases P _ (λ _ i l. stay refl)
       (λ f. steps-one (rejects s (Known result)) _ s _ h
       (seen-as (λ k n l. Row t s (rejects s (Known result)) (Link l) (is k n l (x .peer .credits) (x .job)) (free (x .hold - 1))) x
       (pending-is (x .state) (not-false _ e)) (held _ f) refl Steps.reject)
       (λ i g. g))))
-  reject-pending room signal s Unknown = gate-cases (S (rejects s Unknown)) t _ _ _ _ (λ r h i l. stay (and-off _ (refused-not-0 r))) (λ _ i l. stay refl)
+  reject-pending room signal s Unknown = gate-refusals (S (rejects s Unknown)) t _ _ _ _ (λ r h i l. stay (and-off _ (refused-not-0 r))) (λ _ i l. stay refl)
 
   -- what holds of slot s alone
   only-at : (s i : ℕ) (p : Slot → Bool) → p (slotAt t s) ≡ false → (eqb i s && p (slotAt t i)) ≡ false
@@ -229,7 +230,7 @@ module _ (t : Table) (fit : Fit t) (v w : Window) where
   drop-pending room s =
       let P = S (drops s) in
       let x = slotAt t s in
-      gate-cases P t _ _ _ _ (λ r h i l. stay (and-off _ (refused-not-0 r)))
+      gate-refusals P t _ _ _ _ (λ r h i l. stay (and-off _ (refused-not-0 r)))
       (λ h. if-cases P _ (λ e i l. stay (only-at s i (λ y. not (isConnected (y .state))) (ap not e)))
       (λ e. if-cases P _ (λ _ i l. stay refl)
       (λ f. if-cases P _
@@ -244,7 +245,7 @@ module _ (t : Table) (fit : Fit t) (v w : Window) where
   unfolding create
   create-steps signal link spsm c =
       let P = S (creates link spsm c) in
-      gate-cases P t _ _ _ _ (λ r h i l. stay refl)
+      gate-refusals P t _ _ _ _ (λ r h i l. stay refl)
       (λ _. if-cases P _ (λ _ i l. stay refl)
       (λ _. if-cases P _ (λ _ i l. stay refl)
       (λ _. if-cases P _ (λ _ i l. stay refl)
@@ -266,7 +267,7 @@ module _ (t : Table) (fit : Fit t) (v w : Window) where
       let P = S (opens s link up) in
       let x = slotAt t s in
       let p = x .peer .credits in
-      gate-cases P t _ _ _ _ (λ r h i l. stay (opens-gate s link i up r h))
+      gate-refusals P t _ _ _ _ (λ r h i l. stay (opens-gate s link i up r h))
       (λ h. if-cases P _ (λ e i l. stay (only-at s i (λ y. not (isDisconnected (y .state))) (ap not e)))
       (λ live. if-cases P _ (λ _ i l. stay refl)
       (λ same. if-cases P _
@@ -302,7 +303,7 @@ module _ (t : Table) (fit : Fit t) (v w : Window) where
       let P = S (gives s) in
       let x = slotAt t s in
       let p = x .peer .credits in
-      gate-cases P t _ _ _ _ (λ r h i l. stay (and-off _ (refused-not-0 r)))
+      gate-refusals P t _ _ _ _ (λ r h i l. stay (and-off _ (refused-not-0 r)))
       (λ h. if-cases P _
       (λ e. steps-one (gives s) _ s _ h
       (given-up-cases (λ k. Row t s (gives s) Done (is k (x .hold) (x .link) p (x .job)) (free (x .hold))) (x .state) (eqb (x .hold) 0) e (λ i. Steps.give-attempt) (λ c. Steps.give-failed)
@@ -316,7 +317,7 @@ module _ (t : Table) (fit : Fit t) (v w : Window) where
   unfolding incRef
   inc-ref s =
       let P = S (holds s) in
-      gate-cases P t _ _ _ _ (λ r h i l. stay (and-off _ (refused-not-0 r)))
+      gate-refusals P t _ _ _ _ (λ r h i l. stay (and-off _ (refused-not-0 r)))
       (λ h. if-cases P _ (λ _ i l. stay refl) (λ e. steps-one (holds s) _ s _ h (Steps.hold (leb-false _ _ e)) (λ i g. g)))
 
   -- one hold of several
@@ -330,7 +331,7 @@ module _ (t : Table) (fit : Fit t) (v w : Window) where
       let P = S (releases s) in
       let x = slotAt t s in
       let p = x .peer .credits in
-      gate-cases P t _ _ _ _ (λ r h i l. stay (and-off _ (refused-not-0 r)))
+      gate-refusals P t _ _ _ _ (λ r h i l. stay (and-off _ (refused-not-0 r)))
       (λ h. if-cases P _ (λ _ i l. stay refl)
       (λ e. if-cases P _
       (λ f. steps-one (releases s) _ s _ h
@@ -353,13 +354,13 @@ module _ (t : Table) (fit : Fit t) (v w : Window) where
   disconnect-steps : (room s : ℕ) → S (leaves s) (disconnect t room s)
   unfolding disconnect
   disconnect-steps room s =
-      gate-cases (S (leaves s)) t _ _ _ _ (λ r h i l. stay (and-off _ (refused-not-0 r))) (λ h. leaves-steps (leaves s) s h (λ _ _ _ _. Steps.leave) (λ i. refl))
+      gate-refusals (S (leaves s)) t _ _ _ _ (λ r h i l. stay (and-off _ (refused-not-0 r))) (λ h. leaves-steps (leaves s) s h (λ _ _ _ _. Steps.leave) (λ i. refl))
 
   disconnect-by-cid : (room cid : ℕ) → S (leavesCid cid) (disconnectByCid t room cid)
   unfolding disconnectByCid
   disconnect-by-cid room cid =
       let P = S (leavesCid cid) in
-      gate-cases P t _ _ _ _ (λ r h i l. stay (and-off _ (refused-not-0 r)))
+      gate-refusals P t _ _ _ _ (λ r h i l. stay (and-off _ (refused-not-0 r)))
       (λ _. if-cases P _
       (λ e. subst (λ (c : ℕ). S (leavesCid c) (disconnecting t (slotOf cid))) (cid-back t cid e)
       (leaves-steps (leavesCid (cidOf (slotOf cid))) (slotOf cid) (cid-within t cid e) (λ _ _ _ _. Steps.leave-cid) (λ i. ap (λ (b : Bool). b && isConnected (slotAt t i .state)) (cid-eqb i (slotOf cid)))))
@@ -369,7 +370,7 @@ module _ (t : Table) (fit : Fit t) (v w : Window) where
   unfolding nextDisconnect
   next-disconnect room signal =
       let P = S announces in
-      gate-cases P t _ _ _ _ (λ r h i l. stay refl)
+      gate-refusals P t _ _ _ _ (λ r h i l. stay refl)
       (λ _. if-cases P _ (λ _ i l. stay refl)
       (λ e.
       let s = found dueSlot t in
@@ -619,22 +620,22 @@ module _ (t : Table) (fit : Fit t) (v w : Window) where
     signalled-steps : (room signal : ℕ) → S G (signalled t room signal link listening central pdu)
     unfolding signalled
     signalled-steps room signal =
-        gate-cases (S G) t _ _ _ _
+        gate-refusals (S G) t _ _ _ _
         (λ r h. rests (not-handled (Refused r) (refused-not-0 r) (ne-eqb (refusalNumber r) 8 (λ e. omega arith)) (ne-eqb (refusalNumber r) 17 (λ e. omega arith)) (and-off _ (ne-eqb (refusalNumber r) 9 (λ e. omega arith)))))
         (λ _. checked-steps _ refl)
 
   -- ---- jobs: what is seen of the slot stays
 
-  taken-steps : (s size : ℕ) → s < t .n → (g : Grant) → S (takes s) (taken t s (slotAt t s) size g)
+  taken-steps : (s : ℕ) → s < t .n → (g : Grant) → S (takes s) (taken t s (slotAt t s) g)
   unfolding taken
-  taken-steps s size h Grant.Nothing = one t fit (plain (takes s) v w) _ s _ h (stay refl) (λ i e. stay refl)
-  taken-steps s size h (Grant.Credits n) = one t fit (plain (takes s) v w) _ s _ h (stay refl) (λ i e. stay refl)
+  taken-steps s h Grant.Nothing = one t fit (plain (takes s) v w) _ s _ h (stay refl) (λ i e. stay refl)
+  taken-steps s h (Grant.Credits n) = one t fit (plain (takes s) v w) _ s _ h (stay refl) (λ i e. stay refl)
 
   receive-steps : (room signal s size : ℕ) → S (takes s) (receive t room signal s size)
   unfolding receive
   receive-steps room signal s size =
       let P = S (takes s) in
-      gate-cases P t _ _ _ _ (λ r h i l. stay refl) (λ h. if-cases P _ (λ _ i l. stay refl) (λ _. if-cases P _ (λ _ i l. stay refl) (λ _. taken-steps s size h _)))
+      gate-refusals P t _ _ _ _ (λ r h i l. stay refl) (λ h. if-cases P _ (λ _ i l. stay refl) (λ _. if-cases P _ (λ _ i l. stay refl) (λ _. if-cases P _ (λ _ i l. stay refl) (λ _. taken-steps s h _))))
 
   -- ---- jobs handed over in portions
 
@@ -657,7 +658,7 @@ module _ (t : Table) (fit : Fit t) (v w : Window) where
   unfolding startJob
   start-steps s len size =
       let P = S (starts s len) in
-      gate-cases P t _ _ _ _ (λ r h i l. stay (and-off _ (refused-not-0 r)))
+      gate-refusals P t _ _ _ _ (λ r h i l. stay (and-off _ (refused-not-0 r)))
       (λ h. if-cases P _ (λ _ i l. stay refl)
       (λ e. if-cases P _ (λ _ i l. stay refl) (λ f. started-steps s len size h (connected-is (slotAt t s .state) (not-false _ e)) f _ refl)))
 
@@ -667,7 +668,7 @@ module _ (t : Table) (fit : Fit t) (v w : Window) where
       let P = S (cancels s) in
       let x = slotAt t s in
       let p = x .peer .credits in
-      gate-cases P t _ _ _ _ (λ r h i l. stay (and-off _ (refused-not-0 r)))
+      gate-refusals P t _ _ _ _ (λ r h i l. stay (and-off _ (refused-not-0 r)))
       (λ h. if-cases P _ (λ _ i l. stay refl)
       (λ e. if-cases P _ (λ _ i l. stay refl)
       (λ f.
@@ -682,19 +683,19 @@ module _ (t : Table) (fit : Fit t) (v w : Window) where
 
   register-steps : (spsm : ℕ) → S (register spsm) (registerSpsm t spsm)
   unfolding registerSpsm
-  register-steps spsm = let P = S (register spsm) in gate-cases P t _ _ _ _ (λ r h i l. stay refl) (λ _. if-cases P _ (λ _ i l. stay refl) (λ _ i l. stay refl))
+  register-steps spsm = let P = S (register spsm) in gate-refusals P t _ _ _ _ (λ r h i l. stay refl) (λ _. if-cases P _ (λ _ i l. stay refl) (λ _ i l. stay refl))
 
   attention-steps : S attends (attention t)
   unfolding attention
-  attention-steps = gate-cases (S attends) t _ _ _ _ (λ r h i l. stay refl) (λ _ i l. stay refl)
+  attention-steps = gate-refusals (S attends) t _ _ _ _ (λ r h i l. stay refl) (λ _ i l. stay refl)
 
   query-steps : (of : Slot → ℕ) (s : ℕ) → S (asks of s) (query of t s)
   unfolding query
-  query-steps of s = gate-cases (S (asks of s)) t _ _ _ _ (λ r h i l. stay refl) (λ _ i l. stay refl)
+  query-steps of s = gate-refusals (S (asks of s)) t _ _ _ _ (λ r h i l. stay refl) (λ _ i l. stay refl)
 
   send-signal : (signal link : ℕ) (s : Signal) → S (sendsSignal link s) (sendSignal t signal link s)
   unfolding sendSignal
-  send-signal signal link s = gate-cases (S (sendsSignal link s)) t _ _ _ _ (λ r h i l. stay refl) (λ _ i l. stay refl)
+  send-signal signal link s = gate-refusals (S (sendsSignal link s)) t _ _ _ _ (λ r h i l. stay refl) (λ _ i l. stay refl)
 
   -- ---- all of them
 
@@ -770,7 +771,7 @@ module _ (t : Table) (fit : Fit t) (link : ℕ) (payload : List ℕ) where
       let P = Steps t (frame link cid payload) in
       let s = slotOf cid in
       let y = slotAt t s in
-      gate-cases P t _ _ _ _ (λ r h i l. stay-frame (and-off _ (or-none (ne-eqb (refusalNumber r) 9 (λ e. omega arith)) (ne-eqb (refusalNumber r) 19 (λ e. omega arith)))))
+      gate-refusals P t _ _ _ _ (λ r h i l. stay-frame (and-off _ (or-none (ne-eqb (refusalNumber r) 9 (λ e. omega arith)) (ne-eqb (refusalNumber r) 19 (λ e. omega arith)))))
       (λ _. if-cases P _ (λ _ i l. stay-frame refl)
       (λ e. if-cases P _ (λ _ i l. stay-frame refl)
       (λ f. if-cases P _ (λ _ i l. stay-frame refl)
@@ -802,7 +803,7 @@ module _ (t : Table) (fit : Fit t) (s : ℕ) (sdu : List ℕ) (w : Window) where
   send-steps : (l out : ℕ) → Steps t D (send t s l out)
   unfolding send
   send-steps l out =
-      gate-cases (Steps t D) t _ _ _ _ (λ r h i u. stay-send (and-off _ (refused-not-0 r)))
+      gate-refusals (Steps t D) t _ _ _ _ (λ r h i u. stay-send (and-off _ (refused-not-0 r)))
       (λ h. if-cases (Steps t D) _ (λ _ i u. stay-send refl)
       (λ e. if-cases (Steps t D) _ (λ _ i u. stay-send refl) (λ _. planned-steps l out h (connected-is (slotAt t s .state) (not-false _ e)) _ refl)))
 
@@ -835,7 +836,7 @@ module _ (t : Table) (fit : Fit t) (s : ℕ) (octets : List ℕ) (w : Window) wh
       let mps = x .peer .mps in
       let k = taking mps (x .job) count in
       let whole = fullWith mps (x .job) count in
-      gate-cases (Steps t E) t _ _ _ _ (λ r h i u. stay-portion (and-off _ (refused-not-0 r)))
+      gate-refusals (Steps t E) t _ _ _ _ (λ r h i u. stay-portion (and-off _ (refused-not-0 r)))
       (λ h. if-cases (Steps t E) _ (λ _ i u. stay-portion refl)
       (λ e. if-cases (Steps t E) _ (λ _ i u. stay-portion refl)
       (λ f. if-cases (Steps t E) _ (λ _ i u. stay-portion refl)
@@ -848,7 +849,7 @@ module _ (t : Table) (fit : Fit t) (s : ℕ) (octets : List ℕ) (w : Window) wh
 down-steps : (t : Table) → Fit t → (room link : ℕ) → Steps t (down link) (disconnected t room link)
 unfolding disconnected
 down-steps t fit room link =
-    gate-cases (Steps t (down link)) t _ _ _ _ (λ r h i u. stay-down (and-off _ (refused-not-0 r)))
+    gate-refusals (Steps t (down link)) t _ _ _ _ (λ r h i u. stay-down (and-off _ (refused-not-0 r)))
     (λ _. all t fit (down link) Done (ofLink link)
     (λ i x e. seen-as (λ k h l. Step t i (down link) Done (is k h l (x .peer .credits) (x .job)) (free h)) x refl refl (eqb-true _ _ (and-right (not (isDisconnected (x .state))) _ e))
     (link-down (not-true _ (and-left (not (isDisconnected (x .state))) _ e))))

@@ -61,7 +61,8 @@ use Rattle.definition.specs.Calls.{Window, frame, sends, portions, down, plain,
 use Rattle.definition.specs.Numbers.{refused-not-0}
 use Rattle.definition.specs.Forms.{Fit, found-passes}
 use Rattle.definition.specs.Tells.{pending-is, connected-is}
-use Rattle.rules_steps.specs.Tools.{gate-cases, is-peer-leaving, is-unannounced}
+use Rattle.rules.specs.Forms.{gate-refusals}
+use Rattle.rules_steps.specs.Tools.{is-peer-leaving, is-unannounced}
 use Rattle.rules_steps.specs.Told.{connect, credits, parameters, Replies, accepted, rejected, cleared, repliedTo, not-understood, not-connected, not-valid, request, refused-12, refused-13, reply, silent, frame-in, frames-out, portion-out, begin-out, link-down, own, Told, uses, keeps, Tells, EveryCallTells}
 use Rattle.rules_steps.specs.Told as Told
 
@@ -91,7 +92,7 @@ module _ (t : Table) (fit : Fit t) (v w : Window) where
   unfolding nextPending
   next-pending link up =
       let Q = P (pends link up) in
-      gate-cases Q t _ _ _ _ (λ r h. keeps (silent refl))
+      gate-refusals Q t _ _ _ _ (λ r h. keeps (silent refl))
       (λ _. if-cases Q _ (λ _. if-cases Q up (λ _. keeps (silent refl)) (λ _. keeps (silent refl)))
       (λ _. if-cases Q _ (λ _. keeps (silent refl)) (λ _. keeps (silent refl))))
 
@@ -99,7 +100,7 @@ module _ (t : Table) (fit : Fit t) (v w : Window) where
   unfolding rejectAllPending
   reject-all room signal link =
       let Q = P (rejectsAll link) in
-      gate-cases Q t _ _ _ _ (λ r h. keeps (silent refl))
+      gate-refusals Q t _ _ _ _ (λ r h. keeps (silent refl))
       (λ _. if-cases Q _ (λ _. keeps (silent refl))
       (λ e.
       let x = slotAt t (found (unheldPendingOf link) t) in
@@ -110,7 +111,7 @@ module _ (t : Table) (fit : Fit t) (v w : Window) where
   unfolding acceptPending
   accept-pending signal s c =
       let Q = P (accepts s c) in
-      gate-cases Q t _ _ _ _ (λ r h. keeps (silent refl))
+      gate-refusals Q t _ _ _ _ (λ r h. keeps (silent refl))
       (λ _. if-cases Q _ (λ _. keeps (silent refl))
       (λ _. if-cases Q _ (λ _. keeps (silent refl))
       (λ _. if-cases Q _ (λ _. keeps (silent refl))
@@ -120,16 +121,16 @@ module _ (t : Table) (fit : Fit t) (v w : Window) where
   unfolding rejectPending notCode
   reject-pending room signal s (Known result) =
       let Q = P (rejects s (Known result)) in
-      gate-cases Q t _ _ _ _ (λ r h. keeps (silent refl))
+      gate-refusals Q t _ _ _ _ (λ r h. keeps (silent refl))
       (λ _. if-cases Q _ (λ _. keeps (silent refl))
       (λ e. if-cases Q _ (λ _. keeps (silent refl)) (λ _. keeps (reply (rejected (pending-is (slotAt t s .state) (not-false _ e)))))))
-  reject-pending room signal s Unknown = gate-cases (P (rejects s Unknown)) t _ _ _ _ (λ r h. keeps (silent refl)) (λ _. keeps (silent refl))
+  reject-pending room signal s Unknown = gate-refusals (P (rejects s Unknown)) t _ _ _ _ (λ r h. keeps (silent refl)) (λ _. keeps (silent refl))
 
   drop-pending : (room s : ℕ) → P (drops s) (dropPending t room s)
   unfolding dropPending
   drop-pending room s =
       let Q = P (drops s) in
-      gate-cases Q t _ _ _ _ (λ r h. keeps (silent refl))
+      gate-refusals Q t _ _ _ _ (λ r h. keeps (silent refl))
       (λ _. if-cases Q _ (λ _. keeps (silent refl)) (λ _. if-cases Q _ (λ _. keeps (silent refl)) (λ _. if-cases Q _ (λ _. keeps (silent refl)) (λ _. keeps (silent refl)))))
 
   -- ---- we ask
@@ -138,14 +139,14 @@ module _ (t : Table) (fit : Fit t) (v w : Window) where
   unfolding create
   create-tells signal link spsm c =
       let Q = P (creates link spsm c) in
-      gate-cases Q t _ _ _ _ (λ r h. keeps (silent (not-full r h)))
+      gate-refusals Q t _ _ _ _ (λ r h. keeps (silent (not-full r h)))
       (λ _. if-cases Q _ (λ _. uses refused-12) (λ _. if-cases Q _ (λ _. uses refused-12) (λ _. if-cases Q _ (λ _. uses refused-13) (λ _. uses (request connect)))))
 
   opened-tells : (room s link : ℕ) (up : Bool) → P (opens s link up) (opened t room s link up)
   unfolding opened
   opened-tells room s link up =
       let Q = P (opens s link up) in
-      gate-cases Q t _ _ _ _ (λ r h. keeps (silent refl))
+      gate-refusals Q t _ _ _ _ (λ r h. keeps (silent refl))
       (λ _. if-cases Q _ (λ _. keeps (silent refl))
       (λ _. if-cases Q _ (λ _. keeps (silent refl))
       (λ _. if-cases Q _ (λ _. keeps (silent refl))
@@ -154,19 +155,19 @@ module _ (t : Table) (fit : Fit t) (v w : Window) where
 
   give-up : (room s : ℕ) → P (gives s) (giveUp t room s)
   unfolding giveUp
-  give-up room s = let Q = P (gives s) in gate-cases Q t _ _ _ _ (λ r h. keeps (silent refl)) (λ _. if-cases Q _ (λ _. keeps (silent refl)) (λ _. keeps (silent refl)))
+  give-up room s = let Q = P (gives s) in gate-refusals Q t _ _ _ _ (λ r h. keeps (silent refl)) (λ _. if-cases Q _ (λ _. keeps (silent refl)) (λ _. keeps (silent refl)))
 
   -- ---- holds and disconnects
 
   inc-ref : (s : ℕ) → P (holds s) (incRef t s)
   unfolding incRef
-  inc-ref s = let Q = P (holds s) in gate-cases Q t _ _ _ _ (λ r h. keeps (silent refl)) (λ _. if-cases Q _ (λ _. keeps (silent refl)) (λ _. keeps (silent refl)))
+  inc-ref s = let Q = P (holds s) in gate-refusals Q t _ _ _ _ (λ r h. keeps (silent refl)) (λ _. if-cases Q _ (λ _. keeps (silent refl)) (λ _. keeps (silent refl)))
 
   dec-ref : (room s : ℕ) → P (releases s) (decRef t room s)
   unfolding decRef
   dec-ref room s =
       let Q = P (releases s) in
-      gate-cases Q t _ _ _ _ (λ r h. keeps (silent refl)) (λ _. if-cases Q _ (λ _. keeps (silent refl)) (λ _. if-cases Q _ (λ _. keeps (silent refl)) (λ _. keeps (silent refl))))
+      gate-refusals Q t _ _ _ _ (λ r h. keeps (silent refl)) (λ _. if-cases Q _ (λ _. keeps (silent refl)) (λ _. if-cases Q _ (λ _. keeps (silent refl)) (λ _. keeps (silent refl))))
 
   leaves-tells : (r : Request) → ((a : Answer) → Told.speaks r a ≡ false) → (s : ℕ) → P r (disconnecting t s)
   unfolding disconnecting
@@ -174,19 +175,19 @@ module _ (t : Table) (fit : Fit t) (v w : Window) where
 
   disconnect-tells : (room s : ℕ) → P (leaves s) (disconnect t room s)
   unfolding disconnect
-  disconnect-tells room s = gate-cases (P (leaves s)) t _ _ _ _ (λ r h. keeps (silent refl)) (λ _. leaves-tells (leaves s) (λ _. refl) s)
+  disconnect-tells room s = gate-refusals (P (leaves s)) t _ _ _ _ (λ r h. keeps (silent refl)) (λ _. leaves-tells (leaves s) (λ _. refl) s)
 
   disconnect-by-cid : (room cid : ℕ) → P (leavesCid cid) (disconnectByCid t room cid)
   unfolding disconnectByCid
   disconnect-by-cid room cid =
       let Q = P (leavesCid cid) in
-      gate-cases Q t _ _ _ _ (λ r h. keeps (silent refl)) (λ _. if-cases Q _ (λ _. leaves-tells (leavesCid cid) (λ _. refl) _) (λ _. keeps (silent refl)))
+      gate-refusals Q t _ _ _ _ (λ r h. keeps (silent refl)) (λ _. if-cases Q _ (λ _. leaves-tells (leavesCid cid) (λ _. refl) _) (λ _. keeps (silent refl)))
 
   next-disconnect : (room signal : ℕ) → P announces (nextDisconnect t room signal)
   unfolding nextDisconnect
   next-disconnect room signal =
       let Q = P announces in
-      gate-cases Q t _ _ _ _ (λ r h. keeps (silent refl))
+      gate-refusals Q t _ _ _ _ (λ r h. keeps (silent refl))
       (λ _. if-cases Q _ (λ _. keeps (silent refl))
       (λ e.
       let k : ChannelState = slotAt t (found dueSlot t) .state in
@@ -270,20 +271,20 @@ module _ (t : Table) (fit : Fit t) (v w : Window) where
   signalled-tells : (room signal link : ℕ) (listening central : Bool) (pdu : List ℕ) → P (signals link listening central pdu) (signalled t room signal link listening central pdu)
   unfolding signalled
   signalled-tells room signal link listening central pdu =
-      gate-cases (P (signals link listening central pdu)) t _ _ _ _ (λ r h. keeps (silent refl)) (λ _. checked-tells link listening central pdu _ refl)
+      gate-refusals (P (signals link listening central pdu)) t _ _ _ _ (λ r h. keeps (silent refl)) (λ _. checked-tells link listening central pdu _ refl)
 
   -- ---- jobs
 
-  taken-tells : (s size : ℕ) (g : Grant) → grantIn (slotAt t s) ≡ g → P (takes s) (taken t s (slotAt t s) size g)
+  taken-tells : (s : ℕ) (g : Grant) → grantIn (slotAt t s) ≡ g → P (takes s) (taken t s (slotAt t s) g)
   unfolding taken
-  taken-tells s size Grant.Nothing e = keeps (silent refl)
-  taken-tells s size (Grant.Credits n) e = let g = granted-in (slotAt t s) n e in uses (request (credits (connected-is (slotAt t s .state) (g .0)) (g .1)))
+  taken-tells s Grant.Nothing e = keeps (silent refl)
+  taken-tells s (Grant.Credits n) e = let g = granted-in (slotAt t s) n e in uses (request (credits (connected-is (slotAt t s .state) (g .0)) (g .1)))
 
   receive-tells : (room signal s size : ℕ) → P (takes s) (receive t room signal s size)
   unfolding receive
   receive-tells room signal s size =
       let Q = P (takes s) in
-      gate-cases Q t _ _ _ _ (λ r h. keeps (silent refl)) (λ _. if-cases Q _ (λ _. keeps (silent refl)) (λ _. if-cases Q _ (λ _. keeps (silent refl)) (λ _. taken-tells s size _ refl)))
+      gate-refusals Q t _ _ _ _ (λ r h. keeps (silent refl)) (λ _. if-cases Q _ (λ _. keeps (silent refl)) (λ _. if-cases Q _ (λ _. keeps (silent refl)) (λ _. if-cases Q _ (λ _. keeps (silent refl)) (λ _. taken-tells s _ refl))))
 
   -- ---- jobs handed over in portions: of the first frame its header is written
 
@@ -296,32 +297,32 @@ module _ (t : Table) (fit : Fit t) (v w : Window) where
   unfolding startJob
   start-tells s l size =
       let Q = P (starts s l) in
-      gate-cases Q t _ _ _ _ (λ r h. keeps (silent refl)) (λ _. if-cases Q _ (λ _. keeps (silent refl)) (λ _. if-cases Q _ (λ _. keeps (silent refl)) (λ _. started-tells s l size _)))
+      gate-refusals Q t _ _ _ _ (λ r h. keeps (silent refl)) (λ _. if-cases Q _ (λ _. keeps (silent refl)) (λ _. if-cases Q _ (λ _. keeps (silent refl)) (λ _. started-tells s l size _)))
 
   cancel-tells : (room s : ℕ) → P (cancels s) (cancelJob t room s)
   unfolding cancelJob
   cancel-tells room s =
       let Q = P (cancels s) in
-      gate-cases Q t _ _ _ _ (λ r h. keeps (silent refl))
+      gate-refusals Q t _ _ _ _ (λ r h. keeps (silent refl))
       (λ _. if-cases Q _ (λ _. keeps (silent refl)) (λ _. if-cases Q _ (λ _. keeps (silent refl)) (λ _. if-cases Q _ (λ _. keeps (silent refl)) (λ _. keeps (silent refl)))))
 
   -- ---- calls that change no slot
 
   register-tells : (spsm : ℕ) → P (register spsm) (registerSpsm t spsm)
   unfolding registerSpsm
-  register-tells spsm = let Q = P (register spsm) in gate-cases Q t _ _ _ _ (λ r h. keeps (silent refl)) (λ _. if-cases Q _ (λ _. keeps (silent refl)) (λ _. keeps (silent refl)))
+  register-tells spsm = let Q = P (register spsm) in gate-refusals Q t _ _ _ _ (λ r h. keeps (silent refl)) (λ _. if-cases Q _ (λ _. keeps (silent refl)) (λ _. keeps (silent refl)))
 
   attention-tells : P attends (attention t)
   unfolding attention
-  attention-tells = gate-cases (P attends) t _ _ _ _ (λ r h. keeps (silent refl)) (λ _. keeps (silent refl))
+  attention-tells = gate-refusals (P attends) t _ _ _ _ (λ r h. keeps (silent refl)) (λ _. keeps (silent refl))
 
   query-tells : (of : Slot → ℕ) (s : ℕ) → P (asks of s) (query of t s)
   unfolding query
-  query-tells of s = gate-cases (P (asks of s)) t _ _ _ _ (λ r h. keeps (silent refl)) (λ _. keeps (silent refl))
+  query-tells of s = gate-refusals (P (asks of s)) t _ _ _ _ (λ r h. keeps (silent refl)) (λ _. keeps (silent refl))
 
   send-signal : (signal link : ℕ) (s : Signal) → P (sendsSignal link s) (sendSignal t signal link s)
   unfolding sendSignal
-  send-signal signal link s = gate-cases (P (sendsSignal link s)) t _ _ _ _ (λ r h. keeps (silent (refused-not-0 r))) (λ _. uses (request parameters))
+  send-signal signal link s = gate-refusals (P (sendsSignal link s)) t _ _ _ _ (λ r h. keeps (silent (refused-not-0 r))) (λ _. uses (request parameters))
 
   -- ---- all of them
 
@@ -366,7 +367,7 @@ module _ (t : Table) (link cid : ℕ) (payload : List ℕ) where
   dispatch-tells : (room : ℕ) (head : List ℕ) (count : ℕ) → F (dispatch t room link cid head count)
   unfolding dispatch
   dispatch-tells room head count =
-      gate-cases F t _ _ _ _ (λ r h. keeps frame-in)
+      gate-refusals F t _ _ _ _ (λ r h. keeps frame-in)
       (λ _. if-cases F _ (λ _. keeps frame-in)
       (λ _. if-cases F _ (λ _. keeps frame-in) (λ _. if-cases F _ (λ _. keeps frame-in) (λ _. if-cases F _ (λ _. keeps frame-in) (λ _. joined-tells _ _ count _)))))
 
@@ -381,19 +382,19 @@ module _ (t : Table) (s : ℕ) (sdu : List ℕ) (w : Window) where
 
   send-tells : (l out : ℕ) → N (send t s l out)
   unfolding send
-  send-tells l out = gate-cases N t _ _ _ _ (λ r h. keeps frames-out) (λ _. if-cases N _ (λ _. keeps frames-out) (λ _. if-cases N _ (λ _. keeps frames-out) (λ _. planned-tells _ l _)))
+  send-tells l out = gate-refusals N t _ _ _ _ (λ r h. keeps frames-out) (λ _. if-cases N _ (λ _. keeps frames-out) (λ _. if-cases N _ (λ _. keeps frames-out) (λ _. planned-tells _ l _)))
 
 portion-tells : (t : Table) (s : ℕ) (octets : List ℕ) (w : Window) (count size : ℕ) → Tells t (portions s octets w) (givePortion t s count size)
 unfolding givePortion
 portion-tells t s octets w count size =
     let Q = Tells t (portions s octets w) in
-    gate-cases Q t _ _ _ _ (λ r h. keeps portion-out)
+    gate-refusals Q t _ _ _ _ (λ r h. keeps portion-out)
     (λ _. if-cases Q _ (λ _. keeps portion-out)
     (λ _. if-cases Q _ (λ _. keeps portion-out) (λ _. if-cases Q _ (λ _. keeps portion-out) (λ _. if-cases Q _ (λ _. keeps portion-out) (λ _. keeps portion-out)))))
 
 down-tells : (t : Table) (room link : ℕ) → Tells t (down link) (disconnected t room link)
 unfolding disconnected
-down-tells t room link = gate-cases (Tells t (down link)) t _ _ _ _ (λ r h. keeps link-down) (λ _. keeps link-down)
+down-tells t room link = gate-refusals (Tells t (down link)) t _ _ _ _ (λ r h. keeps link-down) (λ _. keeps link-down)
 
 pub every-call-tells : EveryCallTells
 unfolding decide bare

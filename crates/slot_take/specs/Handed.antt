@@ -19,7 +19,7 @@ use Rattle.definition.specs.Mem.{Fill, given, sizes, fill, fills, written, part
 use Rattle.definition.specs.Table.{placeSize, partWidth, withAccount, withQueue}
 use Rattle.definition.specs.Outcome.{only}
 use Rattle.definition.specs.Ending.{itself, written-none, written-given, sizes-given, parts-none}
-use Rattle.definition.specs.Frames.{shifted, upwards, oldest, copied, crediting}
+use Rattle.definition.specs.Frames.{shifted, upwards, oldest, crediting}
 use Rattle.table_endings.specs.Reply.{Replied}
 use Rattle.slot_work.specs.declared.Worked.{Worked}
 use Rattle.slot_work.specs.Work.{worked}
@@ -36,9 +36,9 @@ shifted-four (a ∷ b ∷ c ∷ d ∷ f ∷ xs) e = absurd (omega arith)
 
 -- What slot s leaves, as x, once its oldest job was handed out; `octets` is what was written of a signal.
 pub record Handed (d m s : ℕ) (x : Slot) (octets : ℕ) (room job : List ℕ) (r : Worked) (room′ job′ : List ℕ) : Type 0 where
-  pub gave : r ≡ worked (Job (x .link) (copied x (length job)) (oldest x)) (withQueue (shifted (x .queue)) x) octets
+  pub gave : r ≡ worked (Job (x .link) (oldest x)) (withQueue (shifted (x .queue)) x) octets
   pub moved : room′ ≡ parts itself [] (partWidth d m) (only s (upwards (placeSize m) (x .queue .count))) room
-  pub told : job′ ≡ sets job 0 (part room (s * partWidth d m + place (placeSize m) 1) (copied x (length job)))
+  pub told : job′ ≡ sets job 0 (part room (s * partWidth d m + place (placeSize m) 1) (oldest x))
 
 -- a slot that stays
 pub took-none : (w s : ℕ) (x : Slot) (a : Answer) (room out job : List ℕ) {r : Worked} → r ≡ worked a x 0 → Took w s (keeps x a) room out job r room out job
@@ -48,19 +48,19 @@ took-none w s x a room out job e =
 
 module _ (d m s id : ℕ) (x : Slot) {octets : ℕ} {room job : List ℕ} {r : Worked} {room′ job′ : List ℕ} (h : Handed d m s x octets room job r room′ job′) where
   hands : (signal : List Fill) {out out′ : List ℕ} → octets ≡ sizes signal → out′ ≡ written itself [] room 0 signal out
-      → Took (partWidth d m) s (handOf d m s x (length job) signal) room out job r room′ out′ job′
+      → Took (partWidth d m) s (handOf d m s x signal) room out job r room′ out′ job′
   unfolding written fills fill
   hands signal n o =
       record {
         gave = rw n at (h .gave);
         moved = h .moved;
         told = o;
-        handed = rw (append-nil (part room (s * partWidth d m + place (placeSize m) 1) (copied x (length job)))) (h .told);
+        handed = rw (append-nil (part room (s * partWidth d m + place (placeSize m) 1) (oldest x))) (h .told);
       }
 
 -- no credits are granted
 pub took-still : (d m s id : ℕ) (x : Slot) (out : List ℕ) {room job : List ℕ} {r : Worked} {room′ job′ : List ℕ} → Handed d m s x 0 room job r room′ job′
-    → Took (partWidth d m) s (grantedOf d m s id x (length job) Grant.Nothing) room out job r room′ out job′
+    → Took (partWidth d m) s (grantedOf d m s id x Grant.Nothing) room out job r room′ out job′
 unfolding grantedOf sizes
 took-still d m s id x out {room = room} h = hands d m s id x h [] refl (sym (written-none [] room out))
 
@@ -68,7 +68,7 @@ took-still d m s id x out {room = room} h = hands d m s id x h [] refl (sym (wri
 pub took-granting : (d m s id : ℕ) (x : Slot) (out : List ℕ) {room job : List ℕ} {r : Worked} {room′ job′ : List ℕ} {y : Slot} {n octets : ℕ} {ind : LeCreditFlowInd} {out′ : List ℕ}
     → y ≡ withAccount (granted (x .account) n) x → ind ≡ crediting s n
     → Handed d m s y octets room job r room′ job′ → Replied out (encodeOf id (Signal.LeCreditFlowInd ind)) octets out′
-    → Took (partWidth d m) s (grantedOf d m s id x (length job) (Grant.Credits n)) room out job r room′ out′ job′
+    → Took (partWidth d m) s (grantedOf d m s id x (Grant.Credits n)) room out job r room′ out′ job′
 unfolding grantedOf
 took-granting d m s id x out {room = room} {n = n} f i h w =
     let y = withAccount (granted (x .account) n) x in

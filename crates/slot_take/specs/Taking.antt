@@ -3,9 +3,9 @@
 use mathlib.Core.Path.{_≡_}
 use mathlib.Core.List.{List, [], _∷_}
 use Prim.Native.Nat.{ℕ, _+_, _*_}
-use lib.Dec.{eqb}
+use lib.Dec.{eqb, ltb}
 use Rattle.lists.specs.Choose.{choose}
-use Rattle.codes.specs.declared.Refusal.the-variants.{ChannelClosed}
+use Rattle.codes.specs.declared.Refusal.the-variants.{ChannelClosed, InsufficientSpace}
 use Rattle.credit.specs.declared.Grant.{Grant}
 use Rattle.credit.specs.declared.Grant.the-variants as Grant
 use Rattle.credit.specs.Account.{granted}
@@ -20,7 +20,7 @@ use Rattle.definition.specs.Mem.{Fill, given, held, sizes, parts, written}
 use Rattle.definition.specs.Table.{if_then_else_, placeSize, partWidth, spent, idAfter, withAccount, withQueue}
 use Rattle.definition.specs.Outcome.{Outcome, only, handout}
 use Rattle.definition.specs.Ending.{itself}
-use Rattle.definition.specs.Frames.{shifted, upwards, oldest, copied, grantIn, crediting, closed}
+use Rattle.definition.specs.Frames.{shifted, upwards, oldest, grantIn, crediting, closed}
 use Rattle.slot_work.specs.declared.Worked.{Worked}
 use Rattle.slot_work.specs.Work.{Work, kept, workedOf}
 
@@ -32,25 +32,27 @@ pub record Take : Type 0 where
 abbrev pub keeps : Slot → Answer → Take
 keeps x a = record { work = kept x a; job = [] }
 
--- The oldest job is copied out of place 1 of slot s's part, and the later ones move up; x is the slot with its account as it is left.
-abbrev pub handOf : (d m s : ℕ) → Slot → (size : ℕ) → List Fill → Take
-handOf d m s x size signal =
+-- The oldest job is handed out of place 1 of slot s's part, whole, and the later ones move up; x is the slot with its account as it is left.
+abbrev pub handOf : (d m s : ℕ) → Slot → List Fill → Take
+handOf d m s x signal =
     record {
-      work = record { answer = Job (x .link) (copied x size) (oldest x); slot = withQueue (shifted (x .queue)) x; moves = upwards (placeSize m) (x .queue .count); out = signal };
-      job = held (s * partWidth d m + place (placeSize m) 1) (copied x size) ∷ [];
+      work = record { answer = Job (x .link) (oldest x); slot = withQueue (shifted (x .queue)) x; moves = upwards (placeSize m) (x .queue .count); out = signal };
+      job = held (s * partWidth d m + place (placeSize m) 1) (oldest x) ∷ [];
     }
 
 -- With a grant its signal is written, by the identifier `id`, and the credits are booked.
-unfoldable pub grantedOf : (d m s id : ℕ) → Slot → (size : ℕ) → Grant → Take
-grantedOf d m s id x size Grant.Nothing = handOf d m s x size []
-grantedOf d m s id x size (Grant.Credits n) = handOf d m s (withAccount (granted (x .account) n) x) size (given (encodeOf id (Signal.LeCreditFlowInd (crediting s n))) ∷ [])
+unfoldable pub grantedOf : (d m s id : ℕ) → Slot → Grant → Take
+grantedOf d m s id x Grant.Nothing = handOf d m s x []
+grantedOf d m s id x (Grant.Credits n) = handOf d m s (withAccount (granted (x .account) n) x) (given (encodeOf id (Signal.LeCreditFlowInd (crediting s n))) ∷ [])
 
--- "11 .. taking when free, connecting, pending or failed"; "no job waiting is reported as such .. and writes and grants nothing"
+-- "11 .. taking when free, connecting, pending or failed"; "no job waiting is reported as such .. and writes and grants nothing"; "A buffer shorter than the job
+-- should now be refused" (document 02)
 unfoldable pub takeOf : (d m s id : ℕ) → Slot → (size : ℕ) → Take
 takeOf d m s id x size =
     if closed (x .state) then keeps x (Refused ChannelClosed)
     else if eqb (x .queue .count) 0 then keeps x Done
-    else grantedOf d m s id x size (grantIn x)
+    else if ltb size (oldest x) then keeps x (Refused InsufficientSpace)
+    else grantedOf d m s id x (grantIn x)
 
 -- The next identifier that a table says, and the table, once so many octets of a signal were written: a signal uses an identifier, and nothing else does.
 abbrev pub idThen : (identifier octets : ℕ) → ℕ

@@ -39,7 +39,7 @@ pub fn hand_and_grant(
     n: u16,
 ) -> Worked
     requires { ⌜ Placed d m s (length (now room)) × (signalMost ≤ length (now signal)) × (0 < x .queue .count) ⌝ }
-    ensures { λ r. ⌜ Took (partWidth d m) s (grantedOf d m s id x (length (now (job .entry))) (Credits n)) (now (room .entry)) (now (signal .entry)) (now (job .entry)) r (now (room .exit)) (now (signal .exit)) (now (job .exit)) ⌝ }
+    ensures { λ r. ⌜ Took (partWidth d m) s (grantedOf d m s id x (Credits n)) (now (room .entry)) (now (signal .entry)) (now (job .entry)) r (now (room .exit)) (now (signal .exit)) (now (job .exit)) ⌝ }
 {
     let a = x.account;
     let y = table_slot::with_account(x, credit_in_place::granted_through(a, n));

@@ -1,6 +1,6 @@
 // A finished job handed out of a slot: its octets go to the lent buffer (`shift`), and its queue is one shorter. specs/Handed.antt says what that leaves.
 ghost use mathlib.Core.Path.{_≡_};
-ghost use Prim.Native.Nat.{_<_, min};
+ghost use Prim.Native.Nat.{_<_};
 ghost use lib.ListN.{length};
 ghost use Rattle.definition.specs.Frames.{shifted};
 ghost use Rattle.table_room.specs.Placed.{Placed};
@@ -25,25 +25,16 @@ pub fn hand(
 {
     let q = x.queue;
     let len = q.lens[0];
-    let n = copied(len, job.len());
-    crate::shift::hand_out(room, d, m, s, q.count, job, n);
+    crate::shift::hand_out(room, d, m, s, q.count, job, len as usize);
     let y = table_slot::with_queue(x, shifted(q));
     slot_work::became(
         y,
         Answer::Job {
             link: x.link,
-            copied: n,
             length: len,
         },
         octets,
     )
-}
-
-// How many octets of a job of `len` go to a buffer of `size`.
-fn copied(len: u16, size: usize) -> usize
-    ensures { λ r. ⌜ r ≡ min len size ⌝ }
-{
-    octets::least(len as usize, size)
 }
 
 // The queue without its oldest job.

@@ -7,7 +7,8 @@ mod shift;
 
 ghost use mathlib.Core.Path.{_≡_};
 ghost use Prim.Native.Nat.{_≤_};
-ghost use lib.ListN.{length};
+ghost use lib.Dec.{ltb};
+ghost use lib.ListN.{length, getD};
 ghost use Rattle.channel.specs.Limits.{signalMost};
 ghost use Rattle.definition.specs.Table.{partWidth};
 ghost use Rattle.definition.specs.Frames.{closed};
@@ -15,6 +16,7 @@ ghost use Rattle.table_room.specs.Placed.{Placed};
 ghost use Rattle.slot_take.specs.Taking.{takeOf, Took};
 use channel::Answer;
 use channel::ChannelState;
+use channel::Queue;
 use channel::Slot;
 use codes::Refusal;
 use credit::Grant;
@@ -38,13 +40,25 @@ pub fn take_from(
     if closed(k) {
         return slot_work::became(x, Answer::Refused(Refusal::ChannelClosed), 0);
     }
-    if x.queue.count == 0 {
+    let q = x.queue;
+    if q.count == 0 {
         return slot_work::became(x, Answer::Done, 0);
+    }
+    if short(job.len(), q) {
+        return slot_work::became(x, Answer::Refused(Refusal::InsufficientSpace), 0);
     }
     match granting::grant_in(x) {
         Grant::Nothing => handing::hand(room, d, m, s, x, job, 0),
         Grant::Credits(n) => granting::hand_and_grant(room, signal, d, m, s, x, id, job, n),
     }
+}
+
+// Has a buffer of `size` octets fewer than the oldest job?
+fn short(size: usize, q: Queue) -> bool
+    ensures { λ r. ⌜ r ≡ ltb size (getD (q .lens) 0 0) ⌝ }
+{
+    let oldest = q.lens[0];
+    size < oldest as usize
 }
 
 // Was the slot never a channel, or is it one no more?

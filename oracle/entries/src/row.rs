@@ -23,15 +23,17 @@ const CONNECT_ERROR: u32 = 17;
 pub fn row(memory: &Memory, asked: Asked<'_>, link: u16) -> Row {
     let answer = memory.answer.octets();
     let numbers = [6, 8, 10, 12].map(|at| u16::from_le_bytes([answer[at], answer[at + 1]]));
-    let written = u32::from_le_bytes([answer[2], answer[3], answer[4], answer[5]]);
-    let copied = if answer[0] == JOB { usize::from(numbers[1]) } else { 0 };
+    // A take's signal is the grant of a job that was taken: its row has a column for it, and no other row of a take.
+    let silent = matches!(asked.call, Call::Take { .. }) && answer[0] != JOB;
+    let written = if silent { 0 } else { u32::from_le_bytes([answer[2], answer[3], answer[4], answer[5]]) };
+    let taken = if answer[0] == JOB { usize::from(numbers[1]) } else { 0 };
     let none = Lent::new(0);
     let slot = usize::from(asked.call.slot().unwrap_or(0));
     let (buffer, in_buffer, in_signal) = match asked.call {
         // What stands behind in a buffer that stays is looked at with the table: `Memory::differs`.
         Call::Start { .. } | Call::Portion { .. } => (memory.buffers.get(slot).unwrap_or(&none), written as usize, 0),
         Call::Send { .. } => (&memory.out, written as usize, 0),
-        Call::Take { .. } => (&memory.job, copied, written as usize),
+        Call::Take { .. } => (&memory.job, taken, written as usize),
         _ => (&memory.signal, written as usize, written as usize),
     };
     let told = told(asked.call, memory.number, answer[0], numbers, link);
@@ -73,7 +75,8 @@ fn told(call: &Call, refusal: u32, kind: u8, numbers: [u16; 4], link: u16) -> Op
         (Call::Start { .. }, FRAMES) => Some((vec![second], [link, second, 0, 0])),
         (Call::Portion { .. }, PORTION) => Some((vec![second, third], [link, second, third, 0])),
         (Call::Start { .. } | Call::Portion { .. }, DONE) => None,
-        (Call::Take { .. }, JOB) => Some((vec![second, third], [link, second, third, 0])),
+        // One length, which the row has twice.
+        (Call::Take { .. }, JOB) => Some((vec![second, second], [link, second, 0, 0])),
         (Call::Attention, ATTENTION) => Some((vec![first, second, third], [first, second, third, 0])),
         (Call::Queries { .. }, NUMBER) => Some((vec![first], [first, 0, 0, 0])),
         (Call::Signal { .. }, EVENT) => Some((numbers.to_vec(), numbers)),

@@ -18,7 +18,7 @@ const PORTIONED: [&str; 4] =
 
 /// An open channel with a job that waits and half of another, then a call that writes to every buffer.
 const BUSY: [&str; 8] =
-    ["T 3 2 64", "R 128", "S 1 1 c 14070a0080005000640017000500", "P 1 1", "A 0 - - m2 3", "F 1 64 0300aabbcc", "F 1 64 09000102", "B 0 2"];
+    ["T 3 2 64", "R 128", "S 1 1 c 14070a0080005000640017000500", "P 1 1", "A 0 - - m2 3", "F 1 64 0300aabbcc", "F 1 64 09000102", "B 0 5"];
 
 fn judged(lines: &[&str]) -> Script {
     quiet();
@@ -51,7 +51,18 @@ fn octets_spell_the_table_that_is_read_from_them() {
 
 #[test]
 fn no_octet_is_out_of_sight() {
-    let script = judged(&BUSY);
+    in_sight(&BUSY, "0 aabbcc 3 3 080005001601040040000200");
+}
+
+/// So after a take that is refused for its buffer, which leaves every octet as it was.
+#[test]
+fn no_octet_is_out_of_sight_of_a_short_take() {
+    in_sight(&[&BUSY[..7], &["B 0 2"]].concat(), "12 -");
+}
+
+/// Changes every octet that the last call was lent: each must be noticed.
+fn in_sight(lines: &[&str], told: &str) {
+    let script = judged(lines);
     let mut memory = Memory::new();
     script.steps.iter().for_each(|step| memory.enter(Asked { call: &step.call, pdu: pdu(&step.call), question: 0 }));
     let last = script.steps.last().unwrap();
@@ -60,7 +71,7 @@ fn no_octet_is_out_of_sight() {
         Some(&told) == last.port[0].as_ref() && memory.differs(&last.after[0]).is_none()
     };
     assert!(same(&memory));
-    assert!(last.port[0].as_ref().unwrap().ends_with(" 080005001601040040000200"), "a job and a grant");
+    assert_eq!(last.port[0].as_deref(), Some(told));
     let lent: [fn(&mut Memory) -> &mut Lent; 5] = [
         |memory| &mut memory.table,
         |memory| &mut memory.room,
@@ -138,6 +149,23 @@ fn the_sizes_of_document_02() {
     assert_eq!(last(format!("{}F 1 64 3000aa\nF 1 64 {}\n", open("23"), octets(24))), "9 -");
     assert_eq!(last(format!("{}F 1 64 05\n", open("0"))), "9 -");
     assert_eq!(last(format!("{}F 1 64 05\n", open("1"))), "19 -");
+}
+
+/// The same of its takes: a shorter buffer is refused behind 11 and where a job waits, while disconnecting too, and all stays for the next take.
+#[test]
+fn the_takes_of_document_02() {
+    let open = "T 2 2 64\nR 128\nS 1 1 c 14070a0080005000640017000500\nP 1 1\nA 0 - - - -\n";
+    let play = |script: String| Entries::new(None).rows(&script).unwrap();
+    let last = |script: String| play(script).pop().unwrap();
+    assert_eq!(last(format!("{open}B 0 0\n")), "0 -");
+    assert_eq!(last(format!("{open}B 1 0\n")), "11 -");
+    assert_eq!(last(format!("{open}F 1 64 0000\nB 0 0\n")), "0 - 0 0 080005001601040040000100");
+    assert_eq!(last(format!("{open}F 1 64 0300010203\nD 0\nB 0 2\n")), "12 -");
+    assert_eq!(last(format!("{open}F 1 64 0300010203\nD 0\nB 0 2\nB 0 3\n")), "0 010203 3 3 -");
+    let rows = play(format!("{open}F 1 64 0300010203\nF 1 64 0100aa\nV\nB 0 2\nV\nI\nB 0 3\nB 0 0\nB 0 1\n"));
+    assert_eq!(rows[10], "12 -");
+    assert_eq!(rows[7..10], rows[11..14], "nothing has changed");
+    assert_eq!(rows[14..], ["0 - 1 1 0", "0 010203 3 3 080005001601040040000200", "12 -", "0 aa 1 1 -"]);
 }
 
 fn pdu(call: &Call) -> &[u8] {

@@ -8,7 +8,7 @@ mod portions;
 mod signals;
 mod traffic;
 
-use crate::kinds::{signal_verdict, verdict, Kind};
+use crate::kinds::{cuts, signal_verdict, verdict, Kind};
 use crate::play::SIZES;
 use crate::rng::Rng;
 use crate::script::Source;
@@ -232,7 +232,7 @@ impl Generator {
         self.play(chosen, view)
     }
 
-    /// True where both sides must print the same row and go on alike. Between the signals of one PDU only a run can tell, but for sizes below 23: no signal makes
+    /// True where both sides must print the same row and go on alike, or go on alike with the call left out on the original's. Between the signals of one PDU only a run can tell, but for sizes below 23: no signal makes
     /// an attempt or registers an SPSM.
     fn inside(&self, view: &View, call: &Call) -> bool {
         match call {
@@ -242,10 +242,10 @@ impl Generator {
                 };
                 !parts(pdu).unwrap_or_default().iter().enumerate().any(differs)
             }
-            // A take's verdict needs to know that a job waits, not which.
+            // A take's verdict needs to know that a job waits, not which. A short one of an open channel is the port's alone, and changes nothing.
             Call::Take { slot, .. } => {
                 let waits = view.slots.get(usize::from(*slot)).is_some_and(|record| !record.jobs.is_empty());
-                verdict(view, waits.then_some(&[][..]), call).is_none()
+                cuts(view, call) || verdict(view, waits.then_some(&[][..]), call).is_none()
             }
             _ => verdict(view, None, call).is_none(),
         }

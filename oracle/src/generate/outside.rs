@@ -1,7 +1,7 @@
 //! Calls that the list of differences speaks of, made on purpose: one for each entry that a call can reach.
 
 use super::{numbers, Generator};
-use crate::kinds::Kind;
+use crate::kinds::{grants, Kind};
 use language::{Call, Config, SlotView, State, View, BASE_ID};
 
 impl Generator {
@@ -14,11 +14,12 @@ impl Generator {
             (Kind::LongerThanMps, 40, any(|slot| mps_decides(slot, 1))),
             (Kind::LongerThanMps, 15, any(|slot| pending(slot) && slot.hold > 0)),
             (Kind::BelowLeast, 20, any(attempt)),
+            (Kind::ShortTake, 20, any(|slot| closing(slot) && can_be_cut(slot))),
             (Kind::HeldPanic, 10, any(|slot| pending(slot) && slot.hold == 0)),
             (Kind::JobOpen, 8, any(|slot| slot.job.is_some())),
             (Kind::SetAside, 8, any(|slot| slot.job.is_some())),
             (Kind::TooLong, 10, any(|slot| slot.state == State::Connected && slot.peer_mtu == 65_535)),
-            (Kind::ZeroGrant, 20, any(|slot| slot.state == State::Connected && !slot.jobs.is_empty() && slot.received == 0)),
+            (Kind::ZeroGrant, 60, any(grants_none)),
         ];
         let taken = rare.into_iter().find(|(_, percent, allowed)| *allowed && self.rng.chance(*percent));
         let kind = taken.map_or_else(|| self.rng.pick(&Kind::ALL), |(kind, ..)| kind);
@@ -83,11 +84,11 @@ impl Generator {
                 Some(Call::Send { slot, sdu: self.rng.octets(length) })
             }
             Kind::TakeWhileClosing => {
-                let slot = self.one_of(view, |slot| slot.disconnect_due() || slot.state == State::Disconnecting { announced: true })?;
-                Some(Call::Take { slot, size: self.rng.pick(&[0, 5, 1_024]) })
+                let slot = self.one_of(view, closing)?;
+                Some(Call::Take { slot, size: self.buffer_for(&view.slots[usize::from(slot)]) })
             }
             Kind::ZeroGrant => {
-                let slot = self.one_of(view, |slot| slot.state == State::Connected && !slot.jobs.is_empty() && slot.received == 0)?;
+                let slot = self.one_of(view, grants_none)?;
                 Some(Call::Take { slot, size: 1_024 })
             }
             Kind::ClosedHit | Kind::DisconnectAnyLink => {
@@ -125,6 +126,12 @@ impl Generator {
             Kind::LateCancel => Some(Call::Cancel { slot: self.one_of(view, late)? }),
             Kind::BelowLeast => self.small_opening(view),
             Kind::LongerThanMps => self.longer_than_mps(view),
+            Kind::ShortTake => {
+                let closing = self.one_of(view, |slot| closing(slot) && can_be_cut(slot));
+                let slot = closing.or_else(|| self.one_of(view, can_be_cut))?;
+                let job = view.slots[usize::from(slot)].jobs[0];
+                Some(Call::Take { slot, size: self.rng.pick(&[0, job / 2, job - 1, job - 1]) })
+            }
             Kind::NumbersLeft | Kind::JobsLeft | Kind::AssemblyLeft => {
                 let slot = self.one_of(view, SlotView::free)?;
                 Some(if self.rng.chance(50) { Call::Queries { slot } } else { Call::Room { slot } })
@@ -245,4 +252,18 @@ fn attempt(slot: &SlotView) -> bool {
 
 fn pending(slot: &SlotView) -> bool {
     matches!(slot.state, State::PeerConnecting(_))
+}
+
+/// A job waits whose take the original would answer with a grant of 0 credits.
+fn grants_none(slot: &SlotView) -> bool {
+    slot.state == State::Connected && !slot.jobs.is_empty() && slot.received == 0 && grants(slot)
+}
+
+/// A job waits that a buffer can be too short for.
+fn can_be_cut(slot: &SlotView) -> bool {
+    (closing(slot) || slot.state == State::Connected) && slot.jobs.first().is_some_and(|job| *job > 0)
+}
+
+fn closing(slot: &SlotView) -> bool {
+    slot.disconnect_due() || slot.state == State::Disconnecting { announced: true }
 }

@@ -87,14 +87,21 @@ impl Generator {
             None if self.rng.chance(10) => self.slot_where(view, |slot| slot.state == State::Connected)?,
             None => return None,
         };
-        let job = view.slots[usize::from(slot)].jobs.first().copied().unwrap_or(0);
-        let size = match self.rng.below(6) {
+        Some(Call::Take { slot, size: self.buffer_for(&view.slots[usize::from(slot)]) })
+    }
+
+    /// The size of a take's buffer: none, too short, just enough, one octet more, ample.
+    pub(super) fn buffer_for(&mut self, record: &SlotView) -> u16 {
+        let job = record.jobs.first().copied().unwrap_or(0);
+        match self.rng.below(9) {
             0 => 0,
             1 => job.saturating_sub(1),
-            2 => job,
-            3 => job + 1,
+            2 => self.rng.between(0, job.into()) as u16,
+            3 | 4 => job,
+            5 => job + 1,
+            // Never too short.
+            6 => record.mtu,
             _ => 1_024,
-        };
-        Some(Call::Take { slot, size })
+        }
     }
 }

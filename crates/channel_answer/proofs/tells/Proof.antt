@@ -57,9 +57,6 @@ plain-requires-6 c κs = search needs
 enum-known-a-6 : tie.Need-enum-known-a-6
 enum-known-a-6 c = search needs
 
-shown-requires-2 : tie.Need-shown-requires-2
-shown-requires-2 c κs = search needs
-
 plain-requires-7 : tie.Need-plain-requires-7
 plain-requires-7 c κs = search needs
 
@@ -90,8 +87,8 @@ plain-requires-10 c κs = search needs
 enum-known-a-10 : tie.Need-enum-known-a-10
 enum-known-a-10 c = search needs
 
-shown-requires-3 : tie.Need-shown-requires-3
-shown-requires-3 c κs = search needs
+shown-requires-2 : tie.Need-shown-requires-2
+shown-requires-2 c κs = search needs
 
 bit-requires : tie.Need-bit-requires
 bit-requires c κs = search needs
@@ -121,7 +118,7 @@ returns-7 : tie.Need-returns-7
 returns-7 c = rw (c .before .before .before .a5 .given .1, ← c .before .shown .ensures) (c .plain6 .ensures)
 
 returns-8 : tie.Need-returns-8
-returns-8 c = rw (c .before .before .before .a6 .given .1, ← c .before .shown2 .ensures) (c .plain7 .ensures)
+returns-8 c = rw (c .before .before .a6 .given .1) (c .plain7 .ensures)
 
 returns-9 : tie.Need-returns-9
 returns-9 c = rw (c .before .before .a7 .given .1) (c .plain8 .ensures)
@@ -133,7 +130,7 @@ returns-11 : tie.Need-returns-11
 returns-11 c = rw (c .before .before .a9 .given .1) (c .plain10 .ensures)
 
 returns-12 : tie.Need-returns-12
-returns-12 c = rw (c .before .before .before .before .a10 .given .1, ← c .before .before .shown3 .ensures, ← c .before .bit .ensures) (c .plain11 .ensures)
+returns-12 c = rw (c .before .before .before .before .a10 .given .1, ← c .before .before .shown2 .ensures, ← c .before .bit .ensures) (c .plain11 .ensures)
 
 pub tells-spec : {M : Type 1} → statement M
 tells-spec =
@@ -157,7 +154,6 @@ tells-spec =
     shown-requires
     plain-requires-6
     enum-known-a-6
-    shown-requires-2
     plain-requires-7
     enum-known-a-7
     cast-plain-3
@@ -168,7 +164,7 @@ tells-spec =
     enum-known-a-9
     plain-requires-10
     enum-known-a-10
-    shown-requires-3
+    shown-requires-2
     bit-requires
     plain-requires-11
     returns

@@ -23,7 +23,19 @@ became-requires-2 c κs = search needs
 
 returns-2 : tie.Need-returns-2
 unfolding takeOf choose
-returns-2 c = rw (← c .before .before .before .before .closed .ensures, c .before .before .before .if1 .left, eq-eqb _ _ (c .before .if2 .taken)) (took-none _ _ _ _ _ _ _ (c .became2 .ensures))
+returns-2 c = rw (← c .before .before .before .before .before .closed .ensures, c .before .before .before .before .if1 .left, eq-eqb _ _ (c .before .if2 .taken)) (took-none _ _ _ _ _ _ _ (c .became2 .ensures))
+
+short-requires : tie.Need-short-requires
+short-requires c κs = search needs
+
+became-requires-3 : tie.Need-became-requires-3
+became-requires-3 c κs = search needs
+
+returns-3 : tie.Need-returns-3
+unfolding takeOf choose
+returns-3 c =
+    rw (← c .before .before .before .before .before .before .before .closed .ensures, c .before .before .before .before .before .before .if1 .left, ne-eqb _ _ (c .before .before .before .if2 .left), ← c .before .before .short .ensures, c .before .if3 .taken)
+    (took-none _ _ _ _ _ _ _ (c .became3 .ensures))
 
 grant-in-requires : tie.Need-grant-in-requires
 grant-in-requires c κs = search needs
@@ -46,14 +58,16 @@ same-length c = search needs
 same-length-2 : tie.Need-same-length-2
 same-length-2 c = search needs
 
-returns-3 : tie.Need-returns-3
+returns-4 : tie.Need-returns-4
 unfolding takeOf choose
-returns-3 c =
-    let a = c .before .before .before .before .before .before .before .before .before .before .before .before .before .before .before .before .before .args in
+returns-4 c =
+    let a = c .before .before .before .before .before .before .before .before .before .before .before .before .before .before .before .before .before .before .before .before .args in
     rw (
-      ← c .before .before .before .before .before .before .before .before .before .before .before .before .before .closed .ensures,
-      c .before .before .before .before .before .before .before .before .before .before .before .before .if1 .left,
-      ne-eqb _ _ (c .before .before .before .before .before .before .before .before .before .before .if2 .left),
+      ← c .before .before .before .before .before .before .before .before .before .before .before .before .before .before .before .before .closed .ensures,
+      c .before .before .before .before .before .before .before .before .before .before .before .before .before .before .before .if1 .left,
+      ne-eqb _ _ (c .before .before .before .before .before .before .before .before .before .before .before .before .if2 .left),
+      ← c .before .before .before .before .before .before .before .before .before .before .before .short .ensures,
+      c .before .before .before .before .before .before .before .before .before .before .if3 .left,
       ← c .before .before .before .before .before .before .before .before .before .grant-in .ensures,
       c .before .before .before .before .before .before .before .enum-told .given .1,
     ) (took-still (a .d) (a .m) (a .s) (a .id) (a .x) (a .signal .now) (c .before .before .before .before .hand .ensures))
@@ -67,13 +81,15 @@ same-length-4 c = search needs
 same-length-5 : tie.Need-same-length-5
 same-length-5 c = search needs
 
-returns-4 : tie.Need-returns-4
+returns-5 : tie.Need-returns-5
 unfolding takeOf choose
-returns-4 c =
+returns-5 c =
     rw (
-      ← c .before .before .before .before .before .before .before .before .before .before .before .before .before .before .before .before .before .closed .ensures,
-      c .before .before .before .before .before .before .before .before .before .before .before .before .before .before .before .before .if1 .left,
-      ne-eqb _ _ (c .before .before .before .before .before .before .before .before .before .before .before .before .before .before .if2 .left),
+      ← c .before .before .before .before .before .before .before .before .before .before .before .before .before .before .before .before .before .before .before .before .closed .ensures,
+      c .before .before .before .before .before .before .before .before .before .before .before .before .before .before .before .before .before .before .before .if1 .left,
+      ne-eqb _ _ (c .before .before .before .before .before .before .before .before .before .before .before .before .before .before .before .before .if2 .left),
+      ← c .before .before .before .before .before .before .before .before .before .before .before .before .before .before .before .short .ensures,
+      c .before .before .before .before .before .before .before .before .before .before .before .before .before .before .if3 .left,
       ← c .before .before .before .before .before .before .before .before .before .before .before .before .before .grant-in .ensures,
       c .before .before .before .before .before .before .before .before .before .before .before .n .given .1,
     ) (c .before .before .before .before .before .before .hand-and-grant .ensures)
@@ -87,6 +103,9 @@ take-from-spec =
     returns
     became-requires-2
     returns-2
+    short-requires
+    became-requires-3
+    returns-3
     grant-in-requires
     enum-told
     hand-requires
@@ -94,8 +113,8 @@ take-from-spec =
     hand-and-grant-requires
     same-length
     same-length-2
-    returns-3
+    returns-4
     same-length-3
     same-length-4
     same-length-5
-    returns-4)
+    returns-5)

@@ -8,6 +8,7 @@ mod least;
 mod others;
 mod portions;
 mod states;
+mod takes;
 
 use crate::memory::{Asked, Memory};
 use language::{Call, Sight, SlotView};
@@ -20,13 +21,16 @@ pub struct Fault {
 
 /// The list; the client's lost line is the first.
 pub fn all() -> impl Iterator<Item = &'static Fault> {
-    [jobs::FAULTS, others::FAULTS, credits::FAULTS, states::FAULTS, answers::FAULTS, portions::FAULTS, least::FAULTS].into_iter().flatten()
+    let lists =
+        [jobs::FAULTS, others::FAULTS, credits::FAULTS, states::FAULTS, answers::FAULTS, portions::FAULTS, least::FAULTS, takes::FAULTS];
+    lists.into_iter().flatten()
 }
 
-/// What a fault keeps from call to call: by slot, the numbers and octets of an assembly that was open when its channel ended.
+/// What a fault keeps from call to call, by slot: the numbers and octets of an assembly that was open when its channel ended; that its last take was short.
 #[derive(Default)]
 pub struct Kept {
     assemblies: [Option<(u16, u16, Vec<u8>)>; 16],
+    short: [bool; 16],
 }
 
 /// A call that was made, and what stood before it.

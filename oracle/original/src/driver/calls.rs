@@ -293,6 +293,7 @@ impl<'d, const M: usize> Driver<'d, M> {
         }
     }
 
+    /// The original reports the octets copied. The job's own length is seen before, and is another where the original cuts.
     fn take(&mut self, slot: u8, size: usize) -> Row {
         let job = if usize::from(slot) < self.n { self.channels.job_lengths(slot.into()).first().copied() } else { None };
         let mut buffer = vec![0; size];

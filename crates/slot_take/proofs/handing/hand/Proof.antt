@@ -6,11 +6,11 @@ use Rattle.slot_take.proofs.handing.hand.Tie as tie
 element-copy-out-len : tie.Need-element-copy-out-len
 element-copy-out-len c = search needs
 
-copied-requires : tie.Need-copied-requires
-copied-requires c κs = search needs
+cast-hand-out : tie.Need-cast-hand-out
+cast-hand-out c = search needs
 
 hand-out-requires : tie.Need-hand-out-requires
-hand-out-requires c κs = c .before .before .before .before .before .before .before .pre
+hand-out-requires c κs = search needs
 
 shifted-requires : tie.Need-shifted-requires
 shifted-requires c κs = search needs
@@ -30,11 +30,10 @@ same-length-2 c = search needs
 returns : tie.Need-returns
 returns c =
     let w = c .before .before .before .before .before .before .before in
-    let n = w .before .before .before .copied .ensures in
     record {
-      gave = rw (c .before .with-queue .ensures, c .before .before .shifted .ensures, n) at (c .became .ensures);
+      gave = rw (c .before .with-queue .ensures, c .before .before .shifted .ensures) at (c .became .ensures);
       moved = w .hand-out .ensures .0;
-      told = rw n at (w .hand-out .ensures .1);
+      told = w .hand-out .ensures .1;
     }
 
 pub hand-spec : {M : Type 1} → statement M
@@ -42,7 +41,7 @@ hand-spec =
     tie.close
     (tie.spec
     element-copy-out-len
-    copied-requires
+    cast-hand-out
     hand-out-requires
     shifted-requires
     with-queue-requires

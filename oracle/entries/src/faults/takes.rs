@@ -157,19 +157,15 @@ pub const FAULTS: &[Fault] = &[
     Fault {
         title: "a short take writes the signal of a grant",
         slip: |scene| {
-            short(scene)?;
-            let granted = granted(scene)?;
-            scene.memory.signal.lend()[..granted.len()].copy_from_slice(&granted);
+            write_grant(scene)?;
             Some(())
         },
     },
     Fault {
         title: "a short take writes the signal of a grant, and says so",
         slip: |scene| {
-            short(scene)?;
-            let granted = granted(scene)?;
-            scene.memory.signal.lend()[..granted.len()].copy_from_slice(&granted);
-            scene.memory.answer.lend()[2] = granted.len() as u8;
+            let written = write_grant(scene)?;
+            scene.memory.answer.lend()[2] = written as u8;
             Some(())
         },
     },
@@ -327,6 +323,14 @@ fn granted(scene: &mut Scene<'_>) -> Option<Vec<u8>> {
     scene.memory.put(&now);
     scene.memory.enter(scene.asked);
     (written > 0).then_some(signal)
+}
+
+/// A take of a short buffer writes that signal all the same: how many octets it has.
+fn write_grant(scene: &mut Scene<'_>) -> Option<usize> {
+    short(scene)?;
+    let granted = granted(scene)?;
+    scene.memory.signal.lend()[..granted.len()].copy_from_slice(&granted);
+    Some(granted.len())
 }
 
 /// The frames received are granted anew.

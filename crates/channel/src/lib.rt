@@ -81,6 +81,15 @@ pub struct OpenJob {
     pub aside: u16,
 }
 
+// What a service screen shows of a channel (`Metrics` in the original): the frames sent, those received, and the sends and frames that were refused for
+// want of credits. Each wraps at 64 bits.
+pub struct Tallies {
+    pub sent: u64,
+    pub received: u64,
+    pub blocked_sends: u64,
+    pub blocked_receives: u64,
+}
+
 // One slot (`ChannelStorage` in the original). Its local CID is 0x40 + its number and isn't stored.
 pub struct Slot {
     pub state: ChannelState,
@@ -94,6 +103,7 @@ pub struct Slot {
     pub assembly: Assembly,
     pub queue: Queue,
     pub job: OpenJob,
+    pub tallies: Tallies,
 }
 
 // The table: N slots in use, D waiting jobs a slot, packets of M octets, the next identifier, a bit for each registered SPSM.
@@ -164,8 +174,8 @@ pub enum Answer {
         count: u8,
         lowest: u8,
     },
-    // 0, and the number asked for.
-    Number(u16),
+    // 0, and the number asked for: of a tally all 64 bits.
+    Number(u64),
     // 0, and the valid parameters that the peer asks for.
     Event {
         min: u16,

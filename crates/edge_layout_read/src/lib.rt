@@ -6,9 +6,13 @@ use channel::Peer;
 use channel::Queue;
 use channel::SLOTS;
 use channel::Slot;
+use channel::Tallies;
 use credit::CreditFlowControl;
+use edge_layout::BLOCKED_RECEIVES;
+use edge_layout::BLOCKED_SENDS;
 use edge_layout::COUNT;
 use edge_layout::CREDITS;
+use edge_layout::FRAMES_RECEIVED;
 use edge_layout::HAVE;
 use edge_layout::HOLD;
 use edge_layout::JOB_ASIDE;
@@ -27,9 +31,11 @@ use edge_layout::PEER_MTU;
 use edge_layout::POLICY;
 use edge_layout::POLICY_VALUE;
 use edge_layout::RECEIVED;
+use edge_layout::SENT;
 use edge_layout::SPSM;
 use edge_layout::VALUE;
 use edge_layout::WANT;
+use edge_layout::cells::long;
 use edge_layout::cells::number;
 use edge_layout::cells::octet;
 pub use edge_layout::cells::row_spelled;
@@ -109,6 +115,18 @@ pub fn job_at(t: &[u8], i: usize) -> OpenJob
     }
 }
 
+pub fn tallies_at(t: &[u8], i: usize) -> Tallies
+    requires { ⌜ (tableOctets ≤ length (now t)) × (i < slotsMost) ⌝ }
+    ensures { λ r. ⌜ r ≡ slotIn (cell (now (t .entry)) i) .tallies ⌝ }
+{
+    Tallies {
+        sent: long(t, i, SENT),
+        received: long(t, i, FRAMES_RECEIVED),
+        blocked_sends: long(t, i, BLOCKED_SENDS),
+        blocked_receives: long(t, i, BLOCKED_RECEIVES),
+    }
+}
+
 // The slot that row i says.
 pub fn slot_at(t: &[u8], i: usize) -> Slot
     requires { ⌜ (tableOctets ≤ length (now t)) × (i < slotsMost) ⌝ }
@@ -120,6 +138,7 @@ pub fn slot_at(t: &[u8], i: usize) -> Slot
     let assembly = assembly_at(t, i);
     let queue = queue_at(t, i);
     let job = job_at(t, i);
+    let tallies = tallies_at(t, i);
     Slot {
         state,
         link: number(t, i, LINK),
@@ -132,5 +151,6 @@ pub fn slot_at(t: &[u8], i: usize) -> Slot
         assembly,
         queue,
         job,
+        tallies,
     }
 }

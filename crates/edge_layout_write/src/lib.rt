@@ -7,7 +7,11 @@ use channel::Peer;
 use channel::Queue;
 use channel::SLOTS;
 use channel::Slot;
+use channel::Tallies;
+use edge_layout::BLOCKED_RECEIVES;
+use edge_layout::BLOCKED_SENDS;
 use edge_layout::COUNT;
+use edge_layout::FRAMES_RECEIVED;
 use edge_layout::HAVE;
 use edge_layout::HOLD;
 use edge_layout::JOB_ASIDE;
@@ -19,9 +23,11 @@ use edge_layout::PEER_CID;
 use edge_layout::PEER_CREDITS;
 use edge_layout::PEER_MPS;
 use edge_layout::PEER_MTU;
+use edge_layout::SENT;
 use edge_layout::WANT;
 pub use local::put_account;
 use local::put_local;
+use local::put_long;
 use local::put_number;
 use local::put_octet;
 pub use local::put_state;
@@ -31,7 +37,7 @@ ghost use Prim.Native.Nat.{_≤_, _<_};
 ghost use lib.ListN.{length};
 ghost use Rattle.octets.specs.Octets.{le16};
 ghost use Rattle.channel.specs.Limits.{slotsMost};
-ghost use Rattle.edge_layout.specs.Layout.{tableOctets, peerOctets, assemblyOctets, queueOctets, jobOctets, row};
+ghost use Rattle.edge_layout.specs.Layout.{tableOctets, peerOctets, assemblyOctets, queueOctets, jobOctets, sendTallies, frameTallies, talliesOctets, row};
 ghost use Rattle.edge_layout_write.specs.Puts.{puts, leftRow, takenRow};
 
 fn put_peer(t: &mut [u8], i: usize, p: Peer)
@@ -82,6 +88,32 @@ pub fn put_job(t: &mut [u8], i: usize, j: OpenJob)
     put_number(t, i, JOB_ASIDE, j.aside);
 }
 
+// What a send counts.
+pub fn put_send_tallies(t: &mut [u8], i: usize, y: Tallies)
+    requires { ⌜ (tableOctets ≤ length (now t)) × (i < slotsMost) ⌝ }
+    ensures { λ _. ⌜ now (t .exit) ≡ puts (now (t .entry)) i 47 (sendTallies y) ⌝ }
+{
+    put_long(t, i, SENT, y.sent);
+    put_long(t, i, BLOCKED_SENDS, y.blocked_sends);
+}
+
+// What a frame counts.
+pub fn put_frame_tallies(t: &mut [u8], i: usize, y: Tallies)
+    requires { ⌜ (tableOctets ≤ length (now t)) × (i < slotsMost) ⌝ }
+    ensures { λ _. ⌜ now (t .exit) ≡ puts (now (t .entry)) i 63 (frameTallies y) ⌝ }
+{
+    put_long(t, i, FRAMES_RECEIVED, y.received);
+    put_long(t, i, BLOCKED_RECEIVES, y.blocked_receives);
+}
+
+pub fn put_tallies(t: &mut [u8], i: usize, y: Tallies)
+    requires { ⌜ (tableOctets ≤ length (now t)) × (i < slotsMost) ⌝ }
+    ensures { λ _. ⌜ now (t .exit) ≡ puts (now (t .entry)) i 47 (talliesOctets y) ⌝ }
+{
+    put_send_tallies(t, i, y);
+    put_frame_tallies(t, i, y);
+}
+
 // The job that arrives, those that wait and the open one.
 fn put_jobs(t: &mut [u8], i: usize, a: Assembly, q: Queue, j: OpenJob)
     requires { ⌜ (tableOctets ≤ length (now t)) × (i < slotsMost) ⌝ }
@@ -109,9 +141,11 @@ pub fn put_slot(t: &mut [u8], i: usize, x: Slot)
     let q = x.queue;
     let j = x.job;
     put_jobs(t, i, b, q, j);
+    let y = x.tallies;
+    put_tallies(t, i, y);
 }
 
-// Writes of the slot what changes where its channel is left: its state, its account, its assembly, the jobs that wait and the open job.
+// Writes of the slot what changes where its channel is left: its state, its account, its assembly, the jobs that wait, the open job and the tallies.
 pub fn put_left(t: &mut [u8], i: usize, x: Slot)
     requires { ⌜ (tableOctets ≤ length (now t)) × (i < slotsMost) ⌝ }
     ensures { λ _. ⌜ now (t .exit) ≡ leftRow (now (t .entry)) i x ⌝ }
@@ -124,6 +158,8 @@ pub fn put_left(t: &mut [u8], i: usize, x: Slot)
     let q = x.queue;
     let j = x.job;
     put_jobs(t, i, b, q, j);
+    let y = x.tallies;
+    put_tallies(t, i, y);
 }
 
 // Writes of the slot what a take can change: its account and the jobs that wait.

@@ -37,6 +37,17 @@ pub fn put_number(t: &mut [u8], i: usize, column: usize, v: u16)
     put_octet(t, i, column + SLOTS, (v / 256) as u8);
 }
 
+pub fn put_long(t: &mut [u8], i: usize, column: usize, v: u64)
+    requires { ⌜ i + (column + 7 * slotsMost) < length (now t) ⌝ }
+    ensures { λ _. ⌜ now (t .exit) ≡ putsFrom (now (t .entry)) (i + column) (le64 v) ⌝ }
+{
+    let l = octets::limbs(v);
+    put_number(t, i, column, l.first);
+    put_number(t, i, column + 2 * SLOTS, l.second);
+    put_number(t, i, column + 4 * SLOTS, l.third);
+    put_number(t, i, column + 6 * SLOTS, l.fourth);
+}
+
 // ---- columns in a row
 
 pub fn put_state(t: &mut [u8], i: usize, k: ChannelState)

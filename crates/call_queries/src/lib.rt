@@ -54,7 +54,7 @@ pub fn tally_sent(t: Table, slot: ChannelIndex) -> Served
     ensures { λ r. ⌜ r ≡ servedOf (tallySent t (slot .0)) ⌝ }
 {
     let x = table::slot_at(t, table::number(slot));
-    query::told(t, slot, x.tallies.sent)
+    query::told(t, slot, x.tallies.sends.frames)
 }
 
 // The frames that came and used a credit.
@@ -62,7 +62,7 @@ pub fn tally_received(t: Table, slot: ChannelIndex) -> Served
     ensures { λ r. ⌜ r ≡ servedOf (tallyReceived t (slot .0)) ⌝ }
 {
     let x = table::slot_at(t, table::number(slot));
-    query::told(t, slot, x.tallies.received)
+    query::told(t, slot, x.tallies.receives.frames)
 }
 
 // The sends and starts that were refused for want of credits.
@@ -70,7 +70,7 @@ pub fn tally_blocked_sends(t: Table, slot: ChannelIndex) -> Served
     ensures { λ r. ⌜ r ≡ servedOf (tallyBlockedSends t (slot .0)) ⌝ }
 {
     let x = table::slot_at(t, table::number(slot));
-    query::told(t, slot, x.tallies.blocked_sends)
+    query::told(t, slot, x.tallies.sends.blocked)
 }
 
 // The frames that were refused for want of credits.
@@ -78,5 +78,5 @@ pub fn tally_blocked_receives(t: Table, slot: ChannelIndex) -> Served
     ensures { λ r. ⌜ r ≡ servedOf (tallyBlockedReceives t (slot .0)) ⌝ }
 {
     let x = table::slot_at(t, table::number(slot));
-    query::told(t, slot, x.tallies.blocked_receives)
+    query::told(t, slot, x.tallies.receives.blocked)
 }

@@ -81,13 +81,16 @@ pub struct OpenJob {
     pub aside: u16,
 }
 
-// What a service screen shows of a channel (`Metrics` in the original): the frames sent, those received, and the sends and frames that were refused for
-// want of credits. Each wraps at 64 bits.
+// One direction's tallies: its frames, and how often it was refused for want of credits. Each wraps at 64 bits.
+pub struct Tally {
+    pub frames: u64,
+    pub blocked: u64,
+}
+
+// What a service screen shows of a channel (`Metrics` in the original): frames sent and blocked sends, frames received and blocked receives.
 pub struct Tallies {
-    pub sent: u64,
-    pub received: u64,
-    pub blocked_sends: u64,
-    pub blocked_receives: u64,
+    pub sends: Tally,
+    pub receives: Tally,
 }
 
 // One slot (`ChannelStorage` in the original). Its local CID is 0x40 + its number and isn't stored.

@@ -88,7 +88,7 @@ fn refused(r: Refusal) -> Told
 fn number(n: u64) -> Told
     ensures { λ r. ⌜ r ≡ tells (Number n) ⌝ }
 {
-    let l = octets::limbs(n);
+    let l = octets::limbs_of(n);
     plain(NUMBER, l.first, l.second, l.third, l.fourth)
 }
 

@@ -68,7 +68,7 @@ fn row(t: &[u8], i: usize) -> Slot
     }
 }
 
-// Writes what a frame can change of the slot: the tallies of frames, and where the channel is left the open job and all tallies. With one caller too.
+// Writes what a frame can change of the slot: what is counted of frames, and where the channel is left the open job and all tallies. With one caller too.
 fn put_row(t: &mut [u8], i: usize, x: Slot)
     requires { ⌜ (tableOctets ≤ length (now t)) × (i < slotsMost) ⌝ }
     ensures { λ _. ⌜ now (t .exit) ≡ framedRow (now (t .entry)) i x ⌝ }
@@ -81,13 +81,14 @@ fn put_row(t: &mut [u8], i: usize, x: Slot)
     edge_layout_write::put_assembly(t, i, b);
     let q = x.queue;
     edge_layout_write::put_queue(t, i, q);
-    let y = x.tallies;
     if table_state::is_connected(k) {
-        edge_layout_write::put_frame_tallies(t, i, y);
+        let counted = x.tallies.receives;
+        edge_layout_write::put_receives(t, i, counted);
         return;
     }
     let j = x.job;
     edge_layout_write::put_job(t, i, j);
+    let y = x.tallies;
     edge_layout_write::put_tallies(t, i, y);
 }
 

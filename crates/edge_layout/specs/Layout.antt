@@ -29,6 +29,7 @@ use Rattle.channel.specs.declared.Queue.{Queue}
 use Rattle.channel.specs.declared.Slot.{Slot}
 use Rattle.channel.specs.declared.Table.{Table}
 use Rattle.channel.specs.declared.Tallies.{Tallies}
+use Rattle.channel.specs.declared.Tally.{Tally}
 use Rattle.definition.specs.Table.{if_then_else_}
 use Rattle.definition.specs.Asking.{noSlots}
 use Rattle.edge_layout.specs.declared.Decoded.{Decoded}
@@ -102,15 +103,12 @@ queueOctets q = q .count ∷ le16 (getD (q .lens) 0 0) ++ (le16 (getD (q .lens) 
 abbrev pub jobOctets : OpenJob → List ℕ
 jobOctets j = le16 (j .length) ++ (le16 (j .taken) ++ (le16 (j .filled) ++ le16 (j .aside)))
 
--- what a send counts, and what a frame does: 64 bits each
-abbrev pub sendTallies : Tallies → List ℕ
-sendTallies y = le64 (y .sent) ++ le64 (y .blocked_sends)
-
-abbrev pub frameTallies : Tallies → List ℕ
-frameTallies y = le64 (y .received) ++ le64 (y .blocked_receives)
+-- what is counted of sends, then of frames: 64 bits each
+abbrev pub tallyOctets : Tally → List ℕ
+tallyOctets y = le64 (y .frames) ++ le64 (y .blocked)
 
 abbrev pub talliesOctets : Tallies → List ℕ
-talliesOctets y = sendTallies y ++ frameTallies y
+talliesOctets y = tallyOctets (y .sends) ++ tallyOctets (y .receives)
 
 -- a slot's row, column by column
 unfoldable pub row : Slot → List ℕ
@@ -172,6 +170,9 @@ numberIn f c = f c + 256 * f (suc c)
 abbrev pub longIn : (ℕ → ℕ) → ℕ → ℕ
 longIn f c = ofLimbs (numberIn f c) (numberIn f (2 + c)) (numberIn f (4 + c)) (numberIn f (6 + c))
 
+abbrev pub tallyIn : (ℕ → ℕ) → ℕ → Tally
+tallyIn f c = record { frames = longIn f c; blocked = longIn f (8 + c) }
+
 unfoldable pub slotIn : (ℕ → ℕ) → Slot
 slotIn f =
     record {
@@ -186,7 +187,7 @@ slotIn f =
       assembly = record { have = numberIn f 26; want = numberIn f 28 };
       queue = record { count = f 30; lens = numberIn f 31 ∷ numberIn f 33 ∷ numberIn f 35 ∷ numberIn f 37 ∷ [] };
       job = record { length = numberIn f 39; taken = numberIn f 41; filled = numberIn f 43; aside = numberIn f 45 };
-      tallies = record { sent = longIn f 47; received = longIn f 63; blocked_sends = longIn f 55; blocked_receives = longIn f 71 };
+      tallies = record { sends = tallyIn f 47; receives = tallyIn f 63 };
     }
 
 unfoldable pub taken : List ℕ → Table

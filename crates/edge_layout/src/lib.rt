@@ -68,17 +68,13 @@ pub const JOB_FILLED: usize = JOB_TAKEN + 2 * SLOTS;
 
 pub const JOB_ASIDE: usize = JOB_FILLED + 2 * SLOTS;
 
-// A tally takes eight columns: those that a send counts, then those that a frame does.
-pub const SENT: usize = JOB_ASIDE + 2 * SLOTS;
+// A direction's frames and how often it was blocked, eight columns each.
+pub const SENDS: usize = JOB_ASIDE + 2 * SLOTS;
 
-pub const BLOCKED_SENDS: usize = SENT + 8 * SLOTS;
-
-pub const FRAMES_RECEIVED: usize = BLOCKED_SENDS + 8 * SLOTS;
-
-pub const BLOCKED_RECEIVES: usize = FRAMES_RECEIVED + 8 * SLOTS;
+pub const RECEIVES: usize = SENDS + 16 * SLOTS;
 
 // The octets of a table.
-pub const TABLE_OCTETS: usize = BLOCKED_RECEIVES + 8 * SLOTS;
+pub const TABLE_OCTETS: usize = RECEIVES + 16 * SLOTS;
 
 // ---- a state and a policy as octets
 

@@ -7,12 +7,10 @@ use channel::Queue;
 use channel::SLOTS;
 use channel::Slot;
 use channel::Tallies;
+use channel::Tally;
 use credit::CreditFlowControl;
-use edge_layout::BLOCKED_RECEIVES;
-use edge_layout::BLOCKED_SENDS;
 use edge_layout::COUNT;
 use edge_layout::CREDITS;
-use edge_layout::FRAMES_RECEIVED;
 use edge_layout::HAVE;
 use edge_layout::HOLD;
 use edge_layout::JOB_ASIDE;
@@ -31,7 +29,8 @@ use edge_layout::PEER_MTU;
 use edge_layout::POLICY;
 use edge_layout::POLICY_VALUE;
 use edge_layout::RECEIVED;
-use edge_layout::SENT;
+use edge_layout::RECEIVES;
+use edge_layout::SENDS;
 use edge_layout::SPSM;
 use edge_layout::VALUE;
 use edge_layout::WANT;
@@ -115,16 +114,24 @@ pub fn job_at(t: &[u8], i: usize) -> OpenJob
     }
 }
 
+// A direction's tallies, whose frames are in that column.
+fn tally_at(t: &[u8], i: usize, column: usize) -> Tally
+    requires { ⌜ i + (column + 15 * slotsMost) < length (now t) ⌝ }
+    ensures { λ r. ⌜ r ≡ tallyFrom (now (t .entry)) (i + column) ⌝ }
+{
+    Tally {
+        frames: long(t, i, column),
+        blocked: long(t, i, column + 8 * SLOTS),
+    }
+}
+
 pub fn tallies_at(t: &[u8], i: usize) -> Tallies
     requires { ⌜ (tableOctets ≤ length (now t)) × (i < slotsMost) ⌝ }
     ensures { λ r. ⌜ r ≡ slotIn (cell (now (t .entry)) i) .tallies ⌝ }
 {
-    Tallies {
-        sent: long(t, i, SENT),
-        received: long(t, i, FRAMES_RECEIVED),
-        blocked_sends: long(t, i, BLOCKED_SENDS),
-        blocked_receives: long(t, i, BLOCKED_RECEIVES),
-    }
+    let sends = tally_at(t, i, SENDS);
+    let receives = tally_at(t, i, RECEIVES);
+    Tallies { sends, receives }
 }
 
 // The slot that row i says.

@@ -8,10 +8,8 @@ use channel::Queue;
 use channel::SLOTS;
 use channel::Slot;
 use channel::Tallies;
-use edge_layout::BLOCKED_RECEIVES;
-use edge_layout::BLOCKED_SENDS;
+use channel::Tally;
 use edge_layout::COUNT;
-use edge_layout::FRAMES_RECEIVED;
 use edge_layout::HAVE;
 use edge_layout::HOLD;
 use edge_layout::JOB_ASIDE;
@@ -23,21 +21,22 @@ use edge_layout::PEER_CID;
 use edge_layout::PEER_CREDITS;
 use edge_layout::PEER_MPS;
 use edge_layout::PEER_MTU;
-use edge_layout::SENT;
+use edge_layout::RECEIVES;
+use edge_layout::SENDS;
 use edge_layout::WANT;
 pub use local::put_account;
 use local::put_local;
-use local::put_long;
 use local::put_number;
 use local::put_octet;
 pub use local::put_state;
+use local::put_tally;
 use sar_join::Assembly;
 ghost use mathlib.Core.Path.{_≡_};
 ghost use Prim.Native.Nat.{_≤_, _<_};
 ghost use lib.ListN.{length};
 ghost use Rattle.octets.specs.Octets.{le16};
 ghost use Rattle.channel.specs.Limits.{slotsMost};
-ghost use Rattle.edge_layout.specs.Layout.{tableOctets, peerOctets, assemblyOctets, queueOctets, jobOctets, sendTallies, frameTallies, talliesOctets, row};
+ghost use Rattle.edge_layout.specs.Layout.{tableOctets, peerOctets, assemblyOctets, queueOctets, jobOctets, tallyOctets, talliesOctets, row};
 ghost use Rattle.edge_layout_write.specs.Puts.{puts, leftRow, takenRow};
 
 fn put_peer(t: &mut [u8], i: usize, p: Peer)
@@ -88,30 +87,30 @@ pub fn put_job(t: &mut [u8], i: usize, j: OpenJob)
     put_number(t, i, JOB_ASIDE, j.aside);
 }
 
-// What a send counts.
-pub fn put_send_tallies(t: &mut [u8], i: usize, y: Tallies)
+// What is counted of sends.
+pub fn put_sends(t: &mut [u8], i: usize, y: Tally)
     requires { ⌜ (tableOctets ≤ length (now t)) × (i < slotsMost) ⌝ }
-    ensures { λ _. ⌜ now (t .exit) ≡ puts (now (t .entry)) i 47 (sendTallies y) ⌝ }
+    ensures { λ _. ⌜ now (t .exit) ≡ puts (now (t .entry)) i 47 (tallyOctets y) ⌝ }
 {
-    put_long(t, i, SENT, y.sent);
-    put_long(t, i, BLOCKED_SENDS, y.blocked_sends);
+    put_tally(t, i, SENDS, y);
 }
 
-// What a frame counts.
-pub fn put_frame_tallies(t: &mut [u8], i: usize, y: Tallies)
+// What is counted of frames.
+pub fn put_receives(t: &mut [u8], i: usize, y: Tally)
     requires { ⌜ (tableOctets ≤ length (now t)) × (i < slotsMost) ⌝ }
-    ensures { λ _. ⌜ now (t .exit) ≡ puts (now (t .entry)) i 63 (frameTallies y) ⌝ }
+    ensures { λ _. ⌜ now (t .exit) ≡ puts (now (t .entry)) i 63 (tallyOctets y) ⌝ }
 {
-    put_long(t, i, FRAMES_RECEIVED, y.received);
-    put_long(t, i, BLOCKED_RECEIVES, y.blocked_receives);
+    put_tally(t, i, RECEIVES, y);
 }
 
 pub fn put_tallies(t: &mut [u8], i: usize, y: Tallies)
     requires { ⌜ (tableOctets ≤ length (now t)) × (i < slotsMost) ⌝ }
     ensures { λ _. ⌜ now (t .exit) ≡ puts (now (t .entry)) i 47 (talliesOctets y) ⌝ }
 {
-    put_send_tallies(t, i, y);
-    put_frame_tallies(t, i, y);
+    let a = y.sends;
+    put_sends(t, i, a);
+    let b = y.receives;
+    put_receives(t, i, b);
 }
 
 // The job that arrives, those that wait and the open one.

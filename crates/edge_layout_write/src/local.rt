@@ -2,6 +2,7 @@
 // It stands on `edge_layout`, whose specs/Layout.antt says what the octets mean.
 use channel::ChannelState;
 use channel::SLOTS;
+use channel::Tally;
 use credit::CreditFlowControl;
 use edge_layout::CREDITS;
 use edge_layout::KIND;
@@ -37,15 +38,23 @@ pub fn put_number(t: &mut [u8], i: usize, column: usize, v: u16)
     put_octet(t, i, column + SLOTS, (v / 256) as u8);
 }
 
-pub fn put_long(t: &mut [u8], i: usize, column: usize, v: u64)
+fn put_long(t: &mut [u8], i: usize, column: usize, v: u64)
     requires { ⌜ i + (column + 7 * slotsMost) < length (now t) ⌝ }
     ensures { λ _. ⌜ now (t .exit) ≡ putsFrom (now (t .entry)) (i + column) (le64 v) ⌝ }
 {
-    let l = octets::limbs(v);
+    let l = octets::limbs_of(v);
     put_number(t, i, column, l.first);
     put_number(t, i, column + 2 * SLOTS, l.second);
     put_number(t, i, column + 4 * SLOTS, l.third);
     put_number(t, i, column + 6 * SLOTS, l.fourth);
+}
+
+pub fn put_tally(t: &mut [u8], i: usize, column: usize, y: Tally)
+    requires { ⌜ i + (column + 15 * slotsMost) < length (now t) ⌝ }
+    ensures { λ _. ⌜ now (t .exit) ≡ putsFrom (now (t .entry)) (i + column) (tallyOctets y) ⌝ }
+{
+    put_long(t, i, column, y.frames);
+    put_long(t, i, column + 8 * SLOTS, y.blocked);
 }
 
 // ---- columns in a row

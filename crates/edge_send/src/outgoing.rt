@@ -1,4 +1,4 @@
-// A send on a table's octets where they stand, behind refusal 1: the slot held against N, one row read, `slot_send` done on it, and the peer's credits and the tallies of sends written.
+// A send on a table's octets where they stand, behind refusal 1: the slot held against N, one row read, `slot_send` done on it, and the peer's credits and what is counted of sends written.
 // What is right stands in specs/Sent.antt of `edge_placed`.
 use channel::Answer;
 use channel::Slot;
@@ -70,8 +70,8 @@ pub fn sent(table: &mut [u8], answer: &mut [u8], out: &mut [u8], slot: u8, sdu: 
     let y = w.slot;
     let a = w.answer;
     edge_layout_write::put_peer_credits(table, slot as usize, y.peer.credits);
-    let counted = y.tallies;
-    edge_layout_write::put_send_tallies(table, slot as usize, counted);
+    let counted = y.tallies.sends;
+    edge_layout_write::put_sends(table, slot as usize, counted);
     let number = edge_answer::put_answer(answer, a, w.octets);
     Said {
         number,

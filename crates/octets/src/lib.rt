@@ -4,7 +4,7 @@ pub use octets_copy::copy_to;
 pub use octets_numbers::Limbs;
 pub use octets_numbers::least;
 pub use octets_numbers::left;
-pub use octets_numbers::limbs;
+pub use octets_numbers::limbs_of;
 pub use octets_numbers::number;
 pub use octets_numbers::octet;
 pub use octets_numbers::of_limbs;

@@ -66,7 +66,7 @@ pub struct Limbs {
     pub fourth: u16,
 }
 
-pub fn limbs(n: u64) -> Limbs
+pub fn limbs_of(n: u64) -> Limbs
     ensures { λ r. ⌜ r ≡ limbsOf n ⌝ }
 {
     Limbs {

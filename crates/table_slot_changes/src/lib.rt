@@ -1,6 +1,6 @@
 // One slot by value with one thing changed. Each contract is the equation with the function of that name in the crate `definition`.
 ghost use mathlib.Core.Path.{_≡_};
-ghost use Rattle.definition.specs.Table.{fresh, freed, inState, withHold, withAccount, withPeer, withPeerCredits, withAssembly, withQueue, withJob, withTallies, noJob, noTallies, countSent, countReceived, countBlockedSend, countBlockedReceive, blockedBy, talliesLeft, left};
+ghost use Rattle.definition.specs.Table.{fresh, freed, inState, withHold, withAccount, withPeer, withPeerCredits, withAssembly, withQueue, withJob, withTallies, withSends, withReceives, noJob, noTally, noTallies, more, blockedMore, countSent, countReceived, countBlockedSend, countBlockedReceive, blockedBy, talliesLeft, left};
 use channel::ChannelState;
 use channel::DEPTH;
 use channel::OpenJob;
@@ -8,6 +8,7 @@ use channel::Peer;
 use channel::Queue;
 use channel::Slot;
 use channel::Tallies;
+use channel::Tally;
 use codes::Refusal;
 use credit::CreditFlowControl;
 use credit::CreditFlowPolicy;
@@ -29,15 +30,21 @@ pub fn no_job() -> OpenJob
 }
 
 // Nothing is counted yet.
+fn no_tally() -> Tally
+    ensures { λ r. ⌜ r ≡ noTally ⌝ }
+{
+    Tally {
+        frames: 0,
+        blocked: 0,
+    }
+}
+
 pub fn no_tallies() -> Tallies
     ensures { λ r. ⌜ r ≡ noTallies ⌝ }
 {
-    Tallies {
-        sent: 0,
-        received: 0,
-        blocked_sends: 0,
-        blocked_receives: 0,
-    }
+    let sends = no_tally();
+    let receives = no_tally();
+    Tallies { sends, receives }
 }
 
 // A slot that was never used, with so many holds.
@@ -174,31 +181,64 @@ pub fn with_tallies(x: Slot, y: Tallies) -> Slot
 
 // ---- what is counted
 
+// n frames more.
+fn more(y: Tally, n: u64) -> Tally
+    ensures { λ r. ⌜ r ≡ more n y ⌝ }
+{
+    Tally {
+        frames: std::num::wrapping_add_u64(y.frames, n),
+        blocked: y.blocked,
+    }
+}
+
+// Blocked once more.
+fn blocked_more(y: Tally) -> Tally
+    ensures { λ r. ⌜ r ≡ blockedMore y ⌝ }
+{
+    Tally {
+        frames: y.frames,
+        blocked: std::num::wrapping_add_u64(y.blocked, 1),
+    }
+}
+
+fn with_sends(x: Slot, y: Tally) -> Slot
+    ensures { λ r. ⌜ r ≡ withSends y x ⌝ }
+{
+    let mut z = x;
+    z.tallies.sends = y;
+    z
+}
+
+fn with_receives(x: Slot, y: Tally) -> Slot
+    ensures { λ r. ⌜ r ≡ withReceives y x ⌝ }
+{
+    let mut z = x;
+    z.tallies.receives = y;
+    z
+}
+
 // n frames were sent, or have their credits set aside.
 pub fn count_sent(x: Slot, n: u64) -> Slot
     ensures { λ r. ⌜ r ≡ countSent n x ⌝ }
 {
-    let mut y = x;
-    y.tallies.sent = std::num::wrapping_add_u64(x.tallies.sent, n);
-    y
+    let y = x.tallies.sends;
+    with_sends(x, more(y, n))
 }
 
 // A frame came, and its credit is used.
 pub fn count_received(x: Slot) -> Slot
     ensures { λ r. ⌜ r ≡ countReceived x ⌝ }
 {
-    let mut y = x;
-    y.tallies.received = std::num::wrapping_add_u64(x.tallies.received, 1);
-    y
+    let y = x.tallies.receives;
+    with_receives(x, more(y, 1))
 }
 
 // A send or a start had too few credits.
-pub fn count_blocked_send(x: Slot) -> Slot
+fn count_blocked_send(x: Slot) -> Slot
     ensures { λ r. ⌜ r ≡ countBlockedSend x ⌝ }
 {
-    let mut y = x;
-    y.tallies.blocked_sends = std::num::wrapping_add_u64(x.tallies.blocked_sends, 1);
-    y
+    let y = x.tallies.sends;
+    with_sends(x, blocked_more(y))
 }
 
 // A send or a start that its plan refuses: one that had too few credits, refusal 14, is counted.
@@ -215,9 +255,8 @@ pub fn blocked_by(x: Slot, r: Refusal) -> Slot
 pub fn count_blocked_receive(x: Slot) -> Slot
     ensures { λ r. ⌜ r ≡ countBlockedReceive x ⌝ }
 {
-    let mut y = x;
-    y.tallies.blocked_receives = std::num::wrapping_add_u64(x.tallies.blocked_receives, 1);
-    y
+    let y = x.tallies.receives;
+    with_receives(x, blocked_more(y))
 }
 
 // ---- a channel that is left

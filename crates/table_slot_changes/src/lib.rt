@@ -1,6 +1,6 @@
 // One slot by value with one thing changed. Each contract is the equation with the function of that name in the crate `definition`.
 ghost use mathlib.Core.Path.{_≡_};
-ghost use Rattle.definition.specs.Table.{fresh, freed, inState, withHold, withAccount, withPeer, withPeerCredits, withAssembly, withQueue, withJob, withTallies, withSends, withReceives, noJob, noTally, noTallies, more, blockedMore, countSent, countReceived, countBlockedSend, countBlockedReceive, blockedBy, talliesLeft, left};
+ghost use Rattle.definition.specs.Table.{fresh, freed, inState, withHold, withAccount, withPeer, withPeerCredits, withAssembly, withQueue, withJob, withTallies, withSends, withReceives, noJob, noTallies, more, blockedMore, countSent, countReceived, countBlockedSend, countBlockedReceive, blockedBy, talliesLeft, left};
 use channel::ChannelState;
 use channel::DEPTH;
 use channel::OpenJob;
@@ -30,20 +30,17 @@ pub fn no_job() -> OpenJob
 }
 
 // Nothing is counted yet.
-fn no_tally() -> Tally
-    ensures { λ r. ⌜ r ≡ noTally ⌝ }
-{
-    Tally {
-        frames: 0,
-        blocked: 0,
-    }
-}
-
 pub fn no_tallies() -> Tallies
     ensures { λ r. ⌜ r ≡ noTallies ⌝ }
 {
-    let sends = no_tally();
-    let receives = no_tally();
+    let sends = Tally {
+        frames: 0,
+        blocked: 0,
+    };
+    let receives = Tally {
+        frames: 0,
+        blocked: 0,
+    };
     Tallies { sends, receives }
 }
 
@@ -204,17 +201,17 @@ fn blocked_more(y: Tally) -> Tally
 fn with_sends(x: Slot, y: Tally) -> Slot
     ensures { λ r. ⌜ r ≡ withSends y x ⌝ }
 {
-    let mut z = x;
-    z.tallies.sends = y;
-    z
+    let receives = x.tallies.receives;
+    let tallies = Tallies { sends: y, receives };
+    with_tallies(x, tallies)
 }
 
 fn with_receives(x: Slot, y: Tally) -> Slot
     ensures { λ r. ⌜ r ≡ withReceives y x ⌝ }
 {
-    let mut z = x;
-    z.tallies.receives = y;
-    z
+    let sends = x.tallies.sends;
+    let tallies = Tallies { sends, receives: y };
+    with_tallies(x, tallies)
 }
 
 // n frames were sent, or have their credits set aside.

@@ -43,6 +43,9 @@ send-job-requires c κs = search needs
 enum-known-r : tie.Need-enum-known-r
 enum-known-r c = search needs
 
+blocked-by-requires : tie.Need-blocked-by-requires
+blocked-by-requires c κs = search needs
+
 refused-requires-3 : tie.Need-refused-requires-3
 refused-requires-3 c κs = search needs
 
@@ -69,6 +72,12 @@ sub-with-peer-credits c =
 
 with-peer-credits-requires : tie.Need-with-peer-credits-requires
 with-peer-credits-requires c κs = search needs
+
+cast-count-sent : tie.Need-cast-count-sent
+cast-count-sent c = search needs
+
+count-sent-requires : tie.Need-count-sent-requires
+count-sent-requires c κs = search needs
 
 same-length : tie.Need-same-length
 same-length c = search needs
@@ -118,11 +127,14 @@ send-from-spec =
     returns-2
     send-job-requires
     enum-known-r
+    blocked-by-requires
     refused-requires-3
     enum-known-n
     cast-used
     sub-with-peer-credits
     with-peer-credits-requires
+    cast-count-sent
+    count-sent-requires
     same-length
     returns-3
     same-length-2

@@ -37,6 +37,9 @@ plan-send-requires c κs = search needs
 enum-known-r : tie.Need-enum-known-r
 enum-known-r c = search needs
 
+blocked-by-requires : tie.Need-blocked-by-requires
+blocked-by-requires c κs = search needs
+
 became-requires-3 : tie.Need-became-requires-3
 became-requires-3 c κs = search needs
 
@@ -97,6 +100,12 @@ sub-with-peer-credits c =
 with-peer-credits-requires : tie.Need-with-peer-credits-requires
 with-peer-credits-requires c κs = search needs
 
+cast-count-sent : tie.Need-cast-count-sent
+cast-count-sent c = search needs
+
+count-sent-requires : tie.Need-count-sent-requires
+count-sent-requires c κs = search needs
+
 with-job-requires : tie.Need-with-job-requires
 with-job-requires c κs = search needs
 
@@ -132,6 +141,7 @@ start-from-spec =
     returns-2
     plan-send-requires
     enum-known-r
+    blocked-by-requires
     became-requires-3
     enum-known-n
     cast-l
@@ -144,6 +154,8 @@ start-from-spec =
     cast-used
     sub-with-peer-credits
     with-peer-credits-requires
+    cast-count-sent
+    count-sent-requires
     with-job-requires
     returns-4
     same-length

@@ -424,14 +424,15 @@ module _ (t : Table) (k room : ℕ) (l : t .n ≤ length (t .slots)) (well : wel
       (λ _. if-cases P _ (λ _. stays refl)
       (λ e. if-cases P _ (λ _. stays refl)
       (λ c. if-cases P _ (λ _. stays refl)
-      (λ _. if-cases P _ (λ _. stays refl)
-      (λ z.
+      (λ _.
       let s = slotOf cid in
       let x = slotAt t s in
       let on = not-false (isCid t cid) e in
       let h = cid-within t cid on in
+      let linked = not-false (isConnected (x .state)) c in
       let ok = sound s h in
-      stepped-joined t k s h l (not-false (isConnected (x .state)) c) (eqb-false (x .account .credits) 0 z) _
+      if-cases P _ (λ _. stepped-change t k s _ _ h l (go (goes-on (connected-live x linked) (connected-begun (x .state) linked) refl (λ f. f)) same keep stay) _ _ refl)
+      (λ z. stepped-joined t k s h l linked (eqb-false (x .account .credits) 0 z) _
       (step-joins (t .d) (x .assembly) (x .queue .count) k (ok .holding .closed) (x .mtu) (x .mps) (u16At head 0) head (ok .within .want) (headed on)))))))
 
   -- a Connected slot's peer MPS is at least 23

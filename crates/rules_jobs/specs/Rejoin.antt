@@ -26,7 +26,7 @@ use Rattle.channel.specs.declared.Slot.{Slot}
 use Rattle.channel.specs.declared.Table.{Table}
 use Rattle.channel.specs.declared.Verdict.the-variants.{Pass}
 use Rattle.definition.specs.Mem.{Move, put, job, fill, move, moves, parts}
-use Rattle.definition.specs.Table.{placeOf, width, roomSize, gap, slotAt, isConnected, withAccount, withAssembly, withQueue, cidOf, isCid, slotOf, wellFormed}
+use Rattle.definition.specs.Table.{placeOf, width, roomSize, gap, slotAt, isConnected, withAccount, withAssembly, withQueue, countReceived, cidOf, isCid, slotOf, wellFormed}
 use Rattle.definition.specs.Outcome.{Outcome, change, only, verdict}
 use Rattle.definition.specs.Calls.{Call, jobs, bare, decide, joining}
 use Rattle.definition.specs.Calls as Calls
@@ -118,7 +118,7 @@ verdict-passes t room link well size l =
 abbrev Step-of : Table → (i : ℕ) → List ℕ → (k : ℕ) → Outcome
 Step-of t i head k =
     let x = slotAt t i in
-    joined t i (withAccount (received (x .account) 1) x) k (joinStep (x .mtu) (x .mps) (t .d) (x .assembly) (x .queue .count) (length head + k) (u16At head 0))
+    joined t i (countReceived (withAccount (received (x .account) 1) x)) k (joinStep (x .mtu) (x .mps) (t .d) (x .assembly) (x .queue .count) (length head + k) (u16At head 0))
 
 -- The receiver as document 01 asks it: Connected, on this link, with n credits and a free queue place.
 pub record Receiver (s : State) (i link n : ℕ) : Type 0 where
@@ -159,9 +159,9 @@ module _ (s : State) (g : Good (s .table) (s .room)) (i link : ℕ) (ps : List (
   abbrev x : Slot
   x = slotAt t i
 
-  -- the slot once its credit is used
+  -- the slot once its credit is used, and it is counted
   abbrev x′ : Slot
-  x′ = withAccount (received (x .account) 1) x
+  x′ = countReceived (withAccount (received (x .account) 1) x)
 
   ok : Sound (t .d) (placeOf t) x
   ok = slot-sound g i (r .used)

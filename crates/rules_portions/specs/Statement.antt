@@ -17,7 +17,7 @@ use Rattle.channel.specs.declared.Given.the-variants.{Nothing, Is}
 use Rattle.channel.specs.declared.Slot.{Slot}
 use Rattle.channel.specs.declared.Table.{Table}
 use Rattle.channel.specs.declared.Verdict.the-variants.{Pass}
-use Rattle.definition.specs.Slots.{withPeerCredits, withJob, noJob, left}
+use Rattle.definition.specs.Slots.{withPeerCredits, withJob, noJob, countSent, left}
 use Rattle.definition.specs.Table.{slotAt, isConnected, isOpen}
 use Rattle.definition.specs.Outcome.{verdict}
 use Rattle.definition.specs.Portions.{bufferSize, begun}
@@ -101,14 +101,14 @@ pub record Goes (u : State) (i : ℕ) (sdu : List ℕ) (w : Window) (c : ℕ) : 
 -- ---- what is said of a start
 
 -- A START ANSWERS AS A SEND: the same n, with any buffer that is long enough; and a send as the start, with any output that suffices. Of the slot a start changes
--- the peer's credits, n fewer, and the job.
+-- the peer's credits, n fewer, the job, and the frames sent, n more: it is then as the send leaves it, but for the job.
 pub record AsSend (s : State) (i : ℕ) (sdu : List ℕ) : Type 0 where
   pub starts : (w v : Window) (link n : ℕ) → outcome s (sends i sdu v) .answer ≡ Frames link n → bufferSize (slotIn s i .peer .mps) (length sdu) ≤ length (lent w (s .memory))
       → outcome s (starting i (length sdu) w) .answer ≡ Frames link n
   pub sends : (w v : Window) (link n : ℕ) → outcome s (starting i (length sdu) w) .answer ≡ Frames link n → framesLength (length sdu) (slotIn s i .peer .mps) ≤ length (lent v (s .memory))
       → outcome s (sends i sdu v) .answer ≡ Frames link n
   pub slot : (w : Window) (link n : ℕ) → outcome s (starting i (length sdu) w) .answer ≡ Frames link n
-      → slotIn (after s (starting i (length sdu) w)) i ≡ withJob (begun (length sdu) n) (withPeerCredits (slotIn s i .peer .credits - n) (slotIn s i))
+      → slotIn (after s (starting i (length sdu) w)) i ≡ withJob (begun (length sdu) n) (countSent n (withPeerCredits (slotIn s i .peer .credits - n) (slotIn s i)))
 
 -- ---- what is said of portions. A job of n frames was started on slot i, as it stood in s; d are portions of it.
 
@@ -136,17 +136,18 @@ module _ (s : State) (i : ℕ) (sdu : List ℕ) (n : ℕ) {s₁ s′ : State} {b
   abbrev pub OwnOctets : Type 0
   OwnOctets = (k : ℕ) → k < length fs → getD fs k [] ≡ frame (slotIn s i .peer .cid) (part (le16 (length sdu) ++ sdu) (k * slotIn s i .peer .mps) (slotIn s i .peer .mps))
 
-  -- CREDITS. With no other call on the slot, portions change its job alone: what is left of the peer's credits, what is set aside and the frames given out are
+  -- CREDITS. With no other call on the slot, portions change its job alone, and count no frame again: what is left of the peer's credits, what is set aside and the frames given out are
   -- together the credits before the start.
   pub record Credits : Type 0 where
-    pub slot : Alone d → slotIn s′ i ≡ withJob (jobIn s′ i) (withPeerCredits (slotIn s i .peer .credits - n) (slotIn s i))
+    pub slot : Alone d → slotIn s′ i ≡ withJob (jobIn s′ i) (countSent n (withPeerCredits (slotIn s i .peer .credits - n) (slotIn s i)))
     pub sum : Alone d → slotIn s′ i .peer .credits + jobIn s′ i .aside + length fs ≡ slotIn s i .peer .credits
 
   -- A CANCEL that is answered 0, in u, where the job is as d left it
   pub record Cancelled (u : State) : Type 0 where
-    -- before the first frame: exactly n credits come back, and with no other call on the slot it is the slot before the start
+    -- before the first frame: exactly n credits come back, and with no other call on the slot it is the slot before the start, but that the n frames stay counted:
+    -- a cancel takes nothing back
     pub before : fs ≡ [] → slotIn (after u (cancelling i)) i ≡ withJob noJob (withPeerCredits (slotIn u i .peer .credits + n) (slotIn u i))
-    pub undone : fs ≡ [] → Alone d → slotIn u i ≡ slotIn s′ i → jobIn s i ≡ noJob → slotIn (after u (cancelling i)) i ≡ slotIn s i
+    pub undone : fs ≡ [] → Alone d → slotIn u i ≡ slotIn s′ i → jobIn s i ≡ noJob → slotIn (after u (cancelling i)) i ≡ countSent n (slotIn s i)
     -- later: it leaves Connected, and none comes back
     pub later : 0 < length fs → slotIn (after u (cancelling i)) i ≡ left (Disconnecting false) (slotIn u i)
 

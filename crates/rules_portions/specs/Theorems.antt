@@ -20,7 +20,7 @@ use Rattle.channel.specs.declared.ChannelState.the-variants.{Disconnecting}
 use Rattle.channel.specs.declared.OpenJob.{OpenJob}
 use Rattle.channel.specs.declared.Slot.{Slot}
 use Rattle.definition.specs.Mem.{given, fill, fills}
-use Rattle.definition.specs.Slots.{noJob, withJob, withPeerCredits, left}
+use Rattle.definition.specs.Slots.{noJob, withJob, withPeerCredits, countSent, left}
 use Rattle.definition.specs.Table.{gap, slotAt, isOpen}
 use Rattle.definition.specs.Outcome.{Outcome}
 use Rattle.definition.specs.Frames.{firstHeader, frames}
@@ -143,18 +143,18 @@ sent-octets s i sdu v link n e =
     let count = z .allowed .frames in
     let all = framesOf cid mps sdu in
     let len : length all ≡ framesLength (length sdu) mps = cut mps cid sdu (omega arith) .octets in
-    let l = filling-leaves s (sends i sdu v) i (withPeerCredits (x .peer .credits - n) x) _ 0 (frames cid mps (length sdu) n) _ refl (slot-there (s .table) i (z .admits .on)) (z .is) in
+    let l = filling-leaves s (sends i sdu v) i (countSent n (withPeerCredits (x .peer .credits - n) x)) _ 0 (frames cid mps (length sdu) n) _ refl (slot-there (s .table) i (z .admits .on)) (z .is) in
     let o : outcome s (sends i sdu v) .octets ≡ length all = ap (λ (o : Outcome). o .octets) (z .is) ∙ frames-sizes cid mps sdu (omega arith) n count ∙ sym len in
     let m : lent v (after s (sends i sdu v) .memory) ≡ sets b 0 all = l .buffer ∙ ap (sets b 0) (frames-octets cid mps sdu (s .room) (omega arith) n count) in
     ap₂ take o m ∙ part-same 0 b 0 all (let q = z .allowed .holds in omega arith)
 
 sent-slot : (s : State) (i : ℕ) (sdu : List ℕ) (v : Window) (link n : ℕ) → outcome s (sends i sdu v) .answer ≡ Frames link n
-    → slotIn (after s (sends i sdu v)) i ≡ withPeerCredits (slotIn s i .peer .credits - n) (slotIn s i)
+    → slotIn (after s (sends i sdu v)) i ≡ countSent n (withPeerCredits (slotIn s i .peer .credits - n) (slotIn s i))
 unfolding decide bare jobs after
 sent-slot s i sdu v link n e =
     let z = send-sends (s .table) i (length sdu) (length (lent v (s .memory))) link n e in
     ap (λ (o : Outcome). slotAt (o .table) i) (z .is)
-    ∙ getD-set-same (s .table .slots) i (withPeerCredits (slotIn s i .peer .credits - n) (slotIn s i)) gap (slot-there (s .table) i (z .admits .on))
+    ∙ getD-set-same (s .table .slots) i (countSent n (withPeerCredits (slotIn s i .peer .credits - n) (slotIn s i))) gap (slot-there (s .table) i (z .admits .on))
 
 -- ---- a start and a send of the same job
 
@@ -202,11 +202,11 @@ module _ (s : State) (i : ℕ) (sdu : List ℕ) (w : Window) (link n : ℕ) wher
     paid : n ≤ x .peer .credits
     paid = let p = starts .allowed .paid in let c = count in omega arith
 
-    leaves : Leaves s (starting i (length sdu) w) i (withJob (begun (length sdu) n) (withPeerCredits (x .peer .credits - n) x)) 0
+    leaves : Leaves s (starting i (length sdu) w) i (withJob (begun (length sdu) n) (countSent n (withPeerCredits (x .peer .credits - n) x))) 0
         (given (firstHeader (x .peer .cid) (longest (x .peer .mps) (length sdu)) (length sdu)) ∷ [])
     leaves = filling-leaves s (starting i (length sdu) w) i _ _ _ _ _ refl (slot-there (s .table) i (starts .admits .on)) (starts .is)
 
-    started : slotIn s₁ i ≡ withJob (begun (length sdu) n) (withPeerCredits (x .peer .credits - n) x)
+    started : slotIn s₁ i ≡ withJob (begun (length sdu) n) (countSent n (withPeerCredits (x .peer .credits - n) x))
     started = leaves .slot
 
     ready : Ready i sdu 0 s₁ b₁
@@ -257,7 +257,7 @@ module _ (s : State) (i : ℕ) (sdu : List ℕ) (w : Window) (link n : ℕ) wher
           go (filling f) = f .paid ∙ sym count
           go (closed e c) = ap (λ (j : OpenJob). j .aside + length fs) e ∙ zero-add (length fs) ∙ c ∙ sym count
 
-      slot-alone : Alone d → slotIn s′ i ≡ withJob (jobIn s′ i) (withPeerCredits (x .peer .credits - n) x)
+      slot-alone : Alone d → slotIn s′ i ≡ withJob (jobIn s′ i) (countSent n (withPeerCredits (x .peer .credits - n) x))
       slot-alone al = alone i sdu d al ∙ ap (withJob (jobIn s′ i)) started
 
       whole : isOpen (jobIn s′ i) ≡ false → joined fs ≡ framesOf (x .peer .cid) (x .peer .mps) sdu
@@ -275,7 +275,7 @@ module _ (s : State) (i : ℕ) (sdu : List ℕ) (w : Window) (link n : ℕ) wher
             octets = λ o v k e. whole o ∙ sym (sent-octets s i sdu v k n e);
             slot = λ o al none v k e.
                 let (shut, _) = shut-standing o in
-                slot-alone al ∙ ap (λ (j : OpenJob). withJob j (withPeerCredits (x .peer .credits - n) x)) (shut ∙ sym none) ∙ sym (sent-slot s i sdu v k n e);
+                slot-alone al ∙ ap (λ (j : OpenJob). withJob j (countSent n (withPeerCredits (x .peer .credits - n) x))) (shut ∙ sym none) ∙ sym (sent-slot s i sdu v k n e);
           }
 
       -- ITS OWN OCTETS
@@ -322,13 +322,13 @@ module _ (s : State) (i : ℕ) (sdu : List ℕ) (w : Window) (link n : ℕ) wher
             ∙ getD-set-same (u .table .slots) i (returned (slotIn u i)) gap there
             ∙ ap (λ (k : ℕ). withJob noJob (withPeerCredits (slotIn u i .peer .credits + k) (slotIn u i))) a
 
-        cancel-undone : fs ≡ [] → Alone d → slotIn u i ≡ slotIn s′ i → x .job ≡ noJob → slotIn (after u (cancelling i)) i ≡ x
+        cancel-undone : fs ≡ [] → Alone d → slotIn u i ≡ slotIn s′ i → x .job ≡ noJob → slotIn (after u (cancelling i)) i ≡ countSent n x
         cancel-undone e al same none =
             let p = paid in
             let back : x .peer .credits - n + n ≡ x .peer .credits = omega arith in
             cancel-before e
             ∙ ap (λ (y : Slot). withJob noJob (withPeerCredits (y .peer .credits + n) y)) (same ∙ slot-alone al)
-            ∙ ap₂ (λ (j : OpenJob) (k : ℕ). withJob j (withPeerCredits k x)) (sym none) back
+            ∙ ap₂ (λ (j : OpenJob) (k : ℕ). withJob j (withPeerCredits k (countSent n x))) (sym none) back
 
         cancel-later : 0 < length fs → slotIn (after u (cancelling i)) i ≡ left (Disconnecting false) (slotIn u i)
         unfolding after

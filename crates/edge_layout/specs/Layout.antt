@@ -173,6 +173,16 @@ longIn f c = ofLimbs (numberIn f c) (numberIn f (2 + c)) (numberIn f (4 + c)) (n
 abbrev pub tallyIn : (ℕ → ℕ) → ℕ → Tally
 tallyIn f c = record { frames = longIn f c; blocked = longIn f (8 + c) }
 
+-- the same of octets, by their places: what the code reads
+abbrev pub numberAt : List ℕ → (i column : ℕ) → ℕ
+numberAt o i c = getD o (i + c) 0 + 256 * getD o (i + (c + slotsMost)) 0
+
+abbrev pub longAt : List ℕ → (i column : ℕ) → ℕ
+longAt o i c = ofLimbs (numberAt o i c) (numberAt o i (c + 2 * slotsMost)) (numberAt o i (c + 4 * slotsMost)) (numberAt o i (c + 6 * slotsMost))
+
+abbrev pub tallyAt : List ℕ → (i column : ℕ) → Tally
+tallyAt o i c = record { frames = longAt o i c; blocked = longAt o i (c + 8 * slotsMost) }
+
 unfoldable pub slotIn : (ℕ → ℕ) → Slot
 slotIn f =
     record {

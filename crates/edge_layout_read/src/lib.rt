@@ -40,10 +40,10 @@ use edge_layout::cells::octet;
 pub use edge_layout::cells::row_spelled;
 use sar_join::Assembly;
 ghost use mathlib.Core.Path.{_≡_};
-ghost use Prim.Native.Nat.{_≤_, _<_};
+ghost use Prim.Native.Nat.{_+_, _*_, _≤_, _<_};
 ghost use lib.ListN.{length};
 ghost use Rattle.channel.specs.Limits.{slotsMost};
-ghost use Rattle.edge_layout.specs.Layout.{tableOctets, cell, slotIn};
+ghost use Rattle.edge_layout.specs.Layout.{tableOctets, cell, tallyAt, slotIn};
 
 pub fn state_at(t: &[u8], i: usize) -> ChannelState
     requires { ⌜ (tableOctets ≤ length (now t)) × (i < slotsMost) ⌝ }
@@ -117,7 +117,7 @@ pub fn job_at(t: &[u8], i: usize) -> OpenJob
 // A direction's tallies, whose frames are in that column.
 fn tally_at(t: &[u8], i: usize, column: usize) -> Tally
     requires { ⌜ i + (column + 15 * slotsMost) < length (now t) ⌝ }
-    ensures { λ r. ⌜ r ≡ tallyFrom (now (t .entry)) (i + column) ⌝ }
+    ensures { λ r. ⌜ r ≡ tallyAt (now (t .entry)) i column ⌝ }
 {
     Tally {
         frames: long(t, i, column),

@@ -15,11 +15,11 @@ use edge_layout::RECEIVED;
 use edge_layout::SPSM;
 use edge_layout::VALUE;
 ghost use mathlib.Core.Path.{_≡_};
-ghost use Prim.Native.Nat.{_+_, _/_, _%_, _≤_, _<_};
+ghost use Prim.Native.Nat.{_+_, _*_, _≤_, _<_};
 ghost use lib.ListN.{length, set};
 ghost use Rattle.channel.specs.Limits.{slotsMost};
 ghost use Rattle.edge_layout.specs.Layout.{tableOctets, stateOctets, localOctets, accountOctets};
-ghost use Rattle.edge_layout_write.specs.Puts.{puts};
+ghost use Rattle.edge_layout_write.specs.Puts.{puts, putNumber, putLong, putTally};
 
 // ---- one column
 
@@ -32,7 +32,7 @@ pub fn put_octet(t: &mut [u8], i: usize, column: usize, v: u8)
 
 pub fn put_number(t: &mut [u8], i: usize, column: usize, v: u16)
     requires { ⌜ i + (column + slotsMost) < length (now t) ⌝ }
-    ensures { λ _. ⌜ now (t .exit) ≡ set (set (now (t .entry)) (i + column) (v % 256)) (i + (column + slotsMost)) (v / 256) ⌝ }
+    ensures { λ _. ⌜ now (t .exit) ≡ putNumber (now (t .entry)) i column v ⌝ }
 {
     put_octet(t, i, column, (v % 256) as u8);
     put_octet(t, i, column + SLOTS, (v / 256) as u8);
@@ -40,7 +40,7 @@ pub fn put_number(t: &mut [u8], i: usize, column: usize, v: u16)
 
 fn put_long(t: &mut [u8], i: usize, column: usize, v: u64)
     requires { ⌜ i + (column + 7 * slotsMost) < length (now t) ⌝ }
-    ensures { λ _. ⌜ now (t .exit) ≡ putsFrom (now (t .entry)) (i + column) (le64 v) ⌝ }
+    ensures { λ _. ⌜ now (t .exit) ≡ putLong (now (t .entry)) i column v ⌝ }
 {
     let l = octets::limbs_of(v);
     put_number(t, i, column, l.first);
@@ -51,7 +51,7 @@ fn put_long(t: &mut [u8], i: usize, column: usize, v: u64)
 
 pub fn put_tally(t: &mut [u8], i: usize, column: usize, y: Tally)
     requires { ⌜ i + (column + 15 * slotsMost) < length (now t) ⌝ }
-    ensures { λ _. ⌜ now (t .exit) ≡ putsFrom (now (t .entry)) (i + column) (tallyOctets y) ⌝ }
+    ensures { λ _. ⌜ now (t .exit) ≡ putTally (now (t .entry)) i column y ⌝ }
 {
     put_long(t, i, column, y.frames);
     put_long(t, i, column + 8 * SLOTS, y.blocked);

@@ -5,7 +5,7 @@ use mathlib.Core.List.{List, []}
 use Prim.Native.Nat.{ℕ, _≤_}
 use native.Mathlib.Omega.{arith}
 use lib.ListN.{length}
-use Rattle.lists.specs.Choose.{choose, if-cases}
+use Rattle.lists.specs.Choose.{choose}
 use Rattle.sar_cut.specs.declared.Plan.{Plan}
 use Rattle.sar_cut.specs.declared.Plan.the-variants as Plan
 use Rattle.sar_cut.specs.Cutting.{planSend}
@@ -14,11 +14,11 @@ use Rattle.codes.specs.declared.Refusal.{Refusal}
 use Rattle.channel.specs.declared.Answer.the-variants.{Refused}
 use Rattle.channel.specs.declared.Slot.{Slot}
 use Rattle.channel.specs.declared.Table.{Table}
-use Rattle.definition.specs.Table.{slotAt, putSlot, isConnected, withPeerCredits, withSends, countBlockedSend, blocks, blockedBy, isOpen}
+use Rattle.definition.specs.Table.{slotAt, putSlot, isConnected, countBlockedSend, blocks, blockedBy, isOpen}
 use Rattle.definition.specs.Outcome.{refuse}
 use Rattle.definition.specs.Ending.{End, end, endOf, gave, end-still, end-slot}
 use Rattle.definition.specs.Frames.{unsent, planned, sentOn}
-use Rattle.slot_work.specs.Work.{put-same}
+use Rattle.slot_work.specs.Work.{put-same, sendingAs, blocked-sends}
 use Rattle.slot_send.specs.Sending.{Work, work, worked, plannedFrom, sentFrom}
 use Rattle.slot_send.specs.Sent.{sends}
 
@@ -57,14 +57,7 @@ module _ (t : Table) (s : ℕ) (sdu out : List ℕ) where
       go false true e f = rw (e, f) (refused-into _)
       go false false e f = rw (e, f) (planned-into _ refl)
 
--- a slot with the peer's credits and what is counted of sends as another has them
-abbrev pub sendingAs : (y x : Slot) → Slot
-sendingAs y x = withSends (y .tallies .sends) (withPeerCredits (y .peer .credits) x)
-
--- of a slot a send changes these alone
-blocked-sends : (r : Refusal) (x : Slot) → blockedBy r x ≡ sendingAs (blockedBy r x) x
-blocked-sends r x = if-cases (λ y. y ≡ sendingAs y x) (blocks r) (λ _. refl) (λ _. refl)
-
+-- of a slot a send changes the peer's credits and what is counted of sends alone
 planned-sends : (x : Slot) (sdu out : List ℕ) (p : Plan) → plannedFrom x sdu out p .gave .slot ≡ sendingAs (plannedFrom x sdu out p .gave .slot) x
 unfolding plannedFrom
 planned-sends x sdu out (Plan.Refused r) = blocked-sends r x

@@ -73,9 +73,6 @@ sub-with-peer-credits c =
 with-peer-credits-requires : tie.Need-with-peer-credits-requires
 with-peer-credits-requires c κs = search needs
 
-cast-count-sent : tie.Need-cast-count-sent
-cast-count-sent c = search needs
-
 count-sent-requires : tie.Need-count-sent-requires
 count-sent-requires c κs = search needs
 
@@ -85,7 +82,7 @@ same-length c = search needs
 returns-3 : tie.Need-returns-3
 unfolding sentFrom plannedFrom choose outputAfter
 returns-3 c =
-    let w = c .before .before .before .before .before .before in
+    let w = c .before .before .before .before .before .before .before in
     rw (
       ← w .before .before .before .before .before .before .is-connected .ensures,
       w .before .before .before .before .before .if1 .left,
@@ -93,8 +90,9 @@ returns-3 c =
       w .before .before .if2 .left,
       ← w .send-job .ensures .0,
       w .send-job .ensures .1,
-      c .before .before .r .given .1,
+      c .before .before .before .r .given .1,
       c .refused3 .ensures,
+      c .before .blocked-by .ensures,
     )
 
 same-length-2 : tie.Need-same-length-2
@@ -103,7 +101,7 @@ same-length-2 c = search needs
 returns-4 : tie.Need-returns-4
 unfolding sentFrom plannedFrom choose outputAfter
 returns-4 c =
-    let w = c .before .before .before .before .before .before in
+    let w = c .before .before .before .before .before .before .before in
     rw (
       ← w .before .before .before .before .before .before .is-connected .ensures,
       w .before .before .before .before .before .if1 .left,
@@ -111,8 +109,9 @@ returns-4 c =
       w .before .before .if2 .left,
       ← w .send-job .ensures .0,
       w .send-job .ensures .1,
-      c .before .before .n .given .1,
-      c .with-peer-credits .ensures,
+      c .before .before .before .n .given .1,
+      c .count-sent .ensures,
+      c .before .with-peer-credits .ensures,
     )
 
 pub send-from-spec : {M : Type 1} → statement M
@@ -133,7 +132,6 @@ send-from-spec =
     cast-used
     sub-with-peer-credits
     with-peer-credits-requires
-    cast-count-sent
     count-sent-requires
     same-length
     returns-3

@@ -100,9 +100,6 @@ sub-with-peer-credits c =
 with-peer-credits-requires : tie.Need-with-peer-credits-requires
 with-peer-credits-requires c κs = search needs
 
-cast-count-sent : tie.Need-cast-count-sent
-cast-count-sent c = search needs
-
 count-sent-requires : tie.Need-count-sent-requires
 count-sent-requires c κs = search needs
 
@@ -112,11 +109,11 @@ with-job-requires c κs = search needs
 returns-4 : tie.Need-returns-4
 unfolding startOf startPlannedOf choose
 returns-4 c =
-    let w = c .before .before .before .before in
-    let a = c .before .before .before .before .before .before .before .before .before .args in
+    let w = c .before .before .before .before .before in
+    let a = c .before .before .before .before .before .before .before .before .before .before .args in
     let x = a .x in
-    let p = plan-enough (a .stated) (x .peer .mtu) (x .peer .mps) (x .peer .credits) (omega (arith, c .before .before .before .before .before .before .before .before .before .good)) in
-    rw (← c .before .before .before .before .before .before .before .is-connected .ensures, c .before .before .before .before .before .before .if1 .left, le-ltb _ _ (c .before .before .before .before .before .if2 .left), ← p, ← w .plan-send .ensures, c .before .before .r .given .1, written-none [] [] (a .buffer .now), c .became3 .ensures)
+    let p = plan-enough (a .stated) (x .peer .mtu) (x .peer .mps) (x .peer .credits) (omega (arith, c .before .before .before .before .before .before .before .before .before .before .good)) in
+    rw (← c .before .before .before .before .before .before .before .before .is-connected .ensures, c .before .before .before .before .before .before .before .if1 .left, le-ltb _ _ (c .before .before .before .before .before .before .if2 .left), ← p, ← w .plan-send .ensures, c .before .before .before .r .given .1, written-none [] [] (a .buffer .now), c .became3 .ensures, c .before .blocked-by .ensures)
 
 same-length : tie.Need-same-length
 same-length c = search needs
@@ -124,11 +121,11 @@ same-length c = search needs
 returns-5 : tie.Need-returns-5
 unfolding startOf startPlannedOf choose
 returns-5 c =
-    let w = c .before .before .before .before .before .before .before .before .before .before .before in
-    let a = c .before .before .before .before .before .before .before .before .before .before .before .before .before .before .before .before .args in
+    let w = c .before .before .before .before .before .before .before .before .before .before .before .before in
+    let a = c .before .before .before .before .before .before .before .before .before .before .before .before .before .before .before .before .before .args in
     let x = a .x in
-    let p = plan-enough (a .stated) (x .peer .mtu) (x .peer .mps) (x .peer .credits) (omega (arith, c .before .before .before .before .before .before .before .before .before .before .before .before .before .before .before .before .good)) in
-    rw (← c .before .before .before .before .before .before .before .before .before .before .before .before .before .before .is-connected .ensures, c .before .before .before .before .before .before .before .before .before .before .before .before .before .if1 .left, le-ltb _ _ (c .before .before .before .before .before .before .before .before .before .before .before .before .if2 .left), ← p, ← w .plan-send .ensures, c .before .before .before .before .before .before .before .before .before .n .given .1, ← c .before .before .before .before .before .before .before .longest .ensures, le-ltb _ _ (c .before .before .before .before .before .before .if3 .left), written-given [] [] (a .buffer .now) _, c .before .before .before .before .put-first .ensures, c .with-job .ensures, c .before .with-peer-credits .ensures)
+    let p = plan-enough (a .stated) (x .peer .mtu) (x .peer .mps) (x .peer .credits) (omega (arith, c .before .before .before .before .before .before .before .before .before .before .before .before .before .before .before .before .before .good)) in
+    rw (← c .before .before .before .before .before .before .before .before .before .before .before .before .before .before .before .is-connected .ensures, c .before .before .before .before .before .before .before .before .before .before .before .before .before .before .if1 .left, le-ltb _ _ (c .before .before .before .before .before .before .before .before .before .before .before .before .before .if2 .left), ← p, ← w .plan-send .ensures, c .before .before .before .before .before .before .before .before .before .before .n .given .1, ← c .before .before .before .before .before .before .before .before .longest .ensures, le-ltb _ _ (c .before .before .before .before .before .before .before .if3 .left), written-given [] [] (a .buffer .now) _, c .before .before .before .before .before .put-first .ensures, c .with-job .ensures, c .before .count-sent .ensures, c .before .before .with-peer-credits .ensures)
 
 pub start-from-spec : {M : Type 1} → statement M
 start-from-spec =
@@ -154,7 +151,6 @@ start-from-spec =
     cast-used
     sub-with-peer-credits
     with-peer-credits-requires
-    cast-count-sent
     count-sent-requires
     with-job-requires
     returns-4

@@ -19,6 +19,9 @@ pub struct Decoded {
     pub table: Table,
 }
 
+// This layout's number, the table's first octet.
+pub const LAYOUT: u8 = 3;
+
 // Where each column starts. A number of two octets has its higher octets SLOTS further on.
 pub const HEAD: usize = 48;
 

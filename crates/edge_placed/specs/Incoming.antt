@@ -23,7 +23,7 @@ use Rattle.channel.specs.declared.Verdict.{Verdict}
 use Rattle.channel.specs.declared.Verdict.the-variants.{Pass, Stop}
 use Rattle.channel_answer.specs.Tells.{answerNumber}
 use Rattle.definition.specs.Mem.{sizes, parts}
-use Rattle.definition.specs.Table.{placeSize, partWidth, roomWidth, placeOf, slotAt, slotOf, isCid, isConnected, withAccount, putSlot}
+use Rattle.definition.specs.Table.{placeSize, partWidth, roomWidth, placeOf, slotAt, slotOf, isCid, isConnected, withAccount, countReceived, putSlot}
 use Rattle.definition.specs.Outcome.{verdict, passed, only}
 use Rattle.definition.specs.Ending.{itself, end, endOf, gave, written-none}
 use Rattle.definition.specs.Frames.{dispatch, admitted}
@@ -39,7 +39,7 @@ use Rattle.edge_layout_write.specs.Puts.{framedRow}
 use Rattle.edge.specs.Edge.{Edge, edge}
 use Rattle.edge_scan.specs.Scan.{validOctets}
 use Rattle.edge_row.specs.Row.{slots-told, depth-told, packet-told, slot-read}
-use Rattle.edge_row.specs.Framed.{localOf, peerOf, framed-written}
+use Rattle.edge_row.specs.Framed.{localOf, peerOf, middleOf, framed-written}
 use Rattle.edge_row.specs.Gate.{answered, stays, changes, stopped, valid-read, valid-formed, stops-4, passes}
 use Rattle.edge_row.specs.Room as Room
 pub use Rattle.edge_row.specs.Room.{sized-told}
@@ -52,11 +52,11 @@ framedEdge o a room d m s link p =
     let w = frameOf d (placeSize m) x link p in
     edge (answerNumber (w .answer)) (framedRow o s (w .slot)) (answered a (w .answer) 0) (parts itself (jobOctets (x .assembly) p) (partWidth d m) (only s (w .moves)) room) [] []
 
--- a frame leaves link, SPSM, our sizes, holds and the peer's side as they were, and the open job where the channel stays
+-- a frame leaves link, SPSM, our sizes, holds and the peer's side as they were, and the open job and what is counted of sends where the channel stays
 abbrev Same : Slot → Work → Type 0
-Same x w = (localOf (w .slot) ≡ localOf x) × ((peerOf (w .slot) ≡ peerOf x) × (isConnected (w .slot .state) ≡ true → w .slot .job ≡ x .job))
+Same x w = (localOf (w .slot) ≡ localOf x) × ((peerOf (w .slot) ≡ peerOf x) × (isConnected (w .slot .state) ≡ true → middleOf (w .slot) ≡ middleOf x))
 
-joined-local : (place : ℕ) (x : Slot) (k : CreditFlowControl) (count : ℕ) (j : Joined) → Same x (joinedTo place (withAccount k x) count j)
+joined-local : (place : ℕ) (x : Slot) (k : CreditFlowControl) (count : ℕ) (j : Joined) → Same x (joinedTo place (countReceived (withAccount k x)) count j)
 unfolding joinedTo
 joined-local place x k count (Joined.Refused r) = (refl, (refl, λ e. absurd (false≢true e)))
 joined-local place x k count (Joined.Assembling a) = (refl, (refl, λ _. refl))

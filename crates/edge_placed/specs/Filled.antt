@@ -15,11 +15,12 @@ use Rattle.channel.specs.declared.Table.{Table}
 use Rattle.channel.specs.declared.Verdict.{Verdict}
 use Rattle.channel.specs.declared.Verdict.the-variants.{Stop}
 use Rattle.channel_answer.specs.Tells.{answerNumber}
-use Rattle.definition.specs.Table.{slotAt, putSlot, withPeerCredits, withJob}
+use Rattle.definition.specs.Table.{slotAt, putSlot, withJob}
 use Rattle.definition.specs.Outcome.{Outcome, verdict, passed, gate}
 use Rattle.definition.specs.Ending.{end, endOf, gave}
 use Rattle.definition.specs.Portions.{startJob, startOn, givePortion, portionOn}
 use Rattle.slot_work.specs.declared.Worked.{Worked}
+use Rattle.slot_work.specs.Work.{sendingAs}
 use Rattle.slot_portion.specs.Filled.{Filled, After, after, afterOf, inTable, fills-in}
 use Rattle.slot_portion.specs.Starting.{startOf}
 use Rattle.slot_portion.specs.Giving.{portionOf}

@@ -68,6 +68,7 @@ module _ (t : Table) (line room octets frames buffers : List ℕ) where
   played-is (Command.Send slot job) h k p = refl
   played-is (Command.Receive slot size) h k p = refl
   played-is (Command.Queries slot) h k p = refl
+  played-is (Command.Tallies slot) h k p = refl
   played-is Command.View h k p = refl
   played-is (Command.Room slot) h k p = refl
   played-is (Command.Portions c) h k p = absurd (miss notPortions 12 tt p)

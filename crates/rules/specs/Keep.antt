@@ -135,6 +135,16 @@ counts-counted x (arrived on) c = record { none = no-less x on; below = record {
 counts-counted x (blocked-send on) c = record { none = no-less x on; below = record { sent = c .below .sent; blocked-sends = mod-lt (x .tallies .sends .blocked + 1) (omega arith); received = c .below .received; blocked-receives = c .below .blocked-receives } }
 counts-counted x (blocked-receive on) c = record { none = no-less x on; below = record { sent = c .below .sent; blocked-sends = c .below .blocked-sends; received = c .below .received; blocked-receives = mod-lt (x .tallies .receives .blocked + 1) (omega arith) } }
 
+-- what counts nothing before the step has counted nothing after it
+pub counts-none : (x : Slot) {k : ChannelState} {y : Tallies} → Counting x k y → counting (x .state) ≡ false → x .tallies ≡ noTallies → y ≡ noTallies
+counts-none x (uncounted f) e n = n
+counts-none x (reset y) e n = choose-true true noTallies y refl
+counts-none x parted e n = choose-false false noTallies (x .tallies) refl ∙ n
+counts-none x (sent m on) e n = no-less x on e
+counts-none x (arrived on) e n = no-less x on e
+counts-none x (blocked-send on) e n = no-less x on e
+counts-none x (blocked-receive on) e n = no-less x on e
+
 not-begun : (x y : Slot) → Goes x y → begun (y .state) ≡ false → begun (x .state) ≡ false
 not-begun x y g f = by (begun (x .state)) refl
   where

@@ -1,0 +1,4 @@
+-- Laws of the tallies: the page to read is Statement.antt; the others prove it.
+pub mod Statement
+pub mod Kept
+pub mod Quiet

@@ -110,10 +110,10 @@ pub record Kept (x y : Slot) (ms : List Move) : Type 0 where
   pub is : Tallied x y noTallies
 
 pub stays : {x y : Slot} {ms : List Move} → resets (x .state) (y .state) ≡ false → y .tallies ≡ x .tallies → Kept x y ms
-stays e f = record { is = f ∙ sym (choose-false _ _ _ e) }
+stays e f = record { is = record { is = f ∙ sym (choose-false _ _ _ e) } }
 
 pub starts-anew : {x y : Slot} {ms : List Move} → resets (x .state) (y .state) ≡ true → y .tallies ≡ noTallies → Kept x y ms
-starts-anew e f = record { is = f ∙ sym (choose-true _ _ _ e) }
+starts-anew e f = record { is = record { is = f ∙ sym (choose-true _ _ _ e) } }
 
 pub as-it-was : {x y : Slot} {ms : List Move} → y .state ≡ x .state → y .tallies ≡ x .tallies → Kept x y ms
 as-it-was {x} e f = stays (ap (resets (x .state)) e ∙ same-stays (x .state)) f

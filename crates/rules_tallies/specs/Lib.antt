@@ -2,3 +2,4 @@
 pub mod Statement
 pub mod Kept
 pub mod Quiet
+pub mod Counting

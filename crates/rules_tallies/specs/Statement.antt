@@ -110,8 +110,8 @@ plusAll y a =
     }
 
 -- Slot x becomes y: nothing is counted, where the call resets it; else what the call adds is added.
-abbrev pub Tallied : (x y : Slot) → Tallies → Type 0
-Tallied x y a = y .tallies ≡ choose (resets (x .state) (y .state)) noTallies (plusAll (x .tallies) a)
+pub record Tallied (x y : Slot) (added : Tallies) : Type 0 where
+  pub is : y .tallies ≡ choose (resets (x .state) (y .state)) noTallies (plusAll (x .tallies) added)
 
 -- ONE CALL: every call, on every table that has its slots, with every size, and every slot.
 abbrev pub Tells : Table → Call → Outcome → Type 0

@@ -3,3 +3,4 @@ pub mod Statement
 pub mod Kept
 pub mod Quiet
 pub mod Counting
+pub mod Theorems

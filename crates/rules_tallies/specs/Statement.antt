@@ -17,9 +17,10 @@ use Rattle.definition.specs.Table.{slotAt, cidOf, isDisconnected, isConnected, 
 use Rattle.definition.specs.Numbers.{answerNumber}
 use Rattle.definition.specs.Outcome.{Outcome}
 use Rattle.definition.specs.Calls.{Call, frame, sends, portions, down, plain, Request, register, signals, pends, rejectsAll, accepts, rejects, drops, creates, opens, gives, holds, releases, leaves, leavesCid, announces, takes, starts, cancels, attends, asks, sendsSignal, writes, bare, decide}
-use Rattle.definition.specs.Run.{State, outcome, after, run}
+use Rattle.definition.specs.Asking.{make}
+use Rattle.definition.specs.Run.{State, outcome, after, made, run}
 use Rattle.definition.specs.Forms.{Fit}
-use Rattle.rules.specs.Run.{AllFit, Reached}
+use Rattle.rules.specs.Run.{Fits, AllFit, Reached}
 
 -- ---- what a call adds to the tallies of slot i, told from the call and its answer; of a frame also from the slot that it finds
 
@@ -151,3 +152,8 @@ pub record Totals (before added after : Tallies) : Type 0 where
 abbrev pub EveryRun : Type 0
 EveryRun = (s : State) → Reached s → (cs : List Call) → AllFit cs → (i : ℕ) → i < s .table .n → Unreset i s cs
     → Totals (slotAt (s .table) i .tallies) (added i s cs) (slotAt (run s cs .table) i .tallies)
+
+-- FROM A MAKING OR A RESET ON, where nothing is counted yet: s was made, or left by a call that reset slot i. (The theorems on these are named for what they say: Theorems.antt.)
+pub data Since (i : ℕ) : State → Type 0 where
+  making : (n d m : ℕ) (room memory : List ℕ) → make n d m room .answer ≡ Done → Since i (made n d m room memory)
+  reset : {s : State} (c : Call) → Reached s → Fits c → i < s .table .n → resets (slotAt (s .table) i .state) (slotAt (after s c .table) i .state) ≡ true → Since i (after s c)

@@ -4,3 +4,4 @@ pub mod Kept
 pub mod Quiet
 pub mod Counting
 pub mod Theorems
+pub mod Code

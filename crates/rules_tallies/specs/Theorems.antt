@@ -144,7 +144,7 @@ pub since-none : {i : ℕ} {s : State} → Since i s → slotAt (s .table) i .ta
 since-none {i} (making n d m room memory e) = made-none n d m room i
 since-none {i} (reset {s} c r f h e) = call-tallied s r c i h .is ∙ choose-true _ _ _ e
 
-since-reached : {i : ℕ} {s : State} → Since i s → Reached s
+pub since-reached : {i : ℕ} {s : State} → Since i s → Reached s
 since-reached (making n d m room memory e) = start n d m room memory e
 since-reached (reset c r f h e) = next c r f
 

@@ -28,7 +28,7 @@ use Rattle.channel.specs.declared.ChannelState.the-variants.{Disconnecting}
 use Rattle.channel.specs.declared.Slot.{Slot}
 use Rattle.channel.specs.declared.Table.{Table}
 use Rattle.channel.specs.declared.Tallies.{Tallies}
-use Rattle.definition.specs.Table.{gap, slotAt, left, cidOf, isCid, slotOf, isConnected, withAccount, noTallies, noTally, counted, countSent, countReceived, countBlockedReceive, blocks}
+use Rattle.definition.specs.Table.{gap, slotAt, left, cidOf, isCid, slotOf, isConnected, withAccount, noTallies, noTally, counted, countSent, countReceived, countBlockedSend, countBlockedReceive, blocks}
 use Rattle.definition.specs.Numbers.{answerNumber, refused-not-0}
 use Rattle.definition.specs.Outcome.{Outcome, change, refuse}
 use Rattle.definition.specs.Frames.{joined, dispatch, unsent, planned, send}
@@ -36,7 +36,7 @@ use Rattle.definition.specs.Portions.{startPlanned, startJob}
 use Rattle.definition.specs.Forms.{Fit}
 use Rattle.definition.specs.Tells.{cid-within}
 use Rattle.rules.specs.Forms.{gate-refusals}
-use Rattle.rules_tallies.specs.Statement.{blockedBy, comesFirst, usesCredit, ofSend, ofFrame, resets, plus, plusAll, Tallied}
+use Rattle.rules_tallies.specs.Statement.{framesOf, blockedBy, comesFirst, hasCredit, usesCredit, ofSend, ofFrame, resets, plus, plusAll, Tallied}
 use Rattle.rules_tallies.specs.Kept.{same-stays, left-resets}
 
 -- ---- one slot
@@ -52,6 +52,13 @@ left-tallied {x} y e = record { is = choose-true true noTallies (y .tallies) ref
 off : (b : Bool) {c : Bool} → c ≡ false → (b && c) ≡ false
 off true e = e
 off false e = refl
+
+-- a credit is left, or none
+no-credit : (x : Slot) → x .account .credits ≡ 0 → hasCredit x ≡ false
+no-credit x e = rw e refl
+
+some-credit : (x : Slot) → (x .account .credits ≡ 0 → ⊥) → hasCredit x ≡ true
+some-credit x f = lt-ltb 0 (x .account .credits) (omega arith)
 
 -- some frames more
 plus-some : (tally n : ℕ) → 1 ≤ n → plus tally n ≡ counted tally n
@@ -88,17 +95,22 @@ module _ (t : Table) (fit : Fit t) where
     -- a refusal but 14 adds nothing
     refused-none : (its : Bool) (r : Refusal) → eqb (refusalNumber r) 14 ≡ false → ofSend its (Refused r) ≡ noTallies
     refused-none its r e =
-        if-cases (λ (a : Tallies). a ≡ noTallies) its (λ _. ap (λ (b : Bool). record { sends = record { frames = 0; blocked = bit b }; receives = noTally }) e) (λ _. refl)
+        if-cases (λ (a : Tallies). a ≡ noTallies) its (λ _. rw e refl) (λ _. refl)
 
     refused-sends : (r : Refusal) → eqb (refusalNumber r) 14 ≡ false → Sends (refuse t r)
     refused-sends r e i l = still-tallied i (refused-none (eqb i s) r e)
 
     -- 14 adds 1 to the blocked sends
+    blocked-add : (r : Refusal) → blocks r ≡ true → plusAll (x .tallies) (ofSend (eqb s s) (Refused r)) ≡ countBlockedSend x .tallies
+    blocked-add r b =
+        let one : plusAll (x .tallies) (record { sends = record { frames = framesOf (Refused r); blocked = blockedBy 14 (Refused r) }; receives = noTally }) ≡ countBlockedSend x .tallies = rw b refl in
+        ap (plusAll (x .tallies)) (choose-true _ _ _ (eq-eqb s s refl)) ∙ one
+
     unsent-sends : s < t .n → (r : Refusal) → Sends (unsent t s x r)
     unsent-sends h r =
         if-cases Sends (blocks r)
         (λ b. one s _ (λ i. ofSend (eqb i s) (Refused r)) h
-        (counts refl (ap (plusAll (x .tallies)) (choose-true _ _ _ (eq-eqb s s refl) ∙ ap (λ (c : Bool). record { sends = record { frames = 0; blocked = bit c }; receives = noTally }) b)))
+        (counts refl (blocked-add r b))
         (others-none (Refused r)))
         (λ b. refused-sends r b)
 
@@ -164,7 +176,7 @@ module _ (t : Table) (fit : Fit t) where
     none-comes : (a : Answer) (i : ℕ) → (eqb cid (cidOf i) ≡ true → usesCredit link a (slotAt t i) ≡ false) → eqb (answerNumber a) 10 ≡ false → ofFrame (eqb cid (cidOf i)) link a (slotAt t i) ≡ noTallies
     none-comes a i f e =
         if-cases (λ (y : Tallies). y ≡ noTallies) (eqb cid (cidOf i))
-        (λ its. ap₂ (λ (b c : Bool). record { sends = noTally; receives = record { frames = bit b; blocked = bit c } }) (f its) e) (λ _. refl)
+        (λ its. rw (f its, e) refl) (λ _. refl)
 
     others-come : (a : Answer) → isCid t cid ≡ true → (i : ℕ) → eqb i s ≡ false → ofFrame (eqb cid (cidOf i)) link a (slotAt t i) ≡ noTallies
     others-come a on i e = choose-false _ _ _ (ne-eqb cid (cidOf i) (λ f. eqb-false i s e (omega arith)))
@@ -177,34 +189,34 @@ module _ (t : Table) (fit : Fit t) where
     first-none : (r : Refusal) → refusalNumber r ≤ 6 → (y : Slot) → usesCredit link (Refused r) y ≡ false
     first-none r h y =
         let q = eqb-false (refusalNumber r) 0 (refused-not-0 r) in
-        let f : comesFirst (Refused r) ≡ true = and-both (ltb 0 (refusalNumber r)) _ (lt-ltb 0 (refusalNumber r) (omega arith)) (le-leb (refusalNumber r) 6 h) in
-        off (isConnected (y .state)) (off (eqb (y .link) link) (off (ltb 0 (y .account .credits)) (ap not f)))
+        let f : comesFirst (Refused r) ≡ true = and-both (ltb 0 (refusalNumber r)) _ (lt-ltb 0 (refusalNumber r) (omega arith)) (le-leb (refusalNumber r) _ (omega arith)) in
+        off (isConnected (y .state)) (off (eqb (y .link) link) (off (hasCredit y) (ap not f)))
 
     -- the slot whose credit is used: 1 more
     module _ (on : isCid t cid ≡ true) (opened : isConnected (z .state) ≡ true) (mine : eqb (z .link) link ≡ true) where
       its-own : eqb cid (cidOf s) ≡ true
       its-own = let f = leb-true cidBase cid (and-left (leb cidBase cid) _ on) in eq-eqb cid (cidOf s) (omega arith)
 
-      used-comes : ltb 0 (z .account .credits) ≡ true → (a : Answer) → comesFirst a ≡ false → eqb (answerNumber a) 10 ≡ false
+      used-comes : hasCredit z ≡ true → (a : Answer) → comesFirst a ≡ false → eqb (answerNumber a) 10 ≡ false
           → plusAll (z .tallies) (ofFrame (eqb cid (cidOf s)) link a z) ≡ countReceived z .tallies
       used-comes c a f e =
           ap (plusAll (z .tallies))
           (choose-true _ _ _ its-own
           ∙ ap₂ (λ (u v : Bool). record { sends = noTally; receives = record { frames = bit u; blocked = bit v } })
-          (and-both (isConnected (z .state)) _ opened (and-both (eqb (z .link) link) _ mine (and-both (ltb 0 (z .account .credits)) _ c (ap not f)))) e)
+          (and-both (isConnected (z .state)) _ opened (and-both (eqb (z .link) link) _ mine (and-both (hasCredit z) _ c (ap not f)))) e)
 
-      blocked-comes : ltb 0 (z .account .credits) ≡ false → plusAll (z .tallies) (ofFrame (eqb cid (cidOf s)) link (Refused OutOfMemory) z) ≡ countBlockedReceive z .tallies
+      blocked-comes : hasCredit z ≡ false → plusAll (z .tallies) (ofFrame (eqb cid (cidOf s)) link (Refused OutOfMemory) z) ≡ countBlockedReceive z .tallies
       blocked-comes c =
           ap (plusAll (z .tallies))
           (choose-true _ _ _ its-own
           ∙ ap (λ (u : Bool). record { sends = noTally; receives = record { frames = bit u; blocked = 1 } })
           (off (isConnected (z .state)) (off (eqb (z .link) link) (ap (λ (b : Bool). b && not (comesFirst (Refused OutOfMemory))) c))))
 
-      refused-comes : ltb 0 (z .account .credits) ≡ false → Comes (change t s (countBlockedReceive z) [] (Refused OutOfMemory) [])
+      refused-comes : hasCredit z ≡ false → Comes (change t s (countBlockedReceive z) [] (Refused OutOfMemory) [])
       refused-comes c =
           one s _ (λ i. ofFrame (eqb cid (cidOf i)) link (Refused OutOfMemory) (slotAt t i)) (cid-within t cid on) (counts refl (blocked-comes c)) (others-come (Refused OutOfMemory) on)
 
-      joined-comes : ltb 0 (z .account .credits) ≡ true → (count : ℕ) (j : Joined) → Comes (joined t s (countReceived (withAccount (received (z .account) 1) z)) count j)
+      joined-comes : hasCredit z ≡ true → (count : ℕ) (j : Joined) → Comes (joined t s (countReceived (withAccount (received (z .account) 1) z)) count j)
       unfolding joined
       joined-comes c count (Joined.Refused r) =
           one s _ (λ i. ofFrame (eqb cid (cidOf i)) link (Refused r) (slotAt t i)) (cid-within t cid on) (left-tallied (countReceived (withAccount (received (z .account) 1) z)) opened) (others-come (Refused r) on)
@@ -221,9 +233,9 @@ module _ (t : Table) (fit : Fit t) where
         gate-refusals Comes t _ _ _ _ (λ r h. still-comes (Refused r) (λ i _ _. first-none r h (slotAt t i)) (ne-eqb (refusalNumber r) 10 (λ e. omega arith)))
         (λ _. if-cases Comes _ (λ e. still-comes (Refused InvalidChannelId) (λ i l its. absurd (false≢true (sym (not-true (isCid t cid) e) ∙ named-cid i l its))) refl)
         (λ e. let on = not-false (isCid t cid) e in
-        if-cases Comes _ (λ k. still-comes Done (λ i _ its. rw (named i its) (ap (λ (b : Bool). b && (eqb (z .link) link && (ltb 0 (z .account .credits) && not (comesFirst Done)))) (not-true (isConnected (z .state)) k))) refl)
+        if-cases Comes _ (λ k. still-comes Done (λ i _ its. rw (named i its) (ap (λ (b : Bool). b && (eqb (z .link) link && (hasCredit z && not (comesFirst Done)))) (not-true (isConnected (z .state)) k))) refl)
         (λ k. let opened = not-false (isConnected (z .state)) k in
-        if-cases Comes _ (λ m. still-comes (Refused NotFound) (λ i _ its. rw (named i its) (off (isConnected (z .state)) (ap (λ (b : Bool). b && (ltb 0 (z .account .credits) && not (comesFirst (Refused NotFound)))) (not-true (eqb (z .link) link) m)))) refl)
+        if-cases Comes _ (λ m. still-comes (Refused NotFound) (λ i _ its. rw (named i its) (off (isConnected (z .state)) (ap (λ (b : Bool). b && (hasCredit z && not (comesFirst (Refused NotFound)))) (not-true (eqb (z .link) link) m)))) refl)
         (λ m. let mine = not-false (eqb (z .link) link) m in
-        if-cases Comes _ (λ c. refused-comes on opened mine (le-ltb 0 (z .account .credits) (let f = eqb-true (z .account .credits) 0 c in omega arith)))
-        (λ c. joined-comes on opened mine (lt-ltb 0 (z .account .credits) (let f = eqb-false (z .account .credits) 0 c in omega arith)) count _)))))
+        if-cases Comes _ (λ c. refused-comes on opened mine (no-credit z (eqb-true (z .account .credits) 0 c)))
+        (λ c. joined-comes on opened mine (some-credit z (eqb-false (z .account .credits) 0 c)) count _)))))

@@ -48,8 +48,11 @@ abbrev pub comesFirst : Answer → Bool
 comesFirst a = ltb 0 (answerNumber a) && leb (answerNumber a) 6
 
 -- A frame on this link uses a credit of its slot, whatever then becomes of it: the slot is Connected, of that link, and has one.
+abbrev pub hasCredit : Slot → Bool
+hasCredit x = ltb 0 (x .account .credits)
+
 abbrev pub usesCredit : (link : ℕ) → Answer → Slot → Bool
-usesCredit link a x = isConnected (x .state) && (eqb (x .link) link && (ltb 0 (x .account .credits) && not (comesFirst a)))
+usesCredit link a x = isConnected (x .state) && (eqb (x .link) link && (hasCredit x && not (comesFirst a)))
 
 -- (of slot i: is the call on it?)
 abbrev pub ofSend : Bool → Answer → Tallies

@@ -179,22 +179,22 @@ abbrev pub counting : ChannelState → Bool
 counting k = isConnected k || isPeerDisconnecting k
 
 pub connected-counting : (k : ChannelState) → isConnected k ≡ true → counting k ≡ true
-connected-counting k e = ap (λ (b : Bool). b || isPeerDisconnecting k) e
+connected-counting k e = rw e refl
 
 pub unbegun-uncounted : (k : ChannelState) → begun k ≡ false → counting k ≡ false
 unbegun-uncounted Disconnected e = refl
 unbegun-uncounted (Connecting i) e = refl
 unbegun-uncounted (PeerConnecting i) e = refl
-unbegun-uncounted Connected e = e
+unbegun-uncounted Connected e = absurd (false≢true (sym e))
 unbegun-uncounted (ConnectFailed c) e = refl
-unbegun-uncounted (PeerDisconnecting i) e = e
+unbegun-uncounted (PeerDisconnecting i) e = absurd (false≢true (sym e))
 unbegun-uncounted (Disconnecting a) e = refl
 
 pub due-uncounted : (k : ChannelState) → isDue k ≡ true → isPeerDisconnecting k ≡ false → counting k ≡ false
 due-uncounted Disconnected e f = refl
 due-uncounted (Connecting i) e f = refl
 due-uncounted (PeerConnecting i) e f = refl
-due-uncounted Connected e f = sym e
+due-uncounted Connected e f = absurd (false≢true e)
 due-uncounted (ConnectFailed c) e f = refl
-due-uncounted (PeerDisconnecting i) e f = f
+due-uncounted (PeerDisconnecting i) e f = absurd (false≢true (sym f))
 due-uncounted (Disconnecting a) e f = refl

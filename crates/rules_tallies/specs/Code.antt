@@ -1,17 +1,16 @@
 -- The tallies in runs of the code: what its calls add, told from the answers that they gave back, is what the table that it leaves has counted. Rests on the theorems over the definition
 -- (Theorems.antt) and on the law of runs (crate rules_code).
 use mathlib.Core.Path.{_≡_, refl, sym, ap, ap₂, _∙_, subst}
-use mathlib.Core.Bool.{Bool, true, false}
-use mathlib.Core.List.{List, [], _∷_}
+use mathlib.Core.Bool.{true, false}
+use mathlib.Core.List.{List}
 use Prim.Native.Nat.{ℕ, _%_, _^_, _<_}
 use native.Mathlib.Nat.{zero-add}
-use Rattle.channel.specs.declared.Answer.{Answer}
 use Rattle.channel.specs.declared.Answer.the-variants.{Done}
 use Rattle.channel.specs.declared.Served.{Served}
 use Rattle.channel.specs.declared.Tallies.{Tallies}
 use Rattle.definition.specs.Table.{slotAt, noTallies}
 use Rattle.definition.specs.Calls.{Call}
-use Rattle.definition.specs.Run.{State, outcome, after, run}
+use Rattle.definition.specs.Run.{State}
 use Rattle.rules.specs.Run.{Fits, AllFit, Reached}
 use Rattle.rules_code.specs.Called.{Called, called-after, called-served}
 use Rattle.rules_code.specs.CodeRun.{Makes, makes-made, makes-answer, CodeRun, none, call, code-run}

@@ -2,15 +2,15 @@
 use mathlib.Core.Path.{_≡_, refl, sym, ap, ap₂, _∙_, subst}
 use mathlib.Core.Bool.{Bool, true, false, _&&_, not, false≢true}
 use mathlib.Core.List.{List, []}
-use Prim.Native.Nat.{ℕ, zero, suc, _+_, _≤_, _<_}
+use Prim.Native.Nat.{ℕ, zero, suc, _≤_, _<_}
 use native.Mathlib.Omega.{arith}
 use lib.Dec.{eqb, ltb, leb}
 use lib.ListN.{getD, set}
 use lib.Seq.{getD-set-same, getD-set-other}
-use borrow.Author.Tests.{eqb-true, eqb-false, eq-eqb, ne-eqb, lt-ltb, le-ltb, le-leb, leb-true, not-true, not-false}
+use borrow.Author.Tests.{eqb-true, eqb-false, eq-eqb, ne-eqb, lt-ltb, le-leb, leb-true, not-true, not-false}
 use Rattle.lists.specs.Bits.{bit}
 use Rattle.lists.specs.Both.{and-left, and-both}
-use Rattle.lists.specs.Choose.{choose, choose-true, choose-false, if-cases}
+use Rattle.lists.specs.Choose.{choose-true, choose-false, if-cases}
 use Rattle.codes.specs.Codes.{refusalNumber}
 use Rattle.codes.specs.declared.Refusal.{Refusal}
 use Rattle.codes.specs.declared.Refusal.the-variants.{NoRoom, InvalidChannelId, NotFound, OutOfMemory, ChannelClosed, QueueFull, JobOpen}

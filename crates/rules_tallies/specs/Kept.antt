@@ -1,7 +1,7 @@
 -- What a slot that counts nothing comes to: which changes of its state reset it, a case a state; and that each form of an outcome (Outcome.antt of crate definition) leaves it so.
-use mathlib.Core.Path.{_≡_, refl, sym, ap, _∙_, subst, subst₂}
-use mathlib.Core.Bool.{Bool, true, false, not, false≢true}
-use mathlib.Core.List.{List, [], _∷_}
+use mathlib.Core.Path.{_≡_, refl, sym, ap, _∙_, subst₂}
+use mathlib.Core.Bool.{Bool, true, false, false≢true}
+use mathlib.Core.List.{List, []}
 use Prim.Native.Nat.{ℕ, zero, suc, _<_}
 use lib.ListN.{getD}
 use Rattle.lists.specs.Choose.{choose-true, choose-false}
@@ -9,13 +9,12 @@ use Rattle.channel.specs.declared.ChannelState.{ChannelState}
 use Rattle.channel.specs.declared.ChannelState.the-variants.{Disconnected, Connecting, PeerConnecting, Connected, ConnectFailed, PeerDisconnecting, Disconnecting}
 use Rattle.channel.specs.declared.Slot.{Slot}
 use Rattle.channel.specs.declared.Table.{Table}
-use Rattle.channel.specs.declared.Tallies.{Tallies}
 use Rattle.definition.specs.Mem.{Move}
-use Rattle.definition.specs.Table.{gap, slotAt, live, fresh, left, isDisconnected, isConnecting, isPeerConnecting, isConnected, isPeerDisconnecting, isDisconnecting, isDue, noTallies}
+use Rattle.definition.specs.Table.{gap, slotAt, fresh, left, isDisconnected, isConnecting, isPeerConnecting, isConnected, isDue, noTallies}
 use Rattle.definition.specs.Outcome.{Outcome}
 use Rattle.definition.specs.Forms.{Fit, Each, rest, next, Basis, Does}
 use Rattle.rules.specs.Forms.{live-at}
-use Rattle.rules_tallies.specs.Statement.{resets, plusAll, Tallied}
+use Rattle.rules_tallies.specs.Statement.{resets, Tallied}
 
 -- ---- which changes of a state reset
 

@@ -1,7 +1,6 @@
 -- THE THEOREMS of the tallies. What they say is on the page Statement.antt; they rest on the calls one by one (Quiet.antt, Counting.antt), on the rules of runs (crate rules) and on which slots
 -- a call changes (crate rules_slots).
 use mathlib.Core.Path.{_≡_, refl, sym, ap, _∙_, subst}
-use mathlib.Core.Bool.{Bool, true, false}
 use mathlib.Core.List.{List, [], _∷_}
 use Prim.Native.Nat.{ℕ, zero, suc, _+_, _%_, _^_, _<_}
 use native.Mathlib.Nat.{mod-add-mod, mod-eq-of-lt, add-zero, zero-add}
@@ -18,15 +17,15 @@ use Rattle.definition.specs.Table.{gap, fresh, slotAt, noTallies}
 use Rattle.definition.specs.Outcome.{Outcome}
 use Rattle.definition.specs.Asking.{Made, make}
 use Rattle.definition.specs.Calls.{Call, frame, sends, portions, down, plain, Request, register, signals, pends, rejectsAll, accepts, rejects, drops, creates, opens, gives, holds, releases, leaves, leavesCid, announces, takes, starts, cancels, attends, asks, sendsSignal, writes, Window, bare, serve, decide}
-use Rattle.definition.specs.Run.{State, outcome, after, made, run}
+use Rattle.definition.specs.Run.{State, outcome, after, run}
 use Rattle.definition.specs.Forms.{Fit, Does, itself, still-does}
-use Rattle.rules.specs.Run.{Fits, AllFit, Reached, start, next}
+use Rattle.rules.specs.Run.{AllFit, Reached, start, next}
 use Rattle.rules.specs.Sound.{Below}
 use Rattle.rules.specs.Good.{within, reached-good, same-sizes}
 use Rattle.rules.specs.Rules.{tallies-below}
 use Rattle.rules_slots.specs.Change.{MayChange}
 use Rattle.rules_slots.specs.Changes.{change-law}
-use Rattle.rules_tallies.specs.Statement.{adds, resets, plus, plusAll, Tallied, Tells, OneCall, both, added, Unreset, Totals, EveryRun, Since, making, reset}
+use Rattle.rules_tallies.specs.Statement.{adds, plus, plusAll, Tallied, Tells, OneCall, both, added, Unreset, Totals, EveryRun, Since, making, reset}
 use Rattle.rules_tallies.specs.Kept.{Kept, basis, does-kept}
 use Rattle.rules_tallies.specs.Quiet.{pends-quiet, rejectsAll-quiet, accepts-quiet, rejects-quiet, drops-quiet, creates-quiet, opens-quiet, gives-quiet, holds-quiet, releases-quiet, leaves-quiet, leavesCid-quiet, down-quiet, announces-quiet, signals-quiet, takes-quiet, portions-quiet, cancels-quiet, register-quiet, attends-quiet, asks-quiet, sendsSignal-quiet}
 use Rattle.rules_tallies.specs.Counting.{send-sends, start-sends, frame-comes}

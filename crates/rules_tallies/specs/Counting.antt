@@ -36,7 +36,8 @@ use Rattle.definition.specs.Portions.{startPlanned, startJob}
 use Rattle.definition.specs.Forms.{Fit}
 use Rattle.definition.specs.Tells.{cid-within}
 use Rattle.rules.specs.Forms.{gate-refusals}
-use Rattle.rules_tallies.specs.Statement.{framesOf, blockedBy, comesFirst, hasCredit, usesCredit, ofSend, ofFrame, resets, plus, plusAll, Tallied}
+use Rattle.rules_tallies.specs.Words.{framesOf}
+use Rattle.rules_tallies.specs.Statement.{blockedBy, comesFirst, hasCredit, usesCredit, ofSend, ofFrame, resets, plus, plusAll, Tallied}
 use Rattle.rules_tallies.specs.Kept.{same-stays, left-resets}
 
 -- ---- one slot

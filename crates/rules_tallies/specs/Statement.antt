@@ -8,7 +8,7 @@ use lib.Dec.{eqb, ltb, leb}
 use Rattle.lists.specs.Bits.{bit}
 use Rattle.lists.specs.Choose.{choose}
 use Rattle.channel.specs.declared.Answer.{Answer}
-use Rattle.channel.specs.declared.Answer.the-variants.{Done, Refused, At, Link, Opened, Due, Frames, Job, Attention, Number, Event, Portion}
+use Rattle.channel.specs.declared.Answer.the-variants.{Done}
 use Rattle.channel.specs.declared.ChannelState.{ChannelState}
 use Rattle.channel.specs.declared.Slot.{Slot}
 use Rattle.channel.specs.declared.Table.{Table}
@@ -16,28 +16,14 @@ use Rattle.channel.specs.declared.Tallies.{Tallies}
 use Rattle.definition.specs.Table.{slotAt, cidOf, isDisconnected, isConnected, isDisconnecting, noTallies, noTally, counted}
 use Rattle.definition.specs.Numbers.{answerNumber}
 use Rattle.definition.specs.Outcome.{Outcome}
-use Rattle.definition.specs.Calls.{Call, frame, sends, portions, down, plain, Request, register, signals, pends, rejectsAll, accepts, rejects, drops, creates, opens, gives, holds, releases, leaves, leavesCid, announces, takes, starts, cancels, attends, asks, sendsSignal, writes, bare, decide}
+use Rattle.definition.specs.Calls.{Call, frame, sends, portions, down, plain, bare, decide}
 use Rattle.definition.specs.Asking.{make}
 use Rattle.definition.specs.Run.{State, outcome, after, made, run}
 use Rattle.definition.specs.Forms.{Fit}
 use Rattle.rules.specs.Run.{Fits, AllFit, Reached}
+use Rattle.rules_tallies.specs.Words.{framesOf, startsOn}
 
 -- ---- what a call adds to the tallies of slot i, told from the call and its answer; of a frame also from the slot that it finds
-
--- "A send adds n when its credits are taken or set aside": the frames of a send or a start that answered 0.
-abbrev pub framesOf : Answer → ℕ
-framesOf Done = 0
-framesOf (Refused r) = 0
-framesOf (At slot) = 0
-framesOf (Link link) = 0
-framesOf Opened = 0
-framesOf (Due link slot) = 0
-framesOf (Frames link n) = n
-framesOf (Job link len) = 0
-framesOf (Attention set n lowest) = 0
-framesOf (Number n) = 0
-framesOf (Event min max latency timeout) = 0
-framesOf (Portion link taken full) = 0
 
 -- "A refusal by 14 or 10 counts as blocked": 1, however many frames were to go out.
 abbrev pub blockedBy : ℕ → Answer → ℕ
@@ -54,36 +40,13 @@ hasCredit x = ltb 0 (x .account .credits)
 abbrev pub usesCredit : (link : ℕ) → Answer → Slot → Bool
 usesCredit link a x = isConnected (x .state) && (eqb (x .link) link && (hasCredit x && not (comesFirst a)))
 
--- (of slot i: is the call on it?)
+-- A send or a start, if it is on the slot: "A send adds n when its credits are taken or set aside", the frames that its answer 0 tells (Words.antt).
 abbrev pub ofSend : Bool → Answer → Tallies
 ofSend its a = choose its (record { sends = record { frames = framesOf a; blocked = blockedBy 14 a }; receives = noTally }) noTallies
 
+-- a frame, if it is to the slot's CID
 abbrev pub ofFrame : Bool → (link : ℕ) → Answer → Slot → Tallies
 ofFrame its link a x = choose its (record { sends = noTally; receives = record { frames = bit (usesCredit link a x); blocked = blockedBy 10 a } }) noTallies
-
-abbrev pub asksFor : (i : ℕ) → Request → Answer → Tallies
-asksFor i (register spsm) a = noTallies
-asksFor i (signals link listening central pdu) a = noTallies
-asksFor i (pends link up) a = noTallies
-asksFor i (rejectsAll link) a = noTallies
-asksFor i (accepts s c) a = noTallies
-asksFor i (rejects s result) a = noTallies
-asksFor i (drops s) a = noTallies
-asksFor i (creates link spsm c) a = noTallies
-asksFor i (opens s link up) a = noTallies
-asksFor i (gives s) a = noTallies
-asksFor i (holds s) a = noTallies
-asksFor i (releases s) a = noTallies
-asksFor i (leaves s) a = noTallies
-asksFor i (leavesCid cid) a = noTallies
-asksFor i announces a = noTallies
-asksFor i (takes s) a = noTallies
-asksFor i (starts s l) a = ofSend (eqb i s) a
-asksFor i (cancels s) a = noTallies
-asksFor i attends a = noTallies
-asksFor i (asks of s) a = noTallies
-asksFor i (sendsSignal link s) a = noTallies
-asksFor i (writes octets) a = noTallies
 
 -- A send, a start and a frame add; a portion, a cancel and every other call add nothing.
 abbrev pub adds : Table → (i : ℕ) → Call → Answer → Tallies
@@ -91,7 +54,7 @@ adds t i (frame link cid payload) a = ofFrame (eqb cid (cidOf i)) link a (slotAt
 adds t i (sends s sdu out) a = ofSend (eqb i s) a
 adds t i (portions s octets out) a = noTallies
 adds t i (down link) a = noTallies
-adds t i (plain r out tray) a = asksFor i r a
+adds t i (plain r out tray) a = ofSend (startsOn i r) a
 
 -- ---- what resets them, told from the slot's state before and after
 

@@ -1,6 +1,7 @@
 -- THE THEOREMS of the tallies. What they say is on the page Statement.antt; they rest on the calls one by one (Quiet.antt, Counting.antt), on the rules of runs (crate rules) and on which slots
 -- a call changes (crate rules_slots).
 use mathlib.Core.Path.{_≡_, refl, sym, ap, _∙_, subst}
+use mathlib.Core.Bool.{false}
 use mathlib.Core.List.{List, [], _∷_}
 use Prim.Native.Nat.{ℕ, zero, suc, _+_, _%_, _^_, _<_}
 use native.Mathlib.Nat.{mod-add-mod, mod-eq-of-lt, add-zero, zero-add}
@@ -25,7 +26,7 @@ use Rattle.rules.specs.Good.{within, reached-good, same-sizes}
 use Rattle.rules.specs.Rules.{tallies-below}
 use Rattle.rules_slots.specs.Change.{MayChange}
 use Rattle.rules_slots.specs.Changes.{change-law}
-use Rattle.rules_tallies.specs.Statement.{adds, plus, plusAll, Tallied, Tells, OneCall, both, added, Unreset, Totals, EveryRun, Since, making, reset}
+use Rattle.rules_tallies.specs.Statement.{ofSend, adds, plus, plusAll, Tallied, Tells, OneCall, both, added, Unreset, Totals, EveryRun, Since, making, reset}
 use Rattle.rules_tallies.specs.Kept.{Kept, basis, does-kept}
 use Rattle.rules_tallies.specs.Quiet.{pends-quiet, rejectsAll-quiet, accepts-quiet, rejects-quiet, drops-quiet, creates-quiet, opens-quiet, gives-quiet, holds-quiet, releases-quiet, leaves-quiet, leavesCid-quiet, down-quiet, announces-quiet, signals-quiet, takes-quiet, portions-quiet, cancels-quiet, register-quiet, attends-quiet, asks-quiet, sendsSignal-quiet}
 use Rattle.rules_tallies.specs.Counting.{send-sends, start-sends, frame-comes}
@@ -35,30 +36,34 @@ use Rattle.rules_tallies.specs.Counting.{send-sends, start-sends, frame-
 quiet : {t : Table} {o : Outcome} → Does Kept t o → (i : ℕ) → i < t .n → Tallied (slotAt t i) (slotAt (o .table) i) noTallies
 quiet d i h = does-kept d i h .is
 
+-- a request that starts no job
+asked : {t : Table} {o : Outcome} → Does Kept t o → (i : ℕ) → i < t .n → Tallied (slotAt t i) (slotAt (o .table) i) (ofSend false (o .answer))
+asked {t} {o} d i h = subst (λ (a : Tallies). Tallied (slotAt t i) (slotAt (o .table) i) a) (sym (choose-false false _ noTallies refl)) (quiet d i h)
+
 serve-tells : (t : Table) → Fit t → (r : Request) (v w : Window) (room out job : ℕ) → Tells t (plain r v w) (serve t r room out job)
 unfolding serve
-serve-tells t fit (register spsm) v w room out job = quiet (register-quiet t fit spsm)
-serve-tells t fit (signals link listening central pdu) v w room out job = quiet (signals-quiet t fit room out link listening central pdu)
-serve-tells t fit (pends link up) v w room out job = quiet (pends-quiet t fit link up)
-serve-tells t fit (rejectsAll link) v w room out job = quiet (rejectsAll-quiet t fit room out link)
-serve-tells t fit (accepts s c) v w room out job = quiet (accepts-quiet t fit out s c)
-serve-tells t fit (rejects s result) v w room out job = quiet (rejects-quiet t fit room out s result)
-serve-tells t fit (drops s) v w room out job = quiet (drops-quiet t fit room s)
-serve-tells t fit (creates link spsm c) v w room out job = quiet (creates-quiet t fit out link spsm c)
-serve-tells t fit (opens s link up) v w room out job = quiet (opens-quiet t fit room s link up)
-serve-tells t fit (gives s) v w room out job = quiet (gives-quiet t fit room s)
-serve-tells t fit (holds s) v w room out job = quiet (holds-quiet t fit s)
-serve-tells t fit (releases s) v w room out job = quiet (releases-quiet t fit room s)
-serve-tells t fit (leaves s) v w room out job = quiet (leaves-quiet t fit room s)
-serve-tells t fit (leavesCid cid) v w room out job = quiet (leavesCid-quiet t fit room cid)
-serve-tells t fit announces v w room out job = quiet (announces-quiet t fit room out)
-serve-tells t fit (takes s) v w room out job = quiet (takes-quiet t fit room out s job)
+serve-tells t fit (register spsm) v w room out job = asked (register-quiet t fit spsm)
+serve-tells t fit (signals link listening central pdu) v w room out job = asked (signals-quiet t fit room out link listening central pdu)
+serve-tells t fit (pends link up) v w room out job = asked (pends-quiet t fit link up)
+serve-tells t fit (rejectsAll link) v w room out job = asked (rejectsAll-quiet t fit room out link)
+serve-tells t fit (accepts s c) v w room out job = asked (accepts-quiet t fit out s c)
+serve-tells t fit (rejects s result) v w room out job = asked (rejects-quiet t fit room out s result)
+serve-tells t fit (drops s) v w room out job = asked (drops-quiet t fit room s)
+serve-tells t fit (creates link spsm c) v w room out job = asked (creates-quiet t fit out link spsm c)
+serve-tells t fit (opens s link up) v w room out job = asked (opens-quiet t fit room s link up)
+serve-tells t fit (gives s) v w room out job = asked (gives-quiet t fit room s)
+serve-tells t fit (holds s) v w room out job = asked (holds-quiet t fit s)
+serve-tells t fit (releases s) v w room out job = asked (releases-quiet t fit room s)
+serve-tells t fit (leaves s) v w room out job = asked (leaves-quiet t fit room s)
+serve-tells t fit (leavesCid cid) v w room out job = asked (leavesCid-quiet t fit room cid)
+serve-tells t fit announces v w room out job = asked (announces-quiet t fit room out)
+serve-tells t fit (takes s) v w room out job = asked (takes-quiet t fit room out s job)
 serve-tells t fit (starts s l) v w room out job = start-sends t fit s l out
-serve-tells t fit (cancels s) v w room out job = quiet (cancels-quiet t fit room s)
-serve-tells t fit attends v w room out job = quiet (attends-quiet t fit)
-serve-tells t fit (asks of s) v w room out job = quiet (asks-quiet t fit of s)
-serve-tells t fit (sendsSignal link s) v w room out job = quiet (sendsSignal-quiet t fit out link s)
-serve-tells t fit (writes octets) v w room out job = quiet (still-does (basis fit) {a = Done} {out = given octets ∷ []} itself)
+serve-tells t fit (cancels s) v w room out job = asked (cancels-quiet t fit room s)
+serve-tells t fit attends v w room out job = asked (attends-quiet t fit)
+serve-tells t fit (asks of s) v w room out job = asked (asks-quiet t fit of s)
+serve-tells t fit (sendsSignal link s) v w room out job = asked (sendsSignal-quiet t fit out link s)
+serve-tells t fit (writes octets) v w room out job = asked (still-does (basis fit) {a = Done} {out = given octets ∷ []} itself)
 
 pub one-call : OneCall
 unfolding decide bare

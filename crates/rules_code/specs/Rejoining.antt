@@ -79,7 +79,7 @@ code-sends {s} j sdu w link n p e =
 -- ---- the frames, as they come to the code
 
 -- From state s to state s′ the code is called with these payloads, in this order, as frames for slot i on its link; and with other calls, that
--- leave the slot unchanged.
+-- leave the slot unchanged, but for its tallies.
 pub data CodeArrives (i link : ℕ) : List (List ℕ) → State → State → Type 0 where
   all : {s : State} → CodeArrives i link [] s s
   between : {ps : List (List ℕ)} {s u s′ : State} {c : Call} {r : Served} → Called s c r u → Fits c → Unchanged s u i → CodeArrives i link ps u s′ → CodeArrives i link ps s s′

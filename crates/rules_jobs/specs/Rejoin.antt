@@ -26,7 +26,7 @@ use Rattle.channel.specs.declared.Slot.{Slot}
 use Rattle.channel.specs.declared.Table.{Table}
 use Rattle.channel.specs.declared.Verdict.the-variants.{Pass}
 use Rattle.definition.specs.Mem.{Move, put, job, fill, move, moves, parts}
-use Rattle.definition.specs.Table.{placeOf, width, roomSize, gap, slotAt, isConnected, withAccount, withAssembly, withQueue, withTallies, noTallies, countReceived, cidOf, isCid, slotOf, wellFormed}
+use Rattle.definition.specs.Table.{placeOf, width, roomSize, gap, slotAt, isConnected, withAccount, withAssembly, withQueue, countReceived, cidOf, isCid, slotOf, wellFormed}
 use Rattle.definition.specs.Outcome.{Outcome, change, only, verdict}
 use Rattle.definition.specs.Calls.{Call, jobs, bare, decide, joining}
 use Rattle.definition.specs.Calls as Calls
@@ -37,6 +37,7 @@ use Rattle.rules.specs.Run.{Fits, Reached, next}
 use Rattle.rules.specs.Sound.{Sound}
 use Rattle.rules.specs.Join.{Reaches, reaches-first, reaches-next, joined-part, joined-whole}
 use Rattle.rules.specs.Good.{Good, sizes-read, within, slot-sound, good-formed, same-sizes, reached-good}
+use Rattle.rules_portions.specs.Statement.{uncounted}
 use Rattle.rules_jobs.specs.Waiting.{jobOf, Waits, finish-alone, finish-joined, grown-there, grown-jobs}
 
 -- ---- a slot's part of the room, and the jobs that wait in it
@@ -327,9 +328,6 @@ pub data Rest : List ℕ → List (List ℕ) → Type 0 where
   more : (p : List ℕ) {rest : List ℕ} {ps : List (List ℕ)} → 0 < length rest → Rest rest ps → Rest (p ++ rest) (p ∷ ps)
 
 -- A call between two frames that leaves that slot, and its part of the room, unchanged; but for what is counted of it, as by a send that is refused by 14 between them.
-abbrev pub uncounted : Slot → Slot
-uncounted x = withTallies noTallies x
-
 pub record Unchanged (s s′ : State) (i : ℕ) : Type 0 where
   pub slot : uncounted (slotAt (s′ .table) i) ≡ uncounted (slotAt (s .table) i)
   pub room : partOf s′ i ≡ partOf s i

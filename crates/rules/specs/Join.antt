@@ -28,7 +28,7 @@ use Rattle.definition.specs.Outcome.{Outcome, change}
 use Rattle.definition.specs.Frames.{queued, finishing, frames, joined, unsent, planned}
 use Rattle.definition.specs.Portions.{startPlanned}
 use Rattle.rules.specs.Tests.{begun, begun-live, connected-begun}
-use Rattle.rules.specs.Step.{same, use-one, keep, leave, grow, finish, stay, shut, pay, begin, go, passes, Stepped}
+use Rattle.rules.specs.Step.{same, use-one, keep, leave, grow, finish, stay, shut, pay, begin, reset, sent, arrived, blocked-send, go, passes, Stepped}
 use Rattle.rules.specs.Forms.{goes-on, ended, stepped-still, stepped-change, stepped-filling}
 
 -- How a frame comes to a slot: with no length octets where an assembly is open, with both of them otherwise. k is the number of its job octets.
@@ -99,22 +99,22 @@ module _ (t : Table) (k s : ℕ) (h : s < t .n) (l : t .n ≤ length (t .slots))
   pub stepped-joined : (slotAt t s .account .credits ≡ 0 → ⊥) → (j : Joined) → Joins (slotAt t s .mtu) (t .d) (slotAt t s .assembly) (slotAt t s .queue .count) k j
       → Stepped t k (joined t s (countReceived (withAccount (received (slotAt t s .account) 1) (slotAt t s))) k j)
   unfolding joined
-  stepped-joined some (Joined.Refused r) f = stepped-change t k s _ _ h l (go (goes-on was-live refl refl ended) (use-one some) leave shut) _ _ f
+  stepped-joined some (Joined.Refused r) f = stepped-change t k s _ _ h l (go (goes-on was-live refl refl ended (reset _)) (use-one some) leave shut) _ _ f
   stepped-joined some (Joined.Assembling a) f =
-      rw (f .3) (stepped-change t k s _ _ h l (go (goes-on was-live has-begun refl (λ f. f)) (use-one some) (grow has-begun (f .0) (f .1) (f .2)) stay) _ _ refl)
+      rw (f .3) (stepped-change t k s _ _ h l (go (goes-on was-live has-begun refl (λ f. f) (arrived on)) (use-one some) (grow has-begun (f .0) (f .1) (f .2)) stay) _ _ refl)
   stepped-joined some (Joined.Finished len) f =
-      stepped-change t k s _ _ h l (go (goes-on was-live has-begun refl (λ f. f)) (use-one some) (finish has-begun (f .0) (f .1) (f .2)) stay) _ _ refl
-  stepped-joined some Joined.Dropped f = stepped-change t k s _ _ h l (go (goes-on was-live has-begun refl (λ f. f)) (use-one some) leave stay) _ _ refl
+      stepped-change t k s _ _ h l (go (goes-on was-live has-begun refl (λ f. f) (arrived on)) (use-one some) (finish has-begun (f .0) (f .1) (f .2)) stay) _ _ refl
+  stepped-joined some Joined.Dropped f = stepped-change t k s _ _ h l (go (goes-on was-live has-begun refl (λ f. f) (arrived on)) (use-one some) leave stay) _ _ refl
 
   -- what a plan refuses: 14 is counted
   stepped-unsent : (r : Refusal) → passes (Refused r) ≡ true → Stepped t k (unsent t s (slotAt t s) r)
   stepped-unsent r f =
-      if-cases (Stepped t k) (blocks r) (λ _. stepped-change t k s _ _ h l (go (goes-on was-live has-begun refl (λ f. f)) same keep stay) _ _ f) (λ _. stepped-still t k _ _ f)
+      if-cases (Stepped t k) (blocks r) (λ _. stepped-change t k s _ _ h l (go (goes-on was-live has-begun refl (λ f. f) (blocked-send on)) same keep stay) _ _ f) (λ _. stepped-still t k _ _ f)
 
   pub stepped-planned : (size : ℕ) (p : Plan) → Plans p → Stepped t k (planned t s (slotAt t s) size p)
   unfolding planned
   stepped-planned size (Plan.Refused r) f = stepped-unsent r f
-  stepped-planned size (Plan.Frames n octets) f = stepped-change t k s _ _ h l (go (goes-on was-live has-begun refl (λ f. f)) same keep (pay n)) _ _ refl
+  stepped-planned size (Plan.Frames n octets) f = stepped-change t k s _ _ h l (go (goes-on was-live has-begun refl (λ f. f) (sent n on)) same keep (pay n)) _ _ refl
 
   -- a start sets aside what the plan counts
   pub stepped-started : (size room : ℕ) (p : Plan) → Plans p
@@ -128,7 +128,7 @@ module _ (t : Table) (k s : ℕ) (h : s < t .n) (l : t .n ≤ length (t .slots))
       let w = a .wide in
       let p = a .paid in
       if-cases (Stepped t k) _ (λ _. stepped-still t k _ _ refl)
-      (λ _. stepped-filling t k s _ [] h l (go (goes-on was-live has-begun refl (λ f. f)) same keep (begin size n on (omega arith) q (omega arith))) _ _ _ _ refl refl)
+      (λ _. stepped-filling t k s _ [] h l (go (goes-on was-live has-begun refl (λ f. f) (sent n on)) same keep (begin size n on (omega arith) q (omega arith))) _ _ _ _ refl refl)
 
 -- ---- what a frame that fits comes to
 

@@ -17,7 +17,7 @@ use Rattle.channel.specs.declared.Given.the-variants.{Nothing, Is}
 use Rattle.channel.specs.declared.Slot.{Slot}
 use Rattle.channel.specs.declared.Table.{Table}
 use Rattle.channel.specs.declared.Verdict.the-variants.{Pass}
-use Rattle.definition.specs.Slots.{withPeerCredits, withJob, noJob, countSent, left}
+use Rattle.definition.specs.Slots.{withPeerCredits, withJob, withTallies, noJob, noTallies, countSent, left}
 use Rattle.definition.specs.Table.{slotAt, isConnected, isOpen}
 use Rattle.definition.specs.Outcome.{verdict}
 use Rattle.definition.specs.Portions.{bufferSize, begun}
@@ -69,10 +69,14 @@ pub data Delivery (i : ℕ) (sdu : List ℕ) : (s : State) (b : List ℕ) (s′ 
       → Delivery i sdu (after u (portionOf u i sdu w c)) (bufferLeft u i sdu w c) s′ b′ fs
       → Delivery i sdu s b s′ b′ (choose full (take (outcome u (portionOf u i sdu w c) .octets) (bufferLeft u i sdu w c) ∷ []) [] ++ fs)
 
--- No other call changed the slot between.
+-- A slot, but for what is counted of it.
+abbrev pub uncounted : Slot → Slot
+uncounted x = withTallies noTallies x
+
+-- No other call changed the slot between, but for its tallies: a frame that is refused by 10 may come. (What the calls of a job add to the tallies: crate rules_tallies.)
 unfoldable pub Alone : {i : ℕ} {sdu : List ℕ} {s s′ : State} {b b′ : List ℕ} {fs : List (List ℕ)} → Delivery i sdu s b s′ b′ fs → Type 0
 Alone rest = Unit {0}
-Alone {i} {sdu} {s} (portion {u = u} w c link taken full h a d) = (slotIn u i ≡ slotIn s i) × Alone d
+Alone {i} {sdu} {s} (portion {u = u} w c link taken full h a d) = (uncounted (slotIn u i) ≡ uncounted (slotIn s i)) × Alone d
 
 -- how many portions there were, and how many of an octet or more
 unfoldable pub calls : {i : ℕ} {sdu : List ℕ} {s s′ : State} {b b′ : List ℕ} {fs : List (List ℕ)} → Delivery i sdu s b s′ b′ fs → ℕ
@@ -129,25 +133,24 @@ module _ (s : State) (i : ℕ) (sdu : List ℕ) (n : ℕ) {s₁ s′ : State} {b
         → joined fs ≡ take (outcome s (sends i sdu v) .octets) (lent v (after s (sends i sdu v) .memory))
     -- and with no other call on it the slot is then as that send leaves it (no job was open before: all its numbers were 0)
     pub slot : isOpen (jobIn s′ i) ≡ false → Alone d → jobIn s i ≡ noJob → (v : Window) (link : ℕ) → outcome s (sends i sdu v) .answer ≡ Frames link n
-        → slotIn s′ i ≡ slotIn (after s (sends i sdu v)) i
+        → uncounted (slotIn s′ i) ≡ uncounted (slotIn (after s (sends i sdu v)) i)
 
   -- ITS OWN OCTETS: frame k is a header and the k-th stretch of the job's length and octets. So whatever the buffer and the memory had before, no octet of another
   -- job or link is in it. This needs the caller's part; demand 3 on memory (crate isolation) doesn't, as an octet that a call doesn't write keeps its mark.
   abbrev pub OwnOctets : Type 0
   OwnOctets = (k : ℕ) → k < length fs → getD fs k [] ≡ frame (slotIn s i .peer .cid) (part (le16 (length sdu) ++ sdu) (k * slotIn s i .peer .mps) (slotIn s i .peer .mps))
 
-  -- CREDITS. With no other call on the slot, portions change its job alone, and count no frame again: what is left of the peer's credits, what is set aside and the frames given out are
+  -- CREDITS. With no other call on the slot, portions change its job alone: what is left of the peer's credits, what is set aside and the frames given out are
   -- together the credits before the start.
   pub record Credits : Type 0 where
-    pub slot : Alone d → slotIn s′ i ≡ withJob (jobIn s′ i) (countSent n (withPeerCredits (slotIn s i .peer .credits - n) (slotIn s i)))
+    pub slot : Alone d → uncounted (slotIn s′ i) ≡ uncounted (withJob (jobIn s′ i) (withPeerCredits (slotIn s i .peer .credits - n) (slotIn s i)))
     pub sum : Alone d → slotIn s′ i .peer .credits + jobIn s′ i .aside + length fs ≡ slotIn s i .peer .credits
 
   -- A CANCEL that is answered 0, in u, where the job is as d left it
   pub record Cancelled (u : State) : Type 0 where
-    -- before the first frame: exactly n credits come back, and with no other call on the slot it is the slot before the start, but that the n frames stay counted:
-    -- a cancel takes nothing back
+    -- before the first frame: exactly n credits come back, and nothing that was counted is taken back; with no other call on the slot it is, but for its tallies, the slot before the start
     pub before : fs ≡ [] → slotIn (after u (cancelling i)) i ≡ withJob noJob (withPeerCredits (slotIn u i .peer .credits + n) (slotIn u i))
-    pub undone : fs ≡ [] → Alone d → slotIn u i ≡ slotIn s′ i → jobIn s i ≡ noJob → slotIn (after u (cancelling i)) i ≡ countSent n (slotIn s i)
+    pub undone : fs ≡ [] → Alone d → uncounted (slotIn u i) ≡ uncounted (slotIn s′ i) → jobIn s i ≡ noJob → uncounted (slotIn (after u (cancelling i)) i) ≡ uncounted (slotIn s i)
     -- later: it leaves Connected, and none comes back
     pub later : 0 < length fs → slotIn (after u (cancelling i)) i ≡ left (Disconnecting false) (slotIn u i)
 

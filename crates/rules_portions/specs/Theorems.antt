@@ -27,7 +27,7 @@ use Rattle.definition.specs.Frames.{firstHeader, frames}
 use Rattle.definition.specs.Portions.{givenOut, longest, bufferSize, begun, taking, fullWith, returned}
 use Rattle.definition.specs.Calls.{Window, sends, jobs, bare, serve, decide}
 use Rattle.definition.specs.Run.{State, lent, outcome, after}
-use Rattle.rules_portions.specs.Statement.{slotIn, jobIn, starting, cancelling, portionOf, HandedOn, Delivery, rest, portion, Alone, calls, somes, Admits, Goes, AsSend, framesFrom, SameFrames, OwnOctets, Credits, Cancelled, Ends}
+use Rattle.rules_portions.specs.Statement.{slotIn, jobIn, starting, cancelling, portionOf, HandedOn, uncounted, Delivery, rest, portion, Alone, calls, somes, Admits, Goes, AsSend, framesFrom, SameFrames, OwnOctets, Credits, Cancelled, Ends}
 use Rattle.rules_portions.specs.Filling.{Filling, Standing, filling, closed, begun-filling, out-whole, taken-less, takes-some, taken-then, empty-full, empty-one}
 use Rattle.rules_portions.specs.Answered.{Leaves, filling-leaves, slot-there, portion-takes, portion-is, Starts, start-starts, start-is, send-sends, send-is, Cancels, cancel-cancels}
 use Rattle.rules_portions.specs.Delivered.{Ready, handed, slot-after, is-filling, given-out, next, Delivered, delivered}
@@ -54,11 +54,12 @@ frames-at cid mps sdu j (suc c) (suc k) h = frames-at cid mps sdu (suc j) c k (o
 
 -- ---- the slot, with no other call on it
 
-alone : (i : ℕ) (sdu : List ℕ) {s s′ : State} {b b′ : List ℕ} {fs : List (List ℕ)} (d : Delivery i sdu s b s′ b′ fs) → Alone d → slotIn s′ i ≡ withJob (jobIn s′ i) (slotIn s i)
+alone : (i : ℕ) (sdu : List ℕ) {s s′ : State} {b b′ : List ℕ} {fs : List (List ℕ)} (d : Delivery i sdu s b s′ b′ fs) → Alone d
+    → uncounted (slotIn s′ i) ≡ uncounted (withJob (jobIn s′ i) (slotIn s i))
 unfolding Alone
 alone i sdu rest al = refl
-alone i sdu {s′ = s′} (portion {u = u} w c link taken full h a d) (e, al) =
-    alone i sdu d al ∙ ap (withJob (jobIn s′ i)) (slot-after i sdu u w c link taken full a) ∙ ap (withJob (jobIn s′ i)) e
+alone i sdu {s} {s′} (portion {u = u} w c link taken full h a d) al =
+    alone i sdu d (al .1) ∙ ap (λ (y : Slot). uncounted (withJob (jobIn s′ i) y)) (slot-after i sdu u w c link taken full a) ∙ ap (withJob (jobIn s′ i)) (al .0)
 
 later : (k m : ℕ) → 0 < k → 2 ≤ m → k * m ≡ 0 → ⊥
 later zero m h w e = not-suc-le-zero h
@@ -257,8 +258,8 @@ module _ (s : State) (i : ℕ) (sdu : List ℕ) (w : Window) (link n : ℕ) wher
           go (filling f) = f .paid ∙ sym count
           go (closed e c) = ap (λ (j : OpenJob). j .aside + length fs) e ∙ zero-add (length fs) ∙ c ∙ sym count
 
-      slot-alone : Alone d → slotIn s′ i ≡ withJob (jobIn s′ i) (countSent n (withPeerCredits (x .peer .credits - n) x))
-      slot-alone al = alone i sdu d al ∙ ap (withJob (jobIn s′ i)) started
+      slot-alone : Alone d → uncounted (slotIn s′ i) ≡ uncounted (withJob (jobIn s′ i) (withPeerCredits (x .peer .credits - n) x))
+      slot-alone al = alone i sdu d al ∙ ap (λ (y : Slot). uncounted (withJob (jobIn s′ i) y)) started
 
       whole : isOpen (jobIn s′ i) ≡ false → joined fs ≡ framesOf (x .peer .cid) (x .peer .mps) sdu
       whole o =
@@ -275,7 +276,7 @@ module _ (s : State) (i : ℕ) (sdu : List ℕ) (w : Window) (link n : ℕ) wher
             octets = λ o v k e. whole o ∙ sym (sent-octets s i sdu v k n e);
             slot = λ o al none v k e.
                 let (shut, _) = shut-standing o in
-                slot-alone al ∙ ap (λ (j : OpenJob). withJob j (countSent n (withPeerCredits (x .peer .credits - n) x))) (shut ∙ sym none) ∙ sym (sent-slot s i sdu v k n e);
+                slot-alone al ∙ ap (λ (j : OpenJob). uncounted (withJob j (withPeerCredits (x .peer .credits - n) x))) (shut ∙ sym none) ∙ ap (λ (y : Slot). uncounted y) (sym (sent-slot s i sdu v k n e));
           }
 
       -- ITS OWN OCTETS
@@ -322,13 +323,13 @@ module _ (s : State) (i : ℕ) (sdu : List ℕ) (w : Window) (link n : ℕ) wher
             ∙ getD-set-same (u .table .slots) i (returned (slotIn u i)) gap there
             ∙ ap (λ (k : ℕ). withJob noJob (withPeerCredits (slotIn u i .peer .credits + k) (slotIn u i))) a
 
-        cancel-undone : fs ≡ [] → Alone d → slotIn u i ≡ slotIn s′ i → x .job ≡ noJob → slotIn (after u (cancelling i)) i ≡ countSent n x
+        cancel-undone : fs ≡ [] → Alone d → uncounted (slotIn u i) ≡ uncounted (slotIn s′ i) → x .job ≡ noJob → uncounted (slotIn (after u (cancelling i)) i) ≡ uncounted x
         cancel-undone e al same none =
             let p = paid in
             let back : x .peer .credits - n + n ≡ x .peer .credits = omega arith in
-            cancel-before e
+            ap (λ (y : Slot). uncounted y) (cancel-before e)
             ∙ ap (λ (y : Slot). withJob noJob (withPeerCredits (y .peer .credits + n) y)) (same ∙ slot-alone al)
-            ∙ ap₂ (λ (j : OpenJob) (k : ℕ). withJob j (withPeerCredits k (countSent n x))) (sym none) back
+            ∙ ap₂ (λ (j : OpenJob) (k : ℕ). uncounted (withJob j (withPeerCredits k x))) (sym none) back
 
         cancel-later : 0 < length fs → slotIn (after u (cancelling i)) i ≡ left (Disconnecting false) (slotIn u i)
         unfolding after

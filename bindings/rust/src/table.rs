@@ -5,7 +5,7 @@ use crate::codes::{ChannelIndex, ConnHandle, LeCreditConnResultCode, SLOTS};
 use crate::slots::Slots;
 
 /// The octets of a table, for every number of slots.
-pub const TABLE_OCTETS: usize = 800;
+pub const TABLE_OCTETS: usize = 1_312;
 
 const HEAD: usize = 48;
 const STATE: usize = 0;

@@ -21,5 +21,5 @@ pub use page::Page;
 pub use plan::{plan, sent, Line, Part};
 pub use program::Program;
 pub use refusals::{Refusal, REFUSALS};
-pub use screen::{screen, with_screen};
+pub use screen::{screen, unread, with_screen};
 pub use telling::{tell, Trouble};

@@ -3,7 +3,7 @@
 use std::ffi::OsString;
 use std::io::{Read, Write};
 use std::process::ExitCode;
-use tell::{screen, sent, tell, with_screen, Page, Program, Trouble};
+use tell::{screen, sent, tell, unread, with_screen, Page, Program, Trouble};
 
 const USAGE: &str = "usage: tell [--screen] FILE PROGRAM [WORDS..]
   FILE     a script (docs/CHANRUN.md), or - for standard input
@@ -67,6 +67,13 @@ fn run(file: &OsString, program: &OsString, words: &[OsString], as_screen: bool)
         Ok::<bool, Trouble>(all_read)
     };
     match run() {
+        // What is told names such a line where it stands; a screen has to be told beside it.
+        Ok(false) if as_screen => {
+            for (number, wrong) in unread(&script) {
+                failed(&format!("line {number}: {wrong}"));
+            }
+            ExitCode::from(1)
+        }
         Ok(all_read) => ExitCode::from(u8::from(!all_read)),
         Err(trouble) => failed(&trouble),
     }

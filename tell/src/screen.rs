@@ -3,7 +3,7 @@
 use crate::plan::{plan, Line};
 use crate::telling::{Rows, Trouble};
 use crate::words::count;
-use language::{can_be_made, Call, SlotView, State, View, BASE_ID};
+use language::{can_be_made, Call, SlotView, State, View, Wrong, BASE_ID};
 use std::io::{self, Write};
 
 /// The script that is given to the program: its lines as they are, and behind them those that look.
@@ -25,6 +25,14 @@ fn calls(script: &str) -> impl Iterator<Item = Call> + '_ {
     plan(script).filter_map(|line| match line {
         Line::Passed(_) => None,
         Line::Played { line, .. } => Some(Call::parse(line)),
+    })
+}
+
+/// The lines of a script that cannot be read, and why: a screen has no place for them.
+pub fn unread(script: &str) -> impl Iterator<Item = (usize, Wrong)> + '_ {
+    plan(script).filter_map(|line| match line {
+        Line::Played { number, asked: Err(wrong), .. } => Some((number, wrong)),
+        _ => None,
     })
 }
 

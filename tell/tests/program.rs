@@ -53,8 +53,10 @@ fn a_screen_is_shown_at_the_scripts_end() {
     let echo = r#"printf 'answer octets\n'; while read -r line; do case $line in V) echo "0 - 0 0 0 1";; *) echo "1 -";; esac; done"#;
     let output = run(&["--screen", "-", "sh", "-c", echo], "# a scene\nQ\nT 0 1 64\n");
     assert_eq!((output.status.code(), &output.stdout[..]), (Some(0), &b"There is no table, and no slot.\n"[..]));
-    let unread = r"printf 'answer octets\n? -\n0 - 0 0 0 1\n'";
-    assert_eq!(ended(&["--screen", "-", "sh", "-c", &program(unread)], "z\n"), (Some(1), String::new()));
+    // Lines that cannot be read are named beside it.
+    let unread = r"printf 'answer octets\n? -\n1 -\n? -\n0 - 0 0 0 1\n'";
+    let said = "tell: line 1: `z` is no call\ntell: line 4: the word `slot` is missing: a number of 1 to 5 digits, at most 65535\n";
+    assert_eq!(ended(&["--screen", "-", "sh", "-c", &program(unread)], "z\nQ\n#\nt\n"), (Some(1), said.to_string()));
     let why = (Some(2), "tell: the program's rows end where a row of the script must stand\n".to_string());
     assert_eq!(ended(&["--screen", "-", "sh", "-c", &program(r"printf 'answer octets\n'")], "Q\n"), why);
 }

@@ -182,20 +182,23 @@ fn the_peer_ends_a_channel_and_its_tallies_stand() {
 }
 
 #[test]
-fn each_wraps_by_itself() {
-    let most = Tallies { sent: u64::MAX, received: u64::MAX, blocked_sends: u64::MAX, blocked_receives: u64::MAX };
-    let (mut room, mut out) = ([0; ROOM], [0; 128]);
-    let mut channels = made(&mut room);
-    open(&mut channels, PHONE, &request(0x50, 100, 23, 3), &L2capChannelConfig { initial_credits: Some(1), ..Default::default() });
-    open(&mut channels, OTHER, &request(0x50, 100, 23, 3), &L2capChannelConfig::default());
-    let mut channels = with_tallies(with_tallies(channels, SLOT, most), SECOND, most);
-    channels.dispatch(PHONE, SLOT.cid(), &[0, 0]).unwrap();
-    assert_eq!(tallies(&channels, SLOT), Tallies { received: 0, ..most });
-    blocked(&mut channels, SLOT, Refusal::OutOfMemory, |channels| channels.dispatch(PHONE, SLOT.cid(), &[0, 0]));
-    blocked(&mut channels, SLOT, Refusal::Busy, |channels| channels.send(SLOT, &[0; 100], &mut out).map(|_| ()));
-    assert_eq!(tallies(&channels, SLOT), Tallies { sent: u64::MAX, ..NONE });
-    channels.send(SLOT, &[0; 60], &mut out).unwrap();
-    assert_eq!((tallies(&channels, SLOT), tallies(&channels, SECOND)), (Tallies { sent: 2, ..NONE }, most));
+fn each_wraps_by_itself_and_has_64_bits() {
+    for start in [u64::MAX, u64::from(u32::MAX), u64::from(u16::MAX)] {
+        let all = Tallies { sent: start, received: start, blocked_sends: start, blocked_receives: start };
+        let more = |more: u64| start.wrapping_add(more);
+        let (mut room, mut out) = ([0; ROOM], [0; 128]);
+        let mut channels = made(&mut room);
+        open(&mut channels, PHONE, &request(0x50, 100, 23, 3), &L2capChannelConfig { initial_credits: Some(1), ..Default::default() });
+        open(&mut channels, OTHER, &request(0x50, 100, 23, 3), &L2capChannelConfig::default());
+        let mut channels = with_tallies(with_tallies(channels, SLOT, all), SECOND, all);
+        channels.dispatch(PHONE, SLOT.cid(), &[0, 0]).unwrap();
+        assert_eq!(tallies(&channels, SLOT), Tallies { received: more(1), ..all });
+        blocked(&mut channels, SLOT, Refusal::OutOfMemory, |channels| channels.dispatch(PHONE, SLOT.cid(), &[0, 0]));
+        blocked(&mut channels, SLOT, Refusal::Busy, |channels| channels.send(SLOT, &[0; 100], &mut out).map(|_| ()));
+        channels.send(SLOT, &[0; 60], &mut out).unwrap();
+        let counted = Tallies { sent: more(3), received: more(1), blocked_sends: more(1), blocked_receives: more(1) };
+        assert_eq!((tallies(&channels, SLOT), tallies(&channels, SECOND)), (counted, all));
+    }
 }
 
 /// Any octets are tallies: they make no table bad, and are shown as they stand.

@@ -210,6 +210,7 @@ fn any_octets_are_tallies() {
         octets[cell(0, column)] = octet;
         octets[cell(15, column)] = !octet;
         let channels = ChannelManager::from_parts(Table::from_octets(octets), &mut room);
+        assert!(channels.attention().is_ok());
         let shown = tallies(&channels, SLOT);
         let [sent, blocked_sends, received, blocked_receives] = [SENT, BLOCKED_SENDS, RECEIVED, BLOCKED_RECEIVES]
             .map(|from| u64::from_le_bytes(core::array::from_fn(|k| octets[cell(0, from + k)])));

@@ -10,7 +10,7 @@ mod wrong;
 pub use call::{signals, Call, Config, Policy};
 pub use row::{hex, unhex, Answer, Reply, Row};
 pub use script::{is_played, lines, played};
-pub use view::{JobView, Sight, SlotView, Stale, State, View};
+pub use view::{JobView, Sight, SlotView, Stale, State, Tallies, View};
 pub use wrong::Wrong;
 
 /// The limits of document 01, and the room that `chanrun` lends at most.

@@ -45,6 +45,7 @@ pub struct Step {
 /// A `T` line and the calls on its table.
 #[derive(Clone, Debug, Default)]
 pub struct Script {
+    pub manner: Manner,
     pub steps: Vec<Step>,
 }
 
@@ -54,7 +55,7 @@ impl Script {
         assert!(can_be_made(n, d, m), "a script starts with a table that can be made");
         let make = Reply::from(Row::number(0));
         let first = Step::plain(Call::Make { n, d, m }, &make);
-        let mut judge = Judge { source, asked: None, script: Script { steps: vec![first] }, parted: false };
+        let mut judge = Judge { source, asked: None, script: Script { manner, steps: vec![first] }, parted: false };
         assert!(play::session(n, d, m, manner, &mut judge), "the original is built for this M");
         judge.script
     }
@@ -220,6 +221,13 @@ impl Before {
                 step.port[0] = Some(row.column(record.peer_mtu).column(record.peer_mps).to_string());
                 if step.port[0].as_ref() != step.original.first() {
                     step.kinds.push(Kind::NumbersLeft);
+                }
+            }
+            (Call::Tallies { .. }, _, Some(record)) => {
+                let row = record.settled().tallies.numbers().iter().fold(Row::number(0), Row::column);
+                step.port[0] = Some(row.to_string());
+                if step.port[0].as_ref() != step.original.first() {
+                    step.kinds.push(Kind::TalliesLeft);
                 }
             }
             (Call::Room { .. }, _, Some(record)) => {

@@ -169,7 +169,7 @@ fn slot_mut(call: &mut Call) -> Option<&mut u16> {
         Accept { slot, .. } | Reject { slot, .. } | DropPending { slot } | Opened { slot, .. } | GiveUp { slot } => Some(slot),
         AddHold { slot } | Release { slot } | Disconnect { slot } | Send { slot, .. } | Take { slot, .. } => Some(slot),
         Start { slot, .. } | Portion { slot, .. } | Cancel { slot } => Some(slot),
-        Queries { slot } | Room { slot } | OpenJob { slot } => Some(slot),
+        Queries { slot } | Tallies { slot } | Room { slot } | OpenJob { slot } => Some(slot),
         _ => None,
     }
 }

@@ -43,6 +43,8 @@ pub struct Manner {
     /// A planted fault: a slot that opens again keeps the open assembly of its last owner, as if the original's line that clears it were
     /// lost.
     pub lost_line: bool,
+    /// The number at which every tally of a channel stands when it opens, 0 but in tests: so they wrap.
+    pub counted: u64,
 }
 
 /// What whoever feeds a driver may look at before each call.

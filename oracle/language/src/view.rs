@@ -296,6 +296,11 @@ impl SlotView {
 }
 
 impl Tallies {
+    /// All four at one number.
+    pub fn all(number: u64) -> Self {
+        Self { sent: number, received: number, blocked_sends: number, blocked_receives: number }
+    }
+
     /// As `t` prints them.
     pub fn numbers(self) -> [u64; 4] {
         [self.sent, self.received, self.blocked_sends, self.blocked_receives]

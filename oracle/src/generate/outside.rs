@@ -132,6 +132,7 @@ impl Generator {
                 let job = view.slots[usize::from(slot)].jobs[0];
                 Some(Call::Take { slot, size: self.rng.pick(&[0, job / 2, job - 1, job - 1]) })
             }
+            Kind::TalliesLeft => Some(Call::Tallies { slot: self.one_of(view, SlotView::free)? }),
             Kind::NumbersLeft | Kind::JobsLeft | Kind::AssemblyLeft => {
                 let slot = self.one_of(view, SlotView::free)?;
                 Some(if self.rng.chance(50) { Call::Queries { slot } } else { Call::Room { slot } })

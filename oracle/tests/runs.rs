@@ -275,9 +275,8 @@ fn the_lost_line_is_found_and_made_small() {
     assert!(script.steps.len() < 16, "{}", script.text());
     assert_ne!(difference.expected, difference.got);
     // The small script still shows it, and shows nothing without the fault.
-    let calls = script.calls();
-    assert!(shrink(&mut Faulty(Fault::LostLine), &calls).is_some());
-    assert!(shrink(&mut Faulty(Fault::None), &calls).is_none());
+    assert!(shrink(&mut Faulty(Fault::LostLine), script).is_some());
+    assert!(shrink(&mut Faulty(Fault::None), script).is_none());
 }
 
 #[test]

@@ -49,14 +49,18 @@ fn main() -> ExitCode {
     };
     quiet();
     match what.as_str() {
+        _ if words.extent.counted > 0 => {
+            eprintln!("a program's tallies can't be put anywhere: --counted is for the entries");
+            ExitCode::from(2)
+        }
         "run" if !words.command.is_empty() => compare(&mut Program::new(words.command, Duration::from_secs(words.limit)), &words.extent),
         "twin" if words.command.is_empty() => twin(&mut Faulty(Fault::None), &words.extent),
         "twin" => twin(&mut Program::new(words.command, Duration::from_secs(words.limit)), &words.extent),
         "self" => compare(&mut Faulty(Fault::None), &words.extent),
         "record" if words.command.len() == 1 => record_into(&words.command[0], &words.extent),
         "faults" => {
-            let faulty = Fault::ALL.into_iter().map(|fault| (fault.title(), Faulty(fault)));
-            faults(Faulty(Fault::None), faulty, &words.extent)
+            let faulty = Fault::ALL.into_iter().map(|fault| (fault.title(), Faulty(fault), words.extent));
+            faults([(Faulty(Fault::None), words.extent)], faulty)
         }
         "kinds" => kinds(),
         _ => {

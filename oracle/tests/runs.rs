@@ -12,6 +12,7 @@ use oracle::run::{run, script, Extent};
 use oracle::script::Script;
 use oracle::shrink::shrink;
 use oracle::twin::Twin;
+use oracle::without::without;
 use std::io::Write;
 use std::path::Path;
 use std::process::{Command, Stdio};
@@ -259,6 +260,16 @@ fn what_must_stand_is_what_the_view_and_the_places_show() {
     }
 }
 
+/// What was found without `channel-metrics` stands with it on: both builds are driven. A build without the feature that differs otherwise is told.
+#[test]
+fn the_feature_counts_and_changes_nothing_else() {
+    quiet();
+    let extent = extent(3, 8_000);
+    let beside = without(&extent, Manner::default()).unwrap_or_else(|why| panic!("{why}"));
+    assert!(beside.calls >= 8_000 && beside.counted > 4_000, "{} {}", beside.calls, beside.counted);
+    assert!(without(&extent, Manner { lost_line: true, ..Manner::default() }).is_err());
+}
+
 #[test]
 fn the_original_agrees_with_itself() {
     quiet();
@@ -298,6 +309,7 @@ fn twin_runs_find_octets_that_reach_another_link() {
     };
     assert_eq!(pairs(Fault::None), 0);
     assert!(pairs(Fault::LostLine) > 0);
+    assert!(pairs(Fault::TallyOctet) > 0);
 }
 
 /// With `confirm` called at once, as published, the original panics where the list says and nowhere else.

@@ -279,7 +279,7 @@ impl Generator {
         }
     }
 
-    /// Looks after a call: the whole view with every slot's tallies, and now and then the places, the queries and the attention set.
+    /// Looks after a call: the whole view with every slot's tallies, and now and then the places, the queries, the tallies and the attention set.
     fn look(&mut self, call: &Call) {
         if self.rng.below(self.plan.view_every) == 0 {
             self.ahead.push_back(Call::View);
@@ -301,6 +301,7 @@ impl Generator {
             3 => self.ahead.push_back(Call::Queries { slot }),
             4 => self.ahead.push_back(Call::Attention),
             5 => self.ahead.push_back(Call::OpenJob { slot: any }),
+            6 => self.ahead.push_back(Call::Tallies { slot }),
             _ => {}
         }
     }

@@ -56,7 +56,9 @@ impl Generator {
                 Some(Call::GiveUp { slot })
             }
             Kind::FrameAnyLink => {
-                let slot = self.one_of(view, |slot| slot.state == State::Connected)?;
+                // Without a credit the original counts it as blocked.
+                let blocked = self.one_of(view, |slot| slot.state == State::Connected && slot.credits == 0).filter(|_| self.rng.chance(50));
+                let slot = blocked.or_else(|| self.one_of(view, |slot| slot.state == State::Connected))?;
                 Some(Call::Frame { link: self.a_link(), cid: BASE_ID + slot, payload: vec![1, 0, 7] })
             }
             Kind::ShortFrame => self.first(view, |this, _| {

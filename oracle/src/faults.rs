@@ -295,7 +295,9 @@ impl Fault {
                 Tallies { sent: told.sent + 1, ..told }
             }
             (Fault::TallyCancel, Some(Call::Cancel { .. })) if told.sent > 0 => Tallies { sent: told.sent - 1, ..told },
-            (Fault::TallyOctet, Some(Call::Frame { payload, .. })) if answer == "0 -" && payload.last().is_some_and(|last| last % 2 == 1) => {
+            (Fault::TallyOctet, Some(Call::Frame { payload, .. }))
+                if answer == "0 -" && payload.last().is_some_and(|last| last % 2 == 1) =>
+            {
                 Tallies { received: told.received + 1, ..told }
             }
             _ => told,

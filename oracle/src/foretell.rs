@@ -24,10 +24,10 @@ pub fn foretold(before: Sight, call: &Call, at: usize, kind: Kind) -> Sight {
         (Kind::LongFrame, Call::Send { sdu, .. }) => {
             granted(&mut after.view.slots[slot], sdu.len());
         }
-        (Kind::LongFrame, Call::Start { length, size, .. }) => {
-            if usize::from(*size) >= buffer(&after.view.slots[slot], usize::from(*length)) {
-                begun(&mut after, slot, *length);
-            }
+        (Kind::LongFrame, Call::Start { length, size, .. })
+            if usize::from(*size) >= buffer(&after.view.slots[slot], usize::from(*length)) =>
+        {
+            begun(&mut after, slot, *length)
         }
         (Kind::SetAside, Call::Signal { link, pdu, .. }) => {
             let cid = signals(pdu).unwrap_or_default()[at][4..6].to_vec();

@@ -14,7 +14,9 @@ pub const FAULTS: &[Fault] = &[
     Fault { title: "a send counts one frame too many", slip: |scene| recount(scene, send, 0, |tallies, _, _| tallies.sent += 1) },
     Fault {
         title: "a send counts as received",
-        slip: |scene| recount(scene, send, 0, |tallies, before, frames| *tallies = Tallies { received: before.received + frames, ..before }),
+        slip: |scene| {
+            recount(scene, send, 0, |tallies, before, frames| *tallies = Tallies { received: before.received + frames, ..before })
+        },
     },
     Fault {
         title: "a blocked send counts its frames",
@@ -160,13 +162,19 @@ pub const FAULTS: &[Fault] = &[
         title: "a frame that ends its channel is counted behind the reset",
         slip: |scene| frame(scene, 9, |_, _| true, |tallies, _| tallies.received += 1),
     },
-    Fault { title: "a frame that ends its channel leaves the tallies", slip: |scene| frame(scene, 9, |_, _| true, |tallies, before| *tallies = before) },
+    Fault {
+        title: "a frame that ends its channel leaves the tallies",
+        slip: |scene| frame(scene, 9, |_, _| true, |tallies, before| *tallies = before),
+    },
     Fault {
         title: "a first frame under two octets leaves the tallies",
         slip: |scene| frame(scene, 19, |_, _| true, |tallies, before| *tallies = before),
     },
     Fault { title: "a disconnect leaves the tallies", slip: |scene| left(scene, |call| matches!(call, Call::Disconnect { .. })) },
-    Fault { title: "a disconnect by CID leaves the tallies", slip: |scene| left(scene, |call| matches!(call, Call::DisconnectByCid { .. })) },
+    Fault {
+        title: "a disconnect by CID leaves the tallies",
+        slip: |scene| left(scene, |call| matches!(call, Call::DisconnectByCid { .. })),
+    },
     Fault { title: "a release to 0 leaves the tallies", slip: |scene| left(scene, |call| matches!(call, Call::Release { .. })) },
     Fault { title: "a later cancel leaves the tallies", slip: |scene| left(scene, |call| matches!(call, Call::Cancel { .. })) },
     Fault {
@@ -207,9 +215,15 @@ pub const FAULTS: &[Fault] = &[
             scene.change(|now| now.view.slots[slot].tallies = Tallies::default())
         },
     },
-    Fault { title: "the next disconnect frees a slot and leaves its tallies", slip: |scene| freed(scene, |call| *call == Call::NextDisconnect) },
+    Fault {
+        title: "the next disconnect frees a slot and leaves its tallies",
+        slip: |scene| freed(scene, |call| *call == Call::NextDisconnect),
+    },
     Fault { title: "a link-down leaves the tallies", slip: |scene| freed(scene, |call| matches!(call, Call::LinkDown { .. })) },
-    Fault { title: "an opened query frees a slot and leaves its tallies", slip: |scene| freed(scene, |call| matches!(call, Call::Opened { .. })) },
+    Fault {
+        title: "an opened query frees a slot and leaves its tallies",
+        slip: |scene| freed(scene, |call| matches!(call, Call::Opened { .. })),
+    },
     Fault { title: "a give-up leaves the tallies", slip: |scene| freed(scene, |call| matches!(call, Call::GiveUp { .. })) },
     Fault {
         title: "a link-down resets another link's tallies too",

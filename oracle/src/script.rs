@@ -1,5 +1,5 @@
 //! A script judged: each call with what the original printed, what the port must print, and the differences that the list foretells.
-//! Where the list says that the tables part, the script ends.
+//! Where the list says that the tables part, the script ends: behind that call the port alone is looked at.
 
 use crate::depth::marks;
 use crate::foretell::foretold;
@@ -8,6 +8,8 @@ use crate::play;
 use language::{can_be_made, Answer, Call, Eyes, Feed, Manner, Reply, Row, Sight, View, HIGHEST_LINK};
 use std::rc::Rc;
 
+/// Why the original isn't asked for a look.
+const PARTED: &str = "a look behind a call at which the tables part: the documents' rule decides";
 /// Why the original isn't asked for a take.
 const CUT: &str = "a take into a buffer that is shorter than the job: the original would cut it";
 
@@ -160,8 +162,23 @@ impl Feed for Judge<'_> {
         self.stands = self.stands.take().filter(|_| before.call.only_looks());
         let (step, parted) = before.judge(&reply);
         self.parted = parted;
+        let stands = step.after.last().filter(|_| parted && !step.surprise && step.port.last().is_some_and(Option::is_some)).cloned();
         self.script.steps.push(step);
+        self.script.steps.extend(stands.iter().flat_map(looks));
     }
+}
+
+/// The view of a table that the port alone has, and each slot's tallies.
+fn looks(sight: &Rc<Sight>) -> Vec<Step> {
+    let tallies = sight.view.slots.iter().map(|record| record.tallies.numbers().iter().fold(Row::number(0), Row::column));
+    let tallies = (0..).zip(tallies).map(|(slot, row)| (Call::Tallies { slot }, Reply::from(row)));
+    let looks = std::iter::once((Call::View, Reply::from(sight.view.clone()))).chain(tallies);
+    let look = |(call, reply): (Call, Reply)| {
+        let mut step = Step::plain(call, &reply);
+        step.original.fill(Row::new(Answer::Skipped).to_string());
+        Step { not_run: vec![PARTED], after: vec![sight.clone()], ..step }
+    };
+    looks.map(look).collect()
 }
 
 impl Before {

@@ -123,6 +123,7 @@ impl Entries {
 
 impl Port for Entries {
     fn rows(&mut self, script: &str) -> Result<Vec<String>, String> {
+        self.counted = 0;
         let mut rows = Vec::new();
         for (_, line) in played(script) {
             self.line(&Call::parse(line), |more, _| {

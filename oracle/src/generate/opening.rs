@@ -136,7 +136,7 @@ impl Generator {
             11 => Call::Frame { link, cid: BASE_ID, payload: vec![0, 0] },
             12 => Call::Tallies { slot },
             13 => Call::Signal { link, listening: true, central: true, pdu: [self.peer_request(), self.parameters()].concat() },
-            _ => Call::Unread(self.rng.pick(&[" ", "F 1 64 0", "Q 1", "T 1 1", "A 0 - - e -", "x"]).to_string()),
+            _ => Call::Unread(self.rng.pick(&[" ", "F 1 64 0", "Q 1", "T 1 1", "A 0 - - e -", "x", "t"]).to_string()),
         }
     }
 }

@@ -17,14 +17,15 @@ use Rattle.channel.specs.declared.Table.{Table}
 use Rattle.definition.specs.Table.{slotAt}
 use Rattle.definition.specs.Calls.{Call, frame, sends, portions, down, plain, Window, Request, register, signals, pends, rejectsAll, accepts, rejects, drops, creates, opens, gives, holds, releases, leaves, leavesCid, announces, takes, starts, cancels, attends, asks, sendsSignal, writes, bare, decide}
 use Rattle.definition.specs.Forms.{Fit}
-use Rattle.rules_slots.specs.Words.{OpenTo, Lowest}
+use Rattle.rules_slots.specs.Words.{Attempt, OpenTo, Lowest}
 use Rattle.rules_slots.specs.Change.{BySignal, disconnects, frees, connects, matches, unmatched, credits, Asking, MayChange}
 use Rattle.rules_slots.specs.Changes.{change-law}
 
--- Link down, and a signal 0x15.
-pub data Several : Call → Type 0 where
-  link-down : {l : ℕ} → Several (down l)
-  response : {l : ℕ} {listening central : Bool} {pdu : List ℕ} {v w : Window} → getD pdu 0 0 ≡ 0x15 → Several (plain (signals l listening central pdu) v w)
+-- Link down; a signal 0x15 whose identifier no Connecting slot of its link has.
+pub data Several (t : Table) : Call → Type 0 where
+  link-down : {l : ℕ} → Several t (down l)
+  response : {l : ℕ} {listening central : Bool} {pdu : List ℕ} {v w : Window} → getD pdu 0 0 ≡ 0x15 → ((j : ℕ) → j < t .n → ¬ Attempt l (getD pdu 1 0) (slotAt t j))
+      → Several t (plain (signals l listening central pdu) v w)
 
 lowest-same : {P : Slot → Type 0} {t : Table} {i j : ℕ} → Lowest P t i → Lowest P t j → i ≡ j
 lowest-same {i = i} {j} a b =
@@ -35,15 +36,15 @@ never : {A : Type 0} {k m n : ℕ} → k ≡ m → k ≡ n → (m ≡ n → ⊥)
 never e f off = absurd (off (sym e ∙ f))
 
 module _ {t : Table} {l : ℕ} {pdu : List ℕ} {i j : ℕ} where
-  signal-one : (getD pdu 0 0 ≡ 0x15 → ⊥) → BySignal t l pdu i → BySignal t l pdu j → i ≡ j
+  signal-one : (getD pdu 0 0 ≡ 0x15 → ((k : ℕ) → k < t .n → ¬ Attempt l (getD pdu 1 0) (slotAt t k)) → ⊥) → BySignal t l pdu i → BySignal t l pdu j → i ≡ j
   signal-one off (disconnects {req} e f g h) (disconnects {req = req′} e′ f′ g′ h′) =
       let q : req ≡ req′ = cc in
       let z : req .dcid ≡ req′ .dcid = ap (λ (x : DisconnectionReq). x .dcid) q in
       omega arith
   signal-one off (disconnects e f g h) (frees e′ f′ g′ h′) = never e e′ (λ z. omega arith)
   signal-one off (disconnects e f g h) (connects e′ h′) = never e e′ (λ z. omega arith)
-  signal-one off (disconnects e f g h) (matches e′ h′) = absurd (off e′)
-  signal-one off (disconnects e f g h) (unmatched e′ f′ h′) = absurd (off e′)
+  signal-one off (disconnects e f g h) (matches e′ h′) = never e e′ (λ z. omega arith)
+  signal-one off (disconnects e f g h) (unmatched e′ f′ h′) = absurd (off e′ f′)
   signal-one off (disconnects e f g h) (credits e′ f′ h′) = never e e′ (λ z. omega arith)
   signal-one off (frees e f g h) (disconnects e′ f′ g′ h′) = never e e′ (λ z. omega arith)
   signal-one off (frees {res} e f g h) (frees {res = res′} e′ f′ g′ h′) =
@@ -51,22 +52,27 @@ module _ {t : Table} {l : ℕ} {pdu : List ℕ} {i j : ℕ} where
       let z : res .scid ≡ res′ .scid = ap (λ (x : DisconnectionRes). x .scid) q in
       omega arith
   signal-one off (frees e f g h) (connects e′ h′) = never e e′ (λ z. omega arith)
-  signal-one off (frees e f g h) (matches e′ h′) = absurd (off e′)
-  signal-one off (frees e f g h) (unmatched e′ f′ h′) = absurd (off e′)
+  signal-one off (frees e f g h) (matches e′ h′) = never e e′ (λ z. omega arith)
+  signal-one off (frees e f g h) (unmatched e′ f′ h′) = absurd (off e′ f′)
   signal-one off (frees e f g h) (credits e′ f′ h′) = never e e′ (λ z. omega arith)
   signal-one off (connects e h) (disconnects e′ f′ g′ h′) = never e e′ (λ z. omega arith)
   signal-one off (connects e h) (frees e′ f′ g′ h′) = never e e′ (λ z. omega arith)
   signal-one off (connects e h) (connects e′ h′) = lowest-same h h′
-  signal-one off (connects e h) (matches e′ h′) = absurd (off e′)
-  signal-one off (connects e h) (unmatched e′ f′ h′) = absurd (off e′)
+  signal-one off (connects e h) (matches e′ h′) = never e e′ (λ z. omega arith)
+  signal-one off (connects e h) (unmatched e′ f′ h′) = absurd (off e′ f′)
   signal-one off (connects e h) (credits e′ f′ h′) = never e e′ (λ z. omega arith)
-  signal-one off (matches e h) b = absurd (off e)
-  signal-one off (unmatched e f h) b = absurd (off e)
+  signal-one off (matches e h) (disconnects e′ f′ g′ h′) = never e e′ (λ z. omega arith)
+  signal-one off (matches e h) (frees e′ f′ g′ h′) = never e e′ (λ z. omega arith)
+  signal-one off (matches e h) (connects e′ h′) = never e e′ (λ z. omega arith)
+  signal-one off (matches e h) (matches e′ h′) = lowest-same h h′
+  signal-one off (matches e h) (unmatched e′ f′ h′) = absurd (off e′ f′)
+  signal-one off (matches e h) (credits e′ f′ h′) = never e e′ (λ z. omega arith)
+  signal-one off (unmatched e f h) b = absurd (off e f)
   signal-one off (credits e f h) (disconnects e′ f′ g′ h′) = never e e′ (λ z. omega arith)
   signal-one off (credits e f h) (frees e′ f′ g′ h′) = never e e′ (λ z. omega arith)
   signal-one off (credits e f h) (connects e′ h′) = never e e′ (λ z. omega arith)
-  signal-one off (credits e f h) (matches e′ h′) = absurd (off e′)
-  signal-one off (credits e f h) (unmatched e′ f′ h′) = absurd (off e′)
+  signal-one off (credits e f h) (matches e′ h′) = never e e′ (λ z. omega arith)
+  signal-one off (credits e f h) (unmatched e′ f′ h′) = absurd (off e′ f′)
   signal-one off (credits {ind} e f h) (credits {ind = ind′} e′ f′ h′) =
       let q : ind ≡ ind′ = cc in
       lowest-same (subst (λ (x : LeCreditFlowInd). Lowest (OpenTo l (x .cid)) t i) q h) h′
@@ -75,9 +81,9 @@ same : {i j s : ℕ} → i ≡ s → j ≡ s → i ≡ j
 same e f = e ∙ sym f
 
 module _ (t : Table) {i j : ℕ} where
-  asking-one : (r : Request) (v w : Window) → (Several (plain r v w) → ⊥) → Asking t r i → Asking t r j → i ≡ j
+  asking-one : (r : Request) (v w : Window) → (Several t (plain r v w) → ⊥) → Asking t r i → Asking t r j → i ≡ j
   asking-one (register spsm) v w off a b = absurd a
-  asking-one (signals l listening central pdu) v w off a b = signal-one (λ e. off (response e)) a b
+  asking-one (signals l listening central pdu) v w off a b = signal-one (λ e f. off (response e f)) a b
   asking-one (pends l up) v w off a b = lowest-same a b
   asking-one (rejectsAll l) v w off a b = lowest-same a b
   asking-one (accepts s c) v w off a b = same a b
@@ -99,7 +105,7 @@ module _ (t : Table) {i j : ℕ} where
   asking-one (sendsSignal l s) v w off a b = absurd a
   asking-one (writes octets) v w off a b = absurd a
 
-  may-one : (c : Call) → (Several c → ⊥) → MayChange t c i → MayChange t c j → i ≡ j
+  may-one : (c : Call) → (Several t c → ⊥) → MayChange t c i → MayChange t c j → i ≡ j
   may-one (frame l cid payload) off a b = let e = a .0 in let f = b .0 in omega arith
   may-one (sends s sdu out) off a b = same a b
   may-one (portions s octets out) off a b = same a b
@@ -107,7 +113,7 @@ module _ (t : Table) {i j : ℕ} where
   may-one (plain r v w) off a b = asking-one r v w off a b
 
 -- ONE SLOT AT MOST: two slots whose tallies a call changes are one.
-pub one-slot : (t : Table) → Fit t → (c : Call) → ¬ Several c → (count room out job : ℕ) (i j : ℕ)
+pub one-slot : (t : Table) → Fit t → (c : Call) → ¬ Several t c → (count room out job : ℕ) (i j : ℕ)
     → ¬ (slotAt (decide t (bare t c) count room out job .table) i .tallies ≡ slotAt t i .tallies) → ¬ (slotAt (decide t (bare t c) count room out job .table) j .tallies ≡ slotAt t j .tallies) → i ≡ j
 one-slot t fit c off count room out job i j a b = by (eqb i j) refl
   where

@@ -59,16 +59,6 @@ macro_rules! entries {
 
 rows!(entries);
 
-/// The questions of the four tallies.
-pub mod tallies {
-    entries! {
-        ask tally_sent = l2cap_tally_sent(slot: u8);
-        ask tally_received = l2cap_tally_received(slot: u8);
-        ask tally_blocked_sends = l2cap_tally_blocked_sends(slot: u8);
-        ask tally_blocked_receives = l2cap_tally_blocked_receives(slot: u8);
-    }
-}
-
 extern "C" {
     fn l2cap_signal_rest(pdu: *const u8, pdu_len: usize) -> usize;
 }

@@ -114,7 +114,7 @@ impl Memory {
                 questions[asked.question](table, answer, slot)
             }
             Call::Tallies { .. } => {
-                use archive::tallies::{tally_blocked_receives, tally_blocked_sends, tally_received, tally_sent};
+                use archive::{tally_blocked_receives, tally_blocked_sends, tally_received, tally_sent};
                 [tally_sent, tally_received, tally_blocked_sends, tally_blocked_receives][asked.question](table, answer, slot)
             }
             Call::ParameterRequest { link, min, max, latency, timeout } => {

@@ -78,6 +78,11 @@ unfoldable pub Alone : {i : ℕ} {sdu : List ℕ} {s s′ : State} {b b′ : Lis
 Alone rest = Unit {0}
 Alone {i} {sdu} {s} (portion {u = u} w c link taken full h a d) = (uncounted (slotIn u i) ≡ uncounted (slotIn s i)) × Alone d
 
+-- Nor did another call count there: at each portion its tallies are what the job's call before it left.
+unfoldable pub Silent : {i : ℕ} {sdu : List ℕ} {s s′ : State} {b b′ : List ℕ} {fs : List (List ℕ)} → Delivery i sdu s b s′ b′ fs → Type 0
+Silent rest = Unit {0}
+Silent {i} {sdu} {s} (portion {u = u} w c link taken full h a d) = (slotIn u i .tallies ≡ slotIn s i .tallies) × Silent d
+
 -- how many portions there were, and how many of an octet or more
 unfoldable pub calls : {i : ℕ} {sdu : List ℕ} {s s′ : State} {b b′ : List ℕ} {fs : List (List ℕ)} → Delivery i sdu s b s′ b′ fs → ℕ
 calls rest = 0
@@ -131,7 +136,7 @@ module _ (s : State) (i : ℕ) (sdu : List ℕ) (n : ℕ) {s₁ s′ : State} {b
     pub whole : isOpen (jobIn s′ i) ≡ false → joined fs ≡ framesOf (slotIn s i .peer .cid) (slotIn s i .peer .mps) sdu
     pub octets : isOpen (jobIn s′ i) ≡ false → (v : Window) (link : ℕ) → outcome s (sends i sdu v) .answer ≡ Frames link n
         → joined fs ≡ take (outcome s (sends i sdu v) .octets) (lent v (after s (sends i sdu v) .memory))
-    -- and with no other call on it the slot is then as that send leaves it (no job was open before: all its numbers were 0)
+    -- and with no other call on it the slot is then, but for its tallies, as that send leaves it (no job was open before: all its numbers were 0)
     pub slot : isOpen (jobIn s′ i) ≡ false → Alone d → jobIn s i ≡ noJob → (v : Window) (link : ℕ) → outcome s (sends i sdu v) .answer ≡ Frames link n
         → uncounted (slotIn s′ i) ≡ uncounted (slotIn (after s (sends i sdu v)) i)
 
@@ -140,7 +145,14 @@ module _ (s : State) (i : ℕ) (sdu : List ℕ) (n : ℕ) {s₁ s′ : State} {b
   abbrev pub OwnOctets : Type 0
   OwnOctets = (k : ℕ) → k < length fs → getD fs k [] ≡ frame (slotIn s i .peer .cid) (part (le16 (length sdu) ++ sdu) (k * slotIn s i .peer .mps) (slotIn s i .peer .mps))
 
-  -- CREDITS. With no other call on the slot, portions change its job alone: what is left of the peer's credits, what is set aside and the frames given out are
+  -- THE TALLIES. Portions count nothing: a start has counted what the send counts. So where no other call counts on the slot either, its tallies stay; and with no other call on it at all
+  -- the slot of a closed job is as the send leaves it, tallies too.
+  pub record Tallied : Type 0 where
+    pub stay : Silent d → slotIn s′ i .tallies ≡ slotIn s₁ i .tallies
+    pub slot : isOpen (jobIn s′ i) ≡ false → Alone d → Silent d → jobIn s i ≡ noJob → (v : Window) (link : ℕ) → outcome s (sends i sdu v) .answer ≡ Frames link n
+        → slotIn s′ i ≡ slotIn (after s (sends i sdu v)) i
+
+  -- CREDITS. With no other call on the slot, portions change, but for its tallies, its job alone: what is left of the peer's credits, what is set aside and the frames given out are
   -- together the credits before the start.
   pub record Credits : Type 0 where
     pub slot : Alone d → uncounted (slotIn s′ i) ≡ uncounted (withJob (jobIn s′ i) (withPeerCredits (slotIn s i .peer .credits - n) (slotIn s i)))

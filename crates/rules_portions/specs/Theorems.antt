@@ -19,15 +19,16 @@ use Rattle.channel.specs.declared.Answer.the-variants.{Done, Frames, Portion}
 use Rattle.channel.specs.declared.ChannelState.the-variants.{Disconnecting}
 use Rattle.channel.specs.declared.OpenJob.{OpenJob}
 use Rattle.channel.specs.declared.Slot.{Slot}
+use Rattle.channel.specs.declared.Tallies.{Tallies}
 use Rattle.definition.specs.Mem.{given, fill, fills}
-use Rattle.definition.specs.Slots.{noJob, withJob, withPeerCredits, countSent, left}
+use Rattle.definition.specs.Slots.{noJob, withJob, withTallies, withPeerCredits, countSent, left}
 use Rattle.definition.specs.Table.{gap, slotAt, isOpen}
 use Rattle.definition.specs.Outcome.{Outcome}
 use Rattle.definition.specs.Frames.{firstHeader, frames}
 use Rattle.definition.specs.Portions.{givenOut, longest, bufferSize, begun, taking, fullWith, returned}
 use Rattle.definition.specs.Calls.{Window, sends, jobs, bare, serve, decide}
 use Rattle.definition.specs.Run.{State, lent, outcome, after}
-use Rattle.rules_portions.specs.Statement.{slotIn, jobIn, starting, cancelling, portionOf, HandedOn, uncounted, Delivery, rest, portion, Alone, calls, somes, Admits, Goes, AsSend, framesFrom, SameFrames, OwnOctets, Credits, Cancelled, Ends}
+use Rattle.rules_portions.specs.Statement.{slotIn, jobIn, starting, cancelling, portionOf, HandedOn, uncounted, Delivery, rest, portion, Alone, Silent, calls, somes, Admits, Goes, AsSend, framesFrom, SameFrames, OwnOctets, Tallied, Credits, Cancelled, Ends}
 use Rattle.rules_portions.specs.Filling.{Filling, Standing, filling, closed, begun-filling, out-whole, taken-less, takes-some, taken-then, empty-full, empty-one}
 use Rattle.rules_portions.specs.Answered.{Leaves, filling-leaves, slot-there, portion-takes, portion-is, Starts, start-starts, start-is, send-sends, send-is, Cancels, cancel-cancels}
 use Rattle.rules_portions.specs.Delivered.{Ready, handed, slot-after, is-filling, given-out, next, Delivered, delivered}
@@ -60,6 +61,12 @@ unfolding Alone
 alone i sdu rest al = refl
 alone i sdu {s} {s′} (portion {u = u} w c link taken full h a d) al =
     alone i sdu d (al .1) ∙ ap (λ (y : Slot). uncounted (withJob (jobIn s′ i) y)) (slot-after i sdu u w c link taken full a) ∙ ap (withJob (jobIn s′ i)) (al .0)
+
+-- portions count nothing
+silent : (i : ℕ) (sdu : List ℕ) {s s′ : State} {b b′ : List ℕ} {fs : List (List ℕ)} (d : Delivery i sdu s b s′ b′ fs) → Silent d → slotIn s′ i .tallies ≡ slotIn s i .tallies
+unfolding Silent
+silent i sdu rest q = refl
+silent i sdu (portion {u = u} w c link taken full h a d) q = silent i sdu d (q .1) ∙ ap (λ (y : Slot). y .tallies) (slot-after i sdu u w c link taken full a) ∙ q .0
 
 later : (k m : ℕ) → 0 < k → 2 ≤ m → k * m ≡ 0 → ⊥
 later zero m h w e = not-suc-le-zero h
@@ -277,6 +284,17 @@ module _ (s : State) (i : ℕ) (sdu : List ℕ) (w : Window) (link n : ℕ) wher
             slot = λ o al none v k e.
                 let (shut, _) = shut-standing o in
                 slot-alone al ∙ ap (λ (j : OpenJob). uncounted (withJob j (withPeerCredits (x .peer .credits - n) x))) (shut ∙ sym none) ∙ ap (λ (y : Slot). uncounted y) (sym (sent-slot s i sdu v k n e));
+          }
+
+      -- THE TALLIES
+      pub tallied : Tallied s i sdu n d
+      tallied =
+          record {
+            stay = silent i sdu d;
+            slot = λ o al q none v k e.
+                ap₂ (λ (y : Tallies) (z : Slot). withTallies y z)
+                (silent i sdu d q ∙ ap (λ (y : Slot). y .tallies) started ∙ ap (λ (y : Slot). y .tallies) (sym (sent-slot s i sdu v k n e)))
+                (same-frames .slot o al none v k e);
           }
 
       -- ITS OWN OCTETS

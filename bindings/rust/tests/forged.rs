@@ -58,7 +58,7 @@ fn zeros_and_ones_are_no_table() {
 #[test]
 fn forged_heads() {
     let (octets, room) = busy();
-    let mut forged = vec![(0, 0), (0, 1), (0, 3), (1, 0), (1, 17), (2, 0), (2, 5), (3, 28), (4, 5)];
+    let mut forged = vec![(0, 0), (0, 2), (0, 4), (1, 0), (1, 17), (2, 0), (2, 5), (3, 28), (4, 5)];
     forged.extend((6..16).map(|place| (place, 1)));
     for (place, value) in forged {
         let mut octets = octets;

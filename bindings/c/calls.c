@@ -5,7 +5,7 @@
 #include <string.h>
 #include <time.h>
 
-enum { N = 4, D = 1, M = 64, ROOM = N * (D + 1) * (M - 6), TABLE = 700, TURNS = 1000, SAMPLES = 101, SIGNALS = 16383 };
+enum { N = 4, D = 1, M = 64, ROOM = N * (D + 1) * (M - 6), TABLE = 1200, TURNS = 1000, SAMPLES = 101, SIGNALS = 16383 };
 
 static uint8_t kept[L2CAP_TABLE_OCTETS], table[L2CAP_TABLE_OCTETS], answer[L2CAP_ANSWER_OCTETS], room[ROOM], signal[L2CAP_SIGNAL_OCTETS], out[64], job[64], pdu[4 * SIGNALS];
 static uint8_t large[L2CAP_ROOM_OCTETS(16, 4, 1024)], frames[2048], sdu[1020];
@@ -134,6 +134,7 @@ int main(void) {
     CALL("dispatch, no such CID", l2cap_dispatch(LENT, IN(room), 1, 0x50, IN(frame)));
     CALL("attention", l2cap_attention(LENT));
     CALL("mtu", l2cap_mtu(LENT, 0));
+    CALL("tally_received", l2cap_tally_received(LENT, 0));
     CALL("receive", l2cap_receive(LENT, IN(room), IN(signal), IN(job), 0));
     CALL("send", l2cap_send(LENT, IN(out), 0, IN(frame)));
     CALL("start_job", l2cap_start_job(LENT, IN(out), 0, 40));

@@ -1,4 +1,4 @@
-/* A small printer. `packet` takes a whole L2CAP packet that came on a link, and sends and prints all that it calls for: responses, credits, disconnects, jobs; `reply` sends a sheet of the printer's own, a line at a time. It needs no heap and no C library, so that a firmware can take
+/* A small printer. `packet` takes a whole L2CAP packet that came on a link, and sends and prints all that it calls for: responses, credits, disconnects, jobs; `reply` sends a sheet of the printer's own, a line at a time; `service` is a slot's row of a service screen. It needs no heap and no C library, so that a firmware can take
  * it over; `main` plays two phones and an old handset with it, and looks at what comes out. */
 #include "l2cap_channels.h"
 #include <stdio.h>
@@ -111,6 +111,14 @@ static uint32_t reply(uint8_t slot, unsigned lines) {
     return refusal;
 }
 
+/* A slot's tallies for a service screen: frames sent and received, sends and frames that were blocked. Zeros of a slot without a channel. */
+static void service(uint8_t slot, uint64_t row[4]) {
+    row[0] = l2cap_tally_sent(LENT, slot) ? 0 : l2cap_answer_tally(answer);
+    row[1] = l2cap_tally_received(LENT, slot) ? 0 : l2cap_answer_tally(answer);
+    row[2] = l2cap_tally_blocked_sends(LENT, slot) ? 0 : l2cap_answer_tally(answer);
+    row[3] = l2cap_tally_blocked_receives(LENT, slot) ? 0 : l2cap_answer_tally(answer);
+}
+
 static void link_down(uint16_t link) {
     l2cap_disconnected(LENT, IN(room), link);
     settle();
@@ -150,6 +158,14 @@ static int went(unsigned count, unsigned link, const uint8_t *octets, size_t n) 
     return same;
 }
 
+/* A slot's row of the screen is this one; it is printed. */
+static int shows(uint8_t slot, unsigned out, unsigned in, unsigned blocked_out, unsigned blocked_in) {
+    uint64_t row[4];
+    service(slot, row);
+    printf("slot %u: %llu frames out, %llu in; blocked: %llu out, %llu in\n", slot, (unsigned long long)row[0], (unsigned long long)row[1], (unsigned long long)row[2], (unsigned long long)row[3]);
+    return row[0] == out && row[1] == in && row[2] == blocked_out && row[3] == blocked_in;
+}
+
 int main(void) {
     static const uint8_t connect[] = {14, 0, 5, 0, 0x14, 7, 10, 0, SPSM, 0, 0x50, 0, 100, 0, 23, 0, 5, 0}; /* from the phone's CID 0x50 */
     static const uint8_t accepted[] = {14, 0, 5, 0, 0x15, 7, 10, 0, 0x40, 0, 58, 0, MPS, 0, CREDITS, 0, 0, 0}; /* to slot 0, whose CID is 0x40 */
@@ -176,6 +192,7 @@ int main(void) {
 
     /* It closes its channel in the middle of the next job. The phone on link 2 gets the slot, and its job comes out clean. */
     check(packet(1, IN(half)) == 0 && packets == 0, "half of another job");
+    check(shows(0, 0, 3, 0, 0), "three frames came from it");
     packet(1, IN(closes));
     check(went(1, 1, IN(closed)) && !held[0], "a disconnect response, and the hold is given back");
     packet(2, IN(connect));
@@ -201,6 +218,7 @@ int main(void) {
     packets = 0;
     check(reply(0, 3) == 0 && went(3, 1, IN(last)), "a reply sheet, in three frames");
     check(reply(0, 3) == L2CAP_BUSY && reply(0, 1) == 0 && packets == 1, "of five credits two are left: one line goes out");
+    check(shows(0, 4, 3, 1, 0), "the screen has its own frames alone, and the sheet that had to wait");
 
     /* An old handset asks for a channel, with frames of 10 octets. Core has 23 as the least: it is told so, and gets no slot. */
     packets = 0;
@@ -210,7 +228,7 @@ int main(void) {
     /* A link goes down. */
     packets = 0;
     link_down(1);
-    check(packets == 0 && !held[0] && jobs == 4, "nothing is left of it");
+    check(packets == 0 && !held[0] && jobs == 4 && shows(0, 0, 0, 0, 0), "nothing is left of it");
     printf("%u passed, %u failed\n", passed, failed);
     return failed != 0;
 }

@@ -1,11 +1,11 @@
 /* Tables that no call wrote. Every octet of busy tables is changed, and each call that works on the table's octets where they stand is made on what comes of it, beside the same call made by value on the whole table, which the
- * archive of the crate edge_whole has; the calls of a job in portions, beside document 02's words on the same octets. Octets that a question refuses by 1 are refused by 1, and nothing changes; of all others number, answer, table, room and buffers are equal; a take is refused by 12 where its buffer is shorter than the oldest job, and writes nothing. Then faults are planted, and each is found.
+ * archive of the crate edge_whole has; the calls of a job in portions, beside document 02's words on the same octets. Octets that a question refuses by 1 are refused by 1, and nothing changes; of all others number, answer, table, room and buffers are equal; a take is refused by 12 where its buffer is shorter than the oldest job, and writes nothing; and the tallies are what their octets spell. Then faults are planted, and each is found.
  * gcc -std=c99 -O1 -o forged bindings/c/forged.c target/unproved/libentries.a target/unproved/libedge_whole.a && ./forged */
 #include "l2cap_channels.h"
 #include <stdio.h>
 #include <string.h>
 
-enum { N = 16, D = 4, M = 300, PLACE = M - 6, ROOM = N * (D + 1) * PLACE, SPSM = 0x80, HEAD = 48, COLUMNS = 47, BEHIND = 16, PAINT = 0xa5, CALLS = 9, MANY = 8000, LONG = 41 };
+enum { N = 16, D = 4, M = 300, PLACE = M - 6, ROOM = N * (D + 1) * PLACE, SPSM = 0x80, HEAD = 48, SENT = 47, BLOCKED_SENDS = 55, RECEIVED = 63, BLOCKED_RECEIVES = 71, COLUMNS = 79, BEHIND = 16, PAINT = 0xa5, CALLS = 9, MANY = 13000, LONG = 41 };
 
 /* The calls by value, of the same parameters. */
 uint32_t whole_dispatch(uint8_t *, size_t, uint8_t *, size_t, uint8_t *, size_t, uint16_t, uint16_t, const uint8_t *, size_t);
@@ -26,7 +26,7 @@ typedef struct {
 static const char *const names[CALLS] = {"l2cap_dispatch", "l2cap_send", "l2cap_receive", "l2cap_signal", "l2cap_dispatch_run", "l2cap_send_run", "l2cap_start_job", "l2cap_give_portion", "l2cap_cancel_job"};
 static memory bases[2], was, placed, whole;
 static size_t table_len = L2CAP_TABLE_OCTETS, room_len = ROOM;
-static unsigned passed, failed, compared, refused, differing, fault, fault_at, done[CALLS], turned_down[CALLS], above, below, kept, exact;
+static unsigned passed, failed, compared, refused, differing, fault, fault_at, done[CALLS], turned_down[CALLS], above, below, kept, exact, counted, wrapped;
 
 /* How many forms each call has. */
 static const unsigned forms[CALLS] = {3, 2, 4, 4, 1, 1, 2, 2, 1};
@@ -36,6 +36,18 @@ static const unsigned forms[CALLS] = {3, 2, 4, 4, 1, 1, 2, 2, 1};
 static size_t cell(unsigned slot, unsigned column) { return HEAD + 16 * column + slot; }
 static uint16_t number(const memory *m, unsigned slot, unsigned column) { return (uint16_t)(m->table[cell(slot, column)] | m->table[cell(slot, column + 1)] << 8); }
 static void put(memory *m, unsigned slot, unsigned column, size_t n) { m->table[cell(slot, column)] = (uint8_t)n, m->table[cell(slot, column + 1)] = (uint8_t)(n >> 8); }
+
+/* A tally, in eight columns. */
+static uint64_t tally(const memory *m, unsigned slot, unsigned column) {
+    uint64_t n = 0;
+    unsigned k;
+    for (k = 8; k--;) n = n << 8 | m->table[cell(slot, column + k)];
+    return n;
+}
+static void put_tally(memory *m, unsigned slot, unsigned column, uint64_t n) {
+    unsigned k;
+    for (k = 0; k < 8; k++) m->table[cell(slot, column + k)] = (uint8_t)(n >> 8 * k);
+}
 
 /* A request of a peer, from link 1 + slot / 4 and for its CID 0x50 + slot. */
 static void connects(memory *m, uint8_t slot) {
@@ -87,11 +99,14 @@ static void busy(memory *m) {
     }
 }
 
-/* The same with every number of an open channel and of an open job at its edge: one more is refused. No octet of the room is zero. */
+/* The same with every number of an open channel and of an open job at its edge: one more is refused; and every tally, where one more carries or wraps. No octet of the room is zero. */
 static void full(memory *m) {
     static const uint16_t jobs[2][5][2] = {{{24, 0xFFFD}, {39, 45}, {41, 20}, {43, 22}, {45, 2}}, {{24, 0xFFFE}, {39, 40}, {41, 40}, {43, 19}, {45, 1}}};
     static const uint16_t edge[][2] = {{8, PLACE}, {13, 0xFEFF}, {15, 0x0100}, {26, PLACE - 1}, {28, PLACE}, {31, PLACE}, {33, PLACE}, {35, PLACE}};
+    static const uint64_t tallies[] = {UINT64_MAX, 0xFFFF, UINT64_MAX - 1, UINT64_MAX >> 8};
     unsigned slot, k;
+    for (slot = 0; slot < N; slot++)
+        for (k = 0; k < 4; k++) put_tally(m, slot, SENT + 8 * k, tallies[(slot + k) % 4]);
     for (slot = 0; slot < N; slot++)
         if (m->table[cell(slot, 0)] == 3) {
             m->table[cell(slot, 30)] = D - 1;
@@ -168,8 +183,9 @@ static void by_its_words(memory *m, unsigned k, uint8_t slot, size_t n) {
     else if (k == 7 && n > length - taken) m->number = L2CAP_WRONG_LENGTH;
     memset(m->answer, 0, sizeof m->answer);
     m->answer[0] = m->number ? L2CAP_ANSWER_REFUSED : 0, m->answer[1] = (uint8_t)m->number;
+    if (m->number == L2CAP_BUSY) put_tally(m, slot, BLOCKED_SENDS, tally(m, slot, BLOCKED_SENDS) + 1);
     if (m->number) return;
-    if (k == 6) out = 0, filled = 0;
+    if (k == 6) out = 0, filled = 0, put_tally(m, slot, SENT, tally(m, slot, SENT) + frames);
     size = mps < length + 2 - out ? mps : length + 2 - out;
     takes = k == 7 ? (n < size - filled ? n : size - filled) : 0, full = k == 7 && filled + takes == size;
     if (k == 6 || (k == 7 && !filled && (takes || full))) m->buffer[0] = (uint8_t)size, m->buffer[1] = (uint8_t)(size >> 8), m->buffer[2] = m->table[cell(slot, 18)], m->buffer[3] = m->table[cell(slot, 19)];
@@ -180,7 +196,9 @@ static void by_its_words(memory *m, unsigned k, uint8_t slot, size_t n) {
     if (k == 8 && !out) put(m, slot, 24, credits + aside);
     if (k == 8 && out) m->table[cell(slot, 0)] = 6, m->table[cell(slot, 1)] = 0, put(m, slot, 26, 0), put(m, slot, 28, 0), memset(m->room + slot * places, 0, places / (m->table[2] + 1u));
     if (k == 8 || (full && (out + size == length + 2 || aside == 1)))
-        for (i = 39; i < COLUMNS; i += 2) put(m, slot, (unsigned)i, 0);
+        for (i = 39; i < SENT; i += 2) put(m, slot, (unsigned)i, 0);
+    if (k == 8 && out)
+        for (i = SENT; i < COLUMNS; i += 8) put_tally(m, slot, (unsigned)i, 0);
     if (k < 8) m->answer[0] = k == 6 ? L2CAP_ANSWER_FRAMES : L2CAP_ANSWER_PORTION, m->answer[6] = m->table[cell(slot, 2)], m->answer[7] = m->table[cell(slot, 3)];
     if (k == 6) m->answer[8] = (uint8_t)frames, m->answer[9] = (uint8_t)(frames >> 8);
     if (k == 7) m->answer[8] = (uint8_t)takes, m->answer[10] = (uint8_t)full, m->answer[2] = (uint8_t)(full ? 4 + size : 0);
@@ -234,8 +252,21 @@ static void call(memory *m, int by_value, unsigned k, uint8_t slot, unsigned for
 
 /* A fault, planted behind one call of the archive: each is of another kind of memory. */
 static void plant(memory *m) {
-    uint8_t *const at[] = {m->table + 7, m->table + cell(15, 24), m->answer + 15, m->room + ROOM - 1, m->signal, m->job + PLACE - 1, m->out + 255, m->answers + 79, m->buffer + 39, m->behind_table, m->behind_answer, m->behind_room, m->behind_signal, m->behind_job, m->behind_out, m->behind_buffer, m->behind_answers, (uint8_t *)&m->number};
+    uint8_t *const at[] = {m->table + 7, m->table + cell(15, 24), m->answer + 15, m->room + ROOM - 1, m->signal, m->job + PLACE - 1, m->out + 255, m->answers + 79, m->buffer + 39, m->table + cell(9, SENT + 7), m->table + cell(0, BLOCKED_SENDS), m->table + cell(4, RECEIVED + 3), m->table + cell(15, BLOCKED_RECEIVES + 7), m->behind_table, m->behind_answer, m->behind_room, m->behind_signal, m->behind_job, m->behind_out, m->behind_buffer, m->behind_answers, (uint8_t *)&m->number};
     if (fault && fault <= sizeof at / sizeof *at && compared == fault_at) *at[fault - 1] ^= 1;
+}
+
+/* The four questions of a slot: what its octets spell; 1 of octets that are no table, 6 past the table. */
+static int questions(uint8_t slot, unsigned bad) {
+    static uint32_t (*const entries[])(const uint8_t *, size_t, uint8_t *, size_t, uint8_t) = {l2cap_tally_sent, l2cap_tally_blocked_sends, l2cap_tally_received, l2cap_tally_blocked_receives};
+    uint8_t answer[L2CAP_ANSWER_OCTETS];
+    unsigned k;
+    int same = 1;
+    for (k = 0; k < 4; k++) {
+        uint32_t number = entries[k](was.table, table_len, IN(answer), slot);
+        same = same && number == (bad ? L2CAP_BAD_TABLE : slot >= was.table[1] ? L2CAP_BAD_SLOT : 0u) && (number || (l2cap_answer_kind(answer) == L2CAP_ANSWER_NUMBER && l2cap_answer_tally(answer) == tally(&was, slot, SENT + 8 * k)));
+    }
+    return same;
 }
 
 /* Every call on the octets as they are in `was`, for a slot. What a question says of them is who refuses them. */
@@ -243,6 +274,7 @@ static void calls(uint8_t slot, const char *what, size_t place) {
     uint8_t answer[L2CAP_ANSWER_OCTETS];
     unsigned k, form, bad = l2cap_attention(was.table, table_len, IN(answer)) == L2CAP_BAD_TABLE;
     refused += bad;
+    if (!questions(slot, bad) && differing++ < 3 && !fault) printf("tallies of slot %u: %s %u\n", slot, what, (unsigned)place);
     for (k = 0; k < CALLS; k++)
         for (form = 0; form < forms[k]; form++) {
             int same;
@@ -255,6 +287,8 @@ static void calls(uint8_t slot, const char *what, size_t place) {
                 placed.number ? turned_down[k]++ : done[k]++;
                 above += k == 0 && form == 2 && placed.number == L2CAP_INVALID_VALUE && number(&was, slot, 6) < LONG;
                 below += k == 3 && form == 2 && placed.number == L2CAP_INVALID_VALUE;
+                counted += slot < N && memcmp(placed.table + cell(0, SENT), was.table + cell(0, SENT), 16 * (COLUMNS - SENT)) != 0;
+                wrapped += slot < N && (tally(&placed, slot, SENT) < tally(&was, slot, SENT) || tally(&placed, slot, RECEIVED) < tally(&was, slot, RECEIVED)) && placed.table[cell(slot, 0)] == 3;
             }
             if (k == 2 && !bad) {
                 kept += placed.number == L2CAP_INSUFFICIENT_SPACE, exact += form == 2 && placed.number == 0 && l2cap_answer_kind(placed.answer) == L2CAP_ANSWER_JOB && l2cap_answer_job_length(placed.answer) == 4;
@@ -331,8 +365,9 @@ int main(void) {
     for (k = 0; k < CALLS; k++) check(done[k] > 1000 && (k == 4 || k == 5 || turned_down[k] > 1000), names[k]);
     check(above > 50 && below > 1000, "frames above our MPS, and responses below the least");
     check(kept > 1000 && exact > 1000, "takes into buffers that are too short, and just long enough");
+    check(counted > 1000 && wrapped > 1000, "tallies that change, and that wrap");
     printf("%u calls compared\n", compared);
-    for (fault = 1; fault <= 18; fault++) {
+    for (fault = 1; fault <= 22; fault++) {
         differing = compared = 0, fault_at = 40 + fault;
         was = bases[0];
         for (k = 0; k < 8; k++) calls((uint8_t)k, "a fault", fault);

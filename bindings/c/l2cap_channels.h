@@ -5,7 +5,7 @@
  * table must not run at the same time, unless all of them are questions.
  *
  * The machine. x86-64, the System V ABI, C99 or C++11 at least. The archive needs memcpy and memset, a C library's or yours, and nothing else; SSE2 and its registers xmm0 to xmm15, for no floating-point number, so that a
- * kernel or an interrupt handler that calls it saves them; a stack aligned to 16 octets, as the ABI has it, of some 9 KiB; and the 128 octets below the stack pointer (the red zone): what interrupts a call on its own stack leaves them alone.
+ * kernel or an interrupt handler that calls it saves them; a stack aligned to 16 octets, as the ABI has it, of some 16 KiB; and the 128 octets below the stack pointer (the red zone): what interrupts a call on its own stack leaves them alone.
  * docs/PERFORMANCE.md has the figures, and a command for a firmware without a C library.
  *
  * table   L2CAP_TABLE_OCTETS octets, written by l2cap_make. Octets that spell no table, and another length, are refusal 1 in every call, and stay as they are.
@@ -13,7 +13,7 @@
  *           0       its kind (enum l2cap_answer)
  *           1       the refusal's number, or 0
  *           2..6    how many octets go out: they stand at the start of `signal`, `out` or an open job's `buffer`
- *           6..14   four numbers, by the kind (of a run two, of four octets each)
+ *           6..14   four numbers, by the kind (of a run two, of four octets each; of a question about a slot one, of eight)
  *           14..16  zeros
  *         Numbers have the lower octet first.
  * room    the memory in which jobs arrive and wait: L2CAP_ROOM_OCTETS(n, d, m) octets, zeroed by l2cap_make. Another length is refusal 2. Octets of no live job are zero.
@@ -30,7 +30,7 @@
  * leaves an open channel on which nothing can be sent. Our own numbers are not tested: a peer that keeps to Core refuses a request of ours with less, and disconnects a channel that we accept with less. The defaults are never less.
  *
  * Refusals. Each call's comment has them in the order in which they are tested: the first that fits is given; a number stands twice where it is tested twice. Where the comment says no more, a refused call has changed
- * nothing but the answer. docs/REFUSALS.md has what to do next.
+ * nothing but the answer. docs/REFUSALS.md has what to do next. Two are counted, 10 and 14: see Tallies.
  *
  * Holds. A slot whose channel has ended is used again once nobody holds it. l2cap_next_pending takes a hold on the slot that it gives, l2cap_opened on the channel that it finds open; l2cap_inc_ref takes one more.
  * Whoever got a hold gives it back by l2cap_dec_ref, when it has no more use for the channel, and also after the channel has ended: a peer's disconnect and l2cap_disconnected leave holds as they are. Only l2cap_reject_pending and
@@ -46,7 +46,13 @@
  * start to its end, and lends every portion of it the buffer as this job's last call left it; a frame that is given out stands at its start, until the job's next portion writes over it: send it, or copy it, before that. A buffer
  * that two jobs share, or that somebody wrote to, is not found out: its frames carry what stands there. A slot has one job open at a time; while it is, a second start and l2cap_send are refused by 24. Whatever ends the channel
  * closes the job too, and the next portion is refused by 11: the phone has half a job then, and the credits are gone with the channel. Keep your hold on the slot until the job's end or that 11: a slot that was given back can be another
- * phone's, and a portion would go into that phone's job. All other calls are free between two portions. */
+ * phone's, and a portion would go into that phone's job. All other calls are free between two portions.
+ *
+ * Tallies. Each slot has four numbers for a service screen, of 64 bits, which wrap: frames sent, frames received, sends that were blocked and frames that were. l2cap_tally_sent and the three behind it ask them, and l2cap_answer_tally
+ * reads the answer; a slot without a channel has zeros. Sent: a send adds its frames when it isn't refused, a start of a job in portions all of its frames at once; portions add nothing, and a cancel takes nothing back. Received: 1 for each frame
+ * that used a credit, also where its job is dropped (21). Blocked: 1 for each send or start that 14 refused, however many frames it has, and 1 for each frame that 10 refused. 14 and 10 change that tally and nothing else; no other refusal counts.
+ * They are zeros again at once where our side ends an open channel: l2cap_disconnect, l2cap_disconnect_by_cid, the last l2cap_dec_ref, a frame refused by 9 or 19, credits above 65,535 (9), and a cancel behind a job's first frame; so what broke a
+ * channel isn't seen in them. Where the peer disconnects (0x06) they stand: read them before l2cap_next_disconnect, l2cap_opened or l2cap_disconnected frees the slot. Whatever frees a slot leaves zeros: a new channel counts from there. */
 #ifndef L2CAP_CHANNELS_H
 #define L2CAP_CHANNELS_H
 
@@ -57,10 +63,10 @@
 extern "C" {
 #endif
 
-/* It goes up when an entry's parameters, the table's layout or the answer's change. The archive has it in the name of an entry, l2cap_version_3. */
-#define L2CAP_CHANNELS_VERSION 3
+/* It goes up when an entry's parameters, the table's layout or the answer's change. The archive has it in the name of an entry, l2cap_version_4. */
+#define L2CAP_CHANNELS_VERSION 4
 
-#define L2CAP_TABLE_OCTETS 800
+#define L2CAP_TABLE_OCTETS 1312
 #define L2CAP_ANSWER_OCTETS 16
 #define L2CAP_SIGNAL_OCTETS 18
 #define L2CAP_CID_BASE 0x40
@@ -92,11 +98,11 @@ enum l2cap_refusal {
     L2CAP_INVALID_CHANNEL_ID = 7,    /* a frame's CID is no slot's */
     L2CAP_NOT_FOUND = 8,             /* no slot fits, or no job is open in it; an unmatched connect response has freed every attempt of its link */
     L2CAP_INVALID_VALUE = 9,         /* a signal longer than its PDU: a reject is written; a response with an MTU or MPS under 23, credits above 65,535, a frame above our MPS, a job above our MTU or a frame past its job's end: the channel is disconnecting */
-    L2CAP_OUT_OF_MEMORY = 10,        /* a frame for which the peer had no credit */
+    L2CAP_OUT_OF_MEMORY = 10,        /* a frame for which the peer had no credit: it is counted (l2cap_tally_blocked_receives) */
     L2CAP_CHANNEL_CLOSED = 11,       /* the channel isn't open */
     L2CAP_INSUFFICIENT_SPACE = 12,   /* our MPS above m - 4 or our MTU above m - 6; a job above the peer's MTU; a buffer shorter than the job that l2cap_receive would take: the job waits on; a create has used an identifier */
     L2CAP_NO_CHANNEL_AVAILABLE = 13, /* no slot is free; the create has used an identifier */
-    L2CAP_BUSY = 14,                 /* the job needs more frames than we have credits */
+    L2CAP_BUSY = 14,                 /* the job needs more frames than we have credits: it is counted (l2cap_tally_blocked_sends) */
     L2CAP_DECODE = 15,               /* a signal that can't be read: a reject is written where its header can; a result that is no result code; a run that ends in the middle of a frame or a job: what was done before stands */
     L2CAP_NOT_SUPPORTED = 16,        /* an unknown signal: a reject is written */
     L2CAP_CONNECT_ERROR = 17,        /* the peer refused our request, with a result code: l2cap_signal leaves the slot failed, l2cap_opened has freed it */
@@ -121,7 +127,7 @@ enum l2cap_answer {
     L2CAP_ANSWER_FRAMES = 6,    /* link, count: of a start, the frames to come */
     L2CAP_ANSWER_JOB = 7,       /* link, length: the whole job */
     L2CAP_ANSWER_ATTENTION = 8, /* set, count, lowest */
-    L2CAP_ANSWER_NUMBER = 9,    /* the number asked for */
+    L2CAP_ANSWER_NUMBER = 9,    /* the number asked for: one of eight octets, of which all but a tally use two */
     L2CAP_ANSWER_EVENT = 10,    /* min, max, latency, timeout */
     L2CAP_ANSWER_RUN = 11,      /* calls made, octets that they took: two numbers of four octets each */
     L2CAP_ANSWER_PORTION = 12   /* link, octets taken, 1 where a frame is full and given out */
@@ -176,6 +182,11 @@ static inline uint16_t l2cap_answer_result(const uint8_t *answer) { return l2cap
 
 /* What a question asked for: an MTU, an MPS, an SPSM. */
 static inline uint16_t l2cap_answer_value(const uint8_t *answer) { return l2cap_answer_number(answer, 0); }
+
+/* What a question about a tally asked for: the four numbers as one of 64 bits, the first the lowest. (On a machine whose numbers have the lower octet first it is the uint64_t at octet 6, which is not aligned.) */
+static inline uint64_t l2cap_answer_tally(const uint8_t *answer) {
+    return l2cap_answer_number(answer, 0) | (uint64_t)l2cap_answer_number(answer, 1) << 16 | (uint64_t)l2cap_answer_number(answer, 2) << 32 | (uint64_t)l2cap_answer_number(answer, 3) << 48;
+}
 
 /* How many frames a job was cut into, or will be: the credits that it took or set aside. */
 static inline uint16_t l2cap_answer_frame_count(const uint8_t *answer) { return l2cap_answer_number(answer, 1); }
@@ -232,8 +243,8 @@ static inline size_t l2cap_run_job(uint8_t *run, size_t run_len, uint8_t slot, c
 
 /* ---- making a table */
 
-/* The archive's version: 3. An archive of another version has another name for it. */
-uint32_t l2cap_version_3(void);
+/* The archive's version: 4. An archive of another version has another name for it. */
+uint32_t l2cap_version_4(void);
 
 /* Makes a table of n slots, d waiting jobs a slot and packets of m octets.
  * Refusals: 1 2. They leave a table of no slots, which every call refuses by 1; the room, and a table of another length than L2CAP_TABLE_OCTETS, stay as they are.
@@ -241,12 +252,12 @@ uint32_t l2cap_version_3(void);
  * Answer: Done. */
 uint32_t l2cap_make(uint8_t *table, size_t table_len, uint8_t *answer, size_t answer_len, uint8_t *room, size_t room_len, uint16_t n, uint16_t d, uint16_t m);
 
-/* Whoever makes a table calls l2cap_version_3 before it: so no program that makes one links with an archive of another version, and the linker's message names the entry. One that only takes up a table which another program
+/* Whoever makes a table calls l2cap_version_4 before it: so no program that makes one links with an archive of another version, and the linker's message names the entry. One that only takes up a table which another program
  * made isn't held to it. It is a function behind the entry's name, and not a pointer that each file would hold, because linkers for firmware drop data that nobody reads. It takes one empty call.
  * It is a macro, and so asks two things: a struct with a member of that name is declared behind this include, and not before it; and a stand-in for the entry, in tests, is defined before the include or behind an #undef, with an
- * l2cap_version_3 beside it. */
+ * l2cap_version_4 beside it. */
 static inline uint32_t l2cap_make_of_this_version(uint8_t *table, size_t table_len, uint8_t *answer, size_t answer_len, uint8_t *room, size_t room_len, uint16_t n, uint16_t d, uint16_t m) {
-    (void)l2cap_version_3();
+    (void)l2cap_version_4();
     return l2cap_make(table, table_len, answer, answer_len, room, room_len, n, d, m);
 }
 #define l2cap_make l2cap_make_of_this_version
@@ -400,7 +411,7 @@ uint32_t l2cap_next_disconnect(uint8_t *table, size_t table_len, uint8_t *answer
 /* ---- jobs */
 
 /* Takes in a frame that came on a link: its CID, and its payload behind the L2CAP header.
- * Refusals: 1 2 4 7 8 10 9 19 9 9 21. 7 for a CID of no slot; where the channel isn't open the frame is dropped, Done; 8 where it is another link's, 10 where the peer has no credit. Then a credit is used, and the table written: 9 for
+ * Refusals: 1 2 4 7 8 10 9 19 9 9 21. 7 for a CID of no slot; where the channel isn't open the frame is dropped, Done; 8 where it is another link's, 10 where the peer has no credit: that is counted (l2cap_tally_blocked_receives), and nothing else changes. Then a credit is used, and the table written: 9 for
  * a payload above our MPS (l2cap_mps), its two length octets counted, be it a job's first or a later one; 19 for a job's first frame under 2 octets, 9 for a job above our MTU, then for more octets than the job has: these leave the
  * channel disconnecting, and the job that arrives zeroed; waiting jobs stay. 21 where the job is complete and d wait already: it is dropped and zeroed, and the channel stays open.
  * Writes: table; room.
@@ -408,14 +419,14 @@ uint32_t l2cap_next_disconnect(uint8_t *table, size_t table_len, uint8_t *answer
 uint32_t l2cap_dispatch(uint8_t *table, size_t table_len, uint8_t *answer, size_t answer_len, uint8_t *room, size_t room_len, uint16_t link, uint16_t cid, const uint8_t *payload, size_t payload_len);
 
 /* Cuts a job into frames, each with its L2CAP header, one behind the other, and uses a credit for each.
- * Refusals: 1 6 11 24 12 23 20 14 3. 11 where the channel isn't open, 24 where a job is open in this slot (l2cap_start_job), 12 where the job is above the peer's MTU, 23 for 65,534 and 65,535 octets, 20 where the peer's MPS is under L2CAP_SIZE_LEAST, as no call leaves one, 14 where the frames are more than our credits,
+ * Refusals: 1 6 11 24 12 23 20 14 3. 11 where the channel isn't open, 24 where a job is open in this slot (l2cap_start_job), 12 where the job is above the peer's MTU, 23 for 65,534 and 65,535 octets, 20 where the peer's MPS is under L2CAP_SIZE_LEAST, as no call leaves one, 14 where the frames are more than our credits: that is counted (l2cap_tally_blocked_sends), and nothing else changes,
  * 3 where out has fewer octets than the job, its 2 length octets and 4 a frame. Nothing is sent by halves.
  * Writes: table; out.
  * Answer: Frames. */
 uint32_t l2cap_send(uint8_t *table, size_t table_len, uint8_t *answer, size_t answer_len, uint8_t *out, size_t out_len, uint8_t slot, const uint8_t *sdu, size_t sdu_len);
 
 /* Opens a job of so many octets, to be handed over in portions, and sets a credit aside for each of its frames: see Portions above.
- * Refusals: 1 6 11 24 12 23 20 14 3. As l2cap_send's, for a job of this length; 24 where one is open already, 3 where buffer has fewer than L2CAP_JOB_BUFFER_OCTETS octets for the peer's MPS and this length.
+ * Refusals: 1 6 11 24 12 23 20 14 3. As l2cap_send's, for a job of this length, 14 counted too; 24 where one is open already, 3 where buffer has fewer than L2CAP_JOB_BUFFER_OCTETS octets for the peer's MPS and this length.
  * Writes: table; buffer, the first six octets of the first frame: its header and the job's length. Nothing goes out yet.
  * Answer: Frames, those to come. */
 uint32_t l2cap_start_job(uint8_t *table, size_t table_len, uint8_t *answer, size_t answer_len, uint8_t *buffer, size_t buffer_len, uint8_t slot, size_t length);
@@ -457,7 +468,7 @@ uint32_t l2cap_receive(uint8_t *table, size_t table_len, uint8_t *answer, size_t
 uint32_t l2cap_dispatch_run(uint8_t *table, size_t table_len, uint8_t *answer, size_t answer_len, uint8_t *room, size_t room_len, const uint8_t *frames, size_t frames_len, uint8_t *answers, size_t answers_len);
 
 /* Cuts jobs into frames, one behind the other in `jobs`: slot, one octet; the job's length, two octets with the lower first; the job. Each is l2cap_send, on what the ones before it left: its frames stand in `out` behind those of
- * the jobs before it, l2cap_answer_written of its own answer is how many octets they have, and its link is there too. A job that is refused doesn't end the run, and writes nothing: the next is tried. So of two jobs for one slot the first
+ * the jobs before it, l2cap_answer_written of its own answer is how many octets they have, and its link is there too. A job that is refused doesn't end the run, and writes nothing to out: the next is tried. So of two jobs for one slot the first
  * can be refused, by 14 or 3, and the second, which is shorter, goes out. Where the jobs of a slot must keep their order, a run has one of them.
  * The run's octets are where a refused job still stands: keep them until each answer was looked at.
  * Refusals: 1 15 3. As l2cap_dispatch_run has them.
@@ -496,6 +507,26 @@ uint32_t l2cap_peer_mtu(const uint8_t *table, size_t table_len, uint8_t *answer,
  * Refusals: 1 6.
  * Answer: Number. */
 uint32_t l2cap_peer_mps(const uint8_t *table, size_t table_len, uint8_t *answer, size_t answer_len, uint8_t slot);
+
+/* The frames that a slot's channel has sent: those of every l2cap_send, and of every l2cap_start_job from its start on, that wasn't refused. l2cap_answer_tally reads it and the next three; see Tallies above for when they begin anew. 0 where it has no channel.
+ * Refusals: 1 6.
+ * Answer: Number. */
+uint32_t l2cap_tally_sent(const uint8_t *table, size_t table_len, uint8_t *answer, size_t answer_len, uint8_t slot);
+
+/* The frames that came for a slot's channel and used a credit of its peer's, those whose job was dropped (21) too. 0 where it has no channel.
+ * Refusals: 1 6.
+ * Answer: Number. */
+uint32_t l2cap_tally_received(const uint8_t *table, size_t table_len, uint8_t *answer, size_t answer_len, uint8_t slot);
+
+/* The sends and starts that 14 refused on a slot's channel, each once. 0 where it has no channel.
+ * Refusals: 1 6.
+ * Answer: Number. */
+uint32_t l2cap_tally_blocked_sends(const uint8_t *table, size_t table_len, uint8_t *answer, size_t answer_len, uint8_t slot);
+
+/* The frames that 10 refused on a slot's channel. 0 where it has no channel.
+ * Refusals: 1 6.
+ * Answer: Number. */
+uint32_t l2cap_tally_blocked_receives(const uint8_t *table, size_t table_len, uint8_t *answer, size_t answer_len, uint8_t slot);
 
 #ifdef __cplusplus
 }

@@ -75,6 +75,10 @@ static void calls(void) {
     CALL("mps", l2cap_mps(LENT, 0));
     CALL("peer_mtu", l2cap_peer_mtu(LENT, 0));
     CALL("peer_mps", l2cap_peer_mps(LENT, 0));
+    CALL("tally_sent", l2cap_tally_sent(LENT, 0));
+    CALL("tally_received", l2cap_tally_received(LENT, 0));
+    CALL("tally_blocked_sends", l2cap_tally_blocked_sends(LENT, 0));
+    CALL("tally_blocked_receives", l2cap_tally_blocked_receives(LENT, 0));
     n = l2cap_run_frame(run, sizeof run, 1, 0x7F, IN(start));
     n += l2cap_run_frame(run + n, sizeof run - n, 1, 0x40, IN(start));
     CALL("dispatch_run, two frames", l2cap_dispatch_run(LENT, IN(room), run, n, IN(answers)));
@@ -112,7 +116,7 @@ static void calls(void) {
     l2cap_create(LENT, IN(signal), 1, 0x80, DEFAULTS);
     CALL("signal, an unmatched response", SIGNAL(stranger));
     CALL("disconnected", l2cap_disconnected(LENT, IN(room), 1));
-    CALL("version_3", (void)l2cap_version_3());
+    CALL("version_4", (void)l2cap_version_4());
 }
 
 int main(void) {

@@ -1,4 +1,4 @@
-/* The archive from C and from C++: a phone connects, a job comes in and is taken, the link goes down; a channel of our own; runs of frames and jobs; jobs in portions; Core's least MTU and MPS, and frames at our own; buffers that are too short for a job; then the refusals that no script reaches. Every reader of an answer is used. */
+/* The archive from C and from C++: a phone connects, a job comes in and is taken, the link goes down; a channel of our own; runs of frames and jobs; jobs in portions; Core's least MTU and MPS, and frames at our own; buffers that are too short for a job; tallies; then the refusals that no script reaches. Every reader of an answer is used. */
 #include "l2cap_channels.h"
 #include <stdio.h>
 #include <string.h>
@@ -30,9 +30,9 @@ static int refused(uint32_t returned, enum l2cap_refusal refusal) {
 
 static int wrote(const uint8_t *in, const uint8_t *octets, size_t n) { return l2cap_answer_written(answer) == n && !memcmp(in, octets, n); }
 
-/* What a question of slot 0 answers: it is lent the table to read alone. */
+/* What a question of slot 0 answers: it is lent the table to read alone. A value has 16 bits, and zeros behind it. */
 static int asked(uint32_t (*question)(const uint8_t *, size_t, uint8_t *, size_t, uint8_t), unsigned value) {
-    return question(LENT, 0) == 0 && is(L2CAP_ANSWER_NUMBER) && l2cap_answer_value(answer) == value;
+    return question(LENT, 0) == 0 && is(L2CAP_ANSWER_NUMBER) && l2cap_answer_value(answer) == value && l2cap_answer_tally(answer) == value;
 }
 
 static int zeros(const uint8_t *p, size_t n) {
@@ -49,7 +49,7 @@ static void a_phone(void) {
     static const uint8_t grant[] = {8, 0, 5, 0, 0x16, 1, 4, 0, 0x40, 0, 1, 0};
     static const uint8_t sent[] = {5, 0, 0x50, 0, 3, 0, 1, 2, 3};
 
-    check(l2cap_version_3() == L2CAP_CHANNELS_VERSION, "the version is the header's");
+    check(l2cap_version_4() == L2CAP_CHANNELS_VERSION, "the version is the header's");
     memset(room, 7, sizeof room);
     check(ROOM == L2CAP_ROOM_OCTETS(N, D, M) && l2cap_make(LENT, IN(room), N, D, M) == 0 && is(L2CAP_ANSWER_DONE), "make");
     check(zeros(IN(room)), "making zeroes the room");
@@ -279,6 +279,16 @@ static uint8_t expected[L2CAP_TABLE_OCTETS], places[ROOM], payload[64];
 static size_t cell(uint8_t slot, unsigned column) { return 48 + 16 * (size_t)column + slot; }
 
 static void put(uint8_t *in, uint8_t slot, unsigned column, size_t n) { in[cell(slot, column)] = (uint8_t)n, in[cell(slot, column + 1)] = (uint8_t)(n >> 8); }
+
+/* Where a tally stands: in eight columns, the lowest octet first. */
+enum { SENT = 47, BLOCKED_SENDS = 55, RECEIVED = 63, BLOCKED_RECEIVES = 71 };
+static void put_tally(uint8_t *in, uint8_t slot, unsigned column, uint64_t n) {
+    unsigned k;
+    for (k = 0; k < 8; k++) in[cell(slot, column + k)] = (uint8_t)(n >> 8 * k);
+}
+static void put_tallies(uint8_t *in, uint8_t slot, uint64_t sent, uint64_t received, uint64_t blocked_sends, uint64_t blocked_receives) {
+    put_tally(in, slot, SENT, sent), put_tally(in, slot, RECEIVED, received), put_tally(in, slot, BLOCKED_SENDS, blocked_sends), put_tally(in, slot, BLOCKED_RECEIVES, blocked_receives);
+}
 static void put_state(uint8_t *in, uint8_t slot, uint8_t state, uint8_t value) { in[cell(slot, 0)] = state, in[cell(slot, 1)] = value; }
 static void put_peer(uint8_t *in, uint8_t slot, uint16_t cid, uint16_t mps, uint16_t mtu, uint16_t credits) { put(in, slot, 18, cid), put(in, slot, 20, mps), put(in, slot, 22, mtu), put(in, slot, 24, credits); }
 
@@ -381,9 +391,9 @@ static uint32_t comes(uint16_t link, uint16_t cid, size_t n) {
     return l2cap_dispatch(LENT, IN(room), link, cid, payload, n);
 }
 
-/* A frame uses a credit of 9; and one that ends the channel leaves nothing of the job that arrives. */
-static void used(void) { put(expected, 0, 13, 8), put(expected, 0, 15, 1); }
-static void ended(void) { used(), put_state(expected, 0, 6, 0), put(expected, 0, 26, 0), put(expected, 0, 28, 0), memset(places, 0, M - 6); }
+/* A frame uses a credit of 9, and is counted; and one that ends the channel leaves nothing of the job that arrives, and no tally. */
+static void used(void) { put(expected, 0, 13, 8), put(expected, 0, 15, 1), put_tally(expected, 0, RECEIVED, 1); }
+static void ended(void) { used(), put_tallies(expected, 0, 0, 0, 0, 0), put_state(expected, 0, 6, 0), put(expected, 0, 26, 0), put(expected, 0, 28, 0), memset(places, 0, M - 6); }
 
 /* Frames of our own MPS, of one octet less and of one more: a job's first, and a later one. */
 static void own_mps(void) {
@@ -405,7 +415,8 @@ static void own_mps(void) {
         }
 
     /* Behind a CID of no slot, another link's channel and a missing credit; before a full queue. */
-    check(accepted(23, 0) && comes(1, L2CAP_CID_BASE + N, 24) == L2CAP_INVALID_CHANNEL_ID && comes(2, L2CAP_CID_BASE, 24) == L2CAP_NOT_FOUND && comes(1, L2CAP_CID_BASE, 24) == L2CAP_OUT_OF_MEMORY && as_expected(), "7, 8 and 10 come first, and nothing changes");
+    check(accepted(23, 0) && comes(1, L2CAP_CID_BASE + N, 24) == L2CAP_INVALID_CHANNEL_ID && comes(2, L2CAP_CID_BASE, 24) == L2CAP_NOT_FOUND && as_expected(), "7 and 8 come first, and nothing changes");
+    check((put_tally(expected, 0, BLOCKED_RECEIVES, 1), comes(1, L2CAP_CID_BASE, 24) == L2CAP_OUT_OF_MEMORY) && as_expected(), "so does 10, and its tally alone changes");
     check(accepted(23, 9) && (table[cell(0, 30)] = 2, expect(), ended(), comes(1, L2CAP_CID_BASE, 24) == L2CAP_INVALID_VALUE) && as_expected(), "9 where the queue is full");
     check(comes(1, L2CAP_CID_BASE, 24) == 0 && as_expected(), "then the channel isn't open, and a frame is gone");
 
@@ -565,6 +576,195 @@ static void short_comes_last(void) {
     check(waits(M - 6, 3, 1) && l2cap_disconnected(LENT, IN(room), 1) == 0 && (expect(), nothing_written(take(0), L2CAP_CHANNEL_CLOSED)) && l2cap_mtu(LENT, 0) == 0 && !l2cap_answer_value(answer), "a freed slot is refusal 11, and its MTU is 0");
 }
 
+/* ---- tallies: every octet of table, room and buffers is looked at after every call */
+
+typedef uint32_t (*question)(const uint8_t *, size_t, uint8_t *, size_t, uint8_t);
+static const question tally[] = {l2cap_tally_sent, l2cap_tally_received, l2cap_tally_blocked_sends, l2cap_tally_blocked_receives};
+
+/* The four entries say so of a slot, and write nothing but their answers. */
+static int tallies(uint8_t slot, uint64_t sent, uint64_t received, uint64_t blocked_sends, uint64_t blocked_receives) {
+    const uint64_t said[] = {sent, received, blocked_sends, blocked_receives};
+    uint8_t before[L2CAP_TABLE_OCTETS];
+    unsigned k;
+    int same = 1;
+    memcpy(before, table, sizeof table);
+    for (k = 0; k < 4; k++) same = same && tally[k](LENT, slot) == 0 && is(L2CAP_ANSWER_NUMBER) && l2cap_answer_tally(answer) == said[k] && !l2cap_answer_written(answer) && zeros(answer + 14, 2);
+    return same && !memcmp(before, table, sizeof table);
+}
+
+/* A phone's channel in slot 0, with 2 credits of ours, and one on another link in slot 1, each with 5 of its own. */
+static int two_talk(void) {
+    uint8_t slot;
+    int made = anew();
+    for (slot = 0; slot < N; slot++) made = made && l2cap_signal(LENT, IN(room), IN(signal), (uint16_t)(1 + slot), 1, 0, IN(asks)) == 0 && l2cap_next_pending(LENT, (uint16_t)(1 + slot), 1) == 0 && l2cap_accept_pending(LENT, IN(signal), slot, L2CAP_DEFAULT, L2CAP_DEFAULT, L2CAP_EVERY, 1, L2CAP_DEFAULT) == 0;
+    memset(room, 0, sizeof room), memset(signal, 9, sizeof signal);
+    return expect(), made;
+}
+
+/* Nothing was written but what is expected of table and room: out is as it was painted. */
+static int only_expected(void) { return as_expected() && all(IN(out), 9); }
+
+/* What is counted of sends, and what isn't. */
+static void sends_are_counted(void) {
+    uint8_t run[200], answers[3 * L2CAP_ANSWER_OCTETS], buffer[32];
+    static uint8_t longest[65535];
+    size_t n = 0;
+    check(two_talk() && tallies(0, 0, 0, 0, 0) && tallies(1, 0, 0, 0, 0), "a new channel begins at zeros");
+    put(expected, 0, 24, 4), put_tally(expected, 0, SENT, 1);
+    check(l2cap_send(LENT, IN(out), 0, payload, 3) == 0 && as_expected() && tallies(0, 1, 0, 0, 0), "a send of one frame adds 1");
+    put(expected, 0, 24, 2), put_tally(expected, 0, SENT, 3);
+    check(l2cap_send(LENT, IN(out), 0, payload, 22) == 0 && as_expected() && tallies(0, 3, 0, 0, 0) && tallies(1, 0, 0, 0, 0), "one of two frames adds 2, in its own slot");
+    memset(out, 9, sizeof out), put_tally(expected, 0, BLOCKED_SENDS, 1);
+    check(refused(l2cap_send(LENT, IN(out), 0, payload, 60), L2CAP_BUSY) && only_expected() && tallies(0, 3, 0, 1, 0), "one of three frames is refusal 14: blocked once, and not one other octet");
+    put_tally(expected, 0, BLOCKED_SENDS, 2);
+    check(refused(l2cap_start_job(LENT, IN(out), 0, 60), L2CAP_BUSY) && only_expected() && tallies(0, 3, 0, 2, 0), "a start that is refused so is a blocked send too");
+    put_tally(expected, 0, BLOCKED_SENDS, 3);
+    check(refused(l2cap_send(LENT, NONE, 0, payload, 60), L2CAP_BUSY) && refused(l2cap_start_job(LENT, NONE, 0, 60), L2CAP_BUSY) && (put_tally(expected, 0, BLOCKED_SENDS, 4), only_expected()), "14 comes before 3, and counts");
+
+    /* Other refusals change nothing. */
+    check(refused(l2cap_send(LENT, out, 7, 0, payload, 2), L2CAP_NO_ROOM) && refused(l2cap_start_job(LENT, out, 7, 0, 2), L2CAP_NO_ROOM) && only_expected(), "3 counts nothing, neither as sent nor as blocked");
+    check(refused(l2cap_send(LENT, IN(out), 0, longest, 101), L2CAP_INSUFFICIENT_SPACE) && refused(l2cap_start_job(LENT, IN(out), 0, 101), L2CAP_INSUFFICIENT_SPACE) && only_expected(), "12");
+    check(refused(l2cap_send(LENT, IN(out), N, payload, 60), L2CAP_BAD_SLOT) && refused(l2cap_start_job(LENT, IN(out), N, 60), L2CAP_BAD_SLOT) && only_expected(), "6");
+    check((put(table, 0, 22, 65535), expect(), refused(l2cap_send(LENT, IN(out), 0, longest, 65534), L2CAP_TOO_LONG)) && refused(l2cap_start_job(LENT, IN(out), 0, 65535), L2CAP_TOO_LONG) && only_expected(), "23");
+    check((put(table, 0, 20, 22), expect(), refused(l2cap_send(LENT, IN(out), 0, payload, 60), L2CAP_BAD_MPS)) && refused(l2cap_start_job(LENT, IN(out), 0, 60), L2CAP_BAD_MPS) && only_expected(), "20");
+    check((table[6] = 1, expect(), refused(l2cap_send(LENT, IN(out), 0, payload, 60), L2CAP_BAD_TABLE)) && refused(l2cap_start_job(LENT, IN(out), 0, 60), L2CAP_BAD_TABLE) && only_expected(), "1");
+    check(anew() && refused(l2cap_send(LENT, IN(out), 0, payload, 60), L2CAP_CHANNEL_CLOSED) && refused(l2cap_start_job(LENT, IN(out), 0, 60), L2CAP_CHANNEL_CLOSED) && only_expected() && tallies(0, 0, 0, 0, 0), "11");
+
+    /* In portions: the start adds all, portions add nothing, a cancel takes nothing back. */
+    memset(buffer, 9, sizeof buffer);
+    check(two_talk() && (put(expected, 0, 24, 3), put(expected, 0, 39, 30), put(expected, 0, 43, 2), put(expected, 0, 45, 2), put_tally(expected, 0, SENT, 2), l2cap_start_job(LENT, IN(buffer), 0, 30) == 0) && as_expected() && tallies(0, 2, 0, 0, 0), "a start adds its frames");
+    check(refused(l2cap_send(LENT, IN(out), 0, payload, 60), L2CAP_JOB_OPEN) && refused(l2cap_start_job(LENT, IN(out), 0, 60), L2CAP_JOB_OPEN) && only_expected(), "24 counts nothing, though 14 would be due");
+    check(l2cap_give_portion(LENT, IN(buffer), 0, payload, 5) == 0 && l2cap_give_portion(LENT, IN(buffer), 0, NONE) == 0 && tallies(0, 2, 0, 0, 0), "portions add nothing");
+    check(refused(l2cap_give_portion(LENT, IN(buffer), 0, payload, 26), L2CAP_WRONG_LENGTH) && refused(l2cap_give_portion(LENT, buffer, 26, 0, payload, 1), L2CAP_NO_ROOM) && tallies(0, 2, 0, 0, 0), "nor do their refusals");
+    check(l2cap_cancel_job(LENT, IN(room), 0) == 0 && (expect(), put(expected, 0, 24, 5), as_expected()) && tallies(0, 2, 0, 0, 0), "a cancel before the first frame gives credits back, and no tally");
+    check(refused(l2cap_cancel_job(LENT, IN(room), 0), L2CAP_NOT_FOUND) && refused(l2cap_give_portion(LENT, IN(buffer), 0, payload, 1), L2CAP_NOT_FOUND) && as_expected(), "8 counts nothing");
+    check(in_portions(0, buffer, 27, payload, 30, 7, out) == 40 && tallies(0, 4, 0, 0, 0), "a whole job in portions adds its frames once");
+    check(l2cap_start_job(LENT, IN(buffer), 1, 30) == 0 && l2cap_give_portion(LENT, IN(buffer), 1, payload, 30) == 0 && l2cap_answer_portion_full(answer) && tallies(1, 2, 0, 0, 0), "a frame of another job is out");
+    check(l2cap_cancel_job(LENT, IN(room), 1) == 0 && tallies(1, 0, 0, 0, 0) && tallies(0, 4, 0, 0, 0), "a later cancel ends the channel, and its tallies");
+
+    /* A run: as so many sends. */
+    n = l2cap_run_job(IN(run), 0, payload, 60), n += l2cap_run_job(run + n, sizeof run - n, 1, payload, 3), n += l2cap_run_job(run + n, sizeof run - n, 0, payload, 60);
+    check(two_talk() && l2cap_send_run(LENT, IN(out), run, n, IN(answers)) == 0 && l2cap_answer_refusal(l2cap_run_answer(answers, 2)) == L2CAP_BUSY, "a run of three jobs, the last of which is refused");
+    put(expected, 0, 24, 2), put(expected, 1, 24, 4), put_tallies(expected, 0, 3, 0, 1, 0), put_tallies(expected, 1, 1, 0, 0, 0);
+    check(as_expected() && tallies(0, 3, 0, 1, 0) && tallies(1, 1, 0, 0, 0), "is counted as three sends");
+}
+
+/* What is counted of frames, and what isn't. */
+static void frames_are_counted(void) {
+    static const uint8_t closes[] = {0x06, 8, 4, 0, 0x40, 0, 0x50, 0};
+    uint8_t run[64], answers[4 * L2CAP_ANSWER_OCTETS];
+    size_t n = 0;
+    check(two_talk() && brings(3, 0xA1) == 0 && tallies(0, 0, 1, 0, 0), "a frame adds 1");
+    check(two_talk() && (payload[0] = 9, payload[1] = 0, l2cap_dispatch(LENT, IN(room), 1, L2CAP_CID_BASE, payload, 5)) == 0 && l2cap_dispatch(LENT, IN(room), 1, L2CAP_CID_BASE, payload, 1) == 0 && tallies(0, 0, 2, 0, 0), "frames of a half job too");
+    expect(), put_tally(expected, 0, BLOCKED_RECEIVES, 1);
+    check(l2cap_dispatch(LENT, IN(room), 1, L2CAP_CID_BASE, payload, 1) == L2CAP_OUT_OF_MEMORY && as_expected() && tallies(0, 0, 2, 0, 1) && tallies(1, 0, 0, 0, 0), "one without a credit is refusal 10: blocked, and not one other octet");
+    put_tally(expected, 0, BLOCKED_RECEIVES, 2);
+    check(l2cap_dispatch(LENT, IN(room), 1, L2CAP_CID_BASE, NONE) == L2CAP_OUT_OF_MEMORY && as_expected(), "an empty one too");
+    check(l2cap_dispatch(LENT, IN(room), 1, L2CAP_CID_BASE + N, payload, 5) == L2CAP_INVALID_CHANNEL_ID && l2cap_dispatch(LENT, IN(room), 2, L2CAP_CID_BASE, payload, 5) == L2CAP_NOT_FOUND && as_expected(), "7 and 8 count nothing");
+    check(l2cap_dispatch(LENT, IN(room), 0x0F00, L2CAP_CID_BASE, payload, 5) == L2CAP_BAD_HANDLE && l2cap_dispatch(LENT, room, 1, 1, L2CAP_CID_BASE, payload, 5) == L2CAP_BAD_ROOM && as_expected(), "nor do 4 and 2");
+    check(l2cap_signal(LENT, IN(room), IN(signal), 1, 1, 0, IN(closes)) == 0 && (expect(), brings(3, 0xA1) == 0) && as_expected(), "nor does a frame that is dropped, since the channel isn't open");
+    check(waits(M - 6, 1, 2) && tallies(0, 0, 2, 0, 0) && brings(3, 0xC3) == L2CAP_QUEUE_FULL && tallies(0, 0, 3, 0, 0), "one whose job is dropped used its credit: 21 adds 1");
+
+    payload[0] = 0, payload[1] = 0; /* jobs of no octets, and two credits */
+    n = l2cap_run_frame(IN(run), 1, L2CAP_CID_BASE, payload, 2), n += l2cap_run_frame(run + n, sizeof run - n, 2, L2CAP_CID_BASE + 1, payload, 2), n += l2cap_run_frame(run + n, sizeof run - n, 1, L2CAP_CID_BASE, payload, 2), n += l2cap_run_frame(run + n, sizeof run - n, 1, L2CAP_CID_BASE, payload, 2);
+    check(two_talk() && l2cap_dispatch_run(LENT, IN(room), run, n, IN(answers)) == 0 && l2cap_answer_refusal(l2cap_run_answer(answers, 3)) == L2CAP_OUT_OF_MEMORY && tallies(0, 0, 2, 0, 1) && tallies(1, 0, 1, 0, 0), "a run is counted as its frames");
+}
+
+/* Numbers of 64 bits in both slots, of which every octet shows; table and room are what is expected. */
+static const uint64_t MARK = 0x0102030405060708;
+static void mark(void) {
+    uint8_t slot;
+    for (slot = 0; slot < N; slot++) put_tallies(table, slot, MARK, 2 * MARK, 3 * MARK, 4 * MARK);
+    expect();
+}
+static int marked(uint8_t slot) { return tallies(slot, MARK, 2 * MARK, 3 * MARK, 4 * MARK); }
+static int reset(uint32_t returned, uint32_t refusal) { return returned == refusal && tallies(0, 0, 0, 0, 0) && marked(1); }
+static int two_marked(void) { return two_talk() ? (mark(), 1) : 0; }
+
+/* Our side ends an open channel: its tallies are zeros at once, and no other slot's. */
+static void ours_resets(void) {
+    static const uint8_t overflow[] = {0x16, 9, 4, 0, 0x50, 0, 0xFF, 0xFF};
+    uint8_t buffer[32];
+    check(two_marked() && marked(0) && reset(l2cap_disconnect(LENT, IN(room), 0), 0), "disconnect");
+    put_state(expected, 0, 6, 0), put_tallies(expected, 0, 0, 0, 0, 0);
+    check(as_expected(), "state and tallies alone");
+    check(two_marked() && reset(l2cap_disconnect_by_cid(LENT, IN(room), L2CAP_CID_BASE), 0), "disconnect by CID");
+    check(two_marked() && l2cap_inc_ref(LENT, 0) == 0 && l2cap_dec_ref(LENT, IN(room), 0) == 0 && marked(0) && reset(l2cap_dec_ref(LENT, IN(room), 0), 0), "the last release, and none before it");
+    check(two_marked() && reset(comes(1, L2CAP_CID_BASE, 61), L2CAP_INVALID_VALUE), "a frame above our MPS");
+    check(two_marked() && (memset(payload, 0xFF, sizeof payload), reset(l2cap_dispatch(LENT, IN(room), 1, L2CAP_CID_BASE, payload, 5), L2CAP_INVALID_VALUE)), "a job above our MTU");
+    check(two_marked() && (payload[0] = 1, payload[1] = 0, reset(l2cap_dispatch(LENT, IN(room), 1, L2CAP_CID_BASE, payload, 5), L2CAP_INVALID_VALUE)), "more octets than the job has");
+    check(two_marked() && reset(l2cap_dispatch(LENT, IN(room), 1, L2CAP_CID_BASE, payload, 1), L2CAP_SHORT_FRAME), "a short frame");
+    check(two_marked() && reset(l2cap_signal(LENT, IN(room), IN(signal), 1, 1, 0, IN(overflow)), L2CAP_INVALID_VALUE), "credits above 65,535");
+    check(two_marked() && l2cap_start_job(LENT, IN(buffer), 0, 30) == 0 && l2cap_give_portion(LENT, IN(buffer), 0, payload, 30) == 0 && tallies(0, MARK + 2, 2 * MARK, 3 * MARK, 4 * MARK) && reset(l2cap_cancel_job(LENT, IN(room), 0), 0), "a cancel behind a frame");
+    check(two_marked() && l2cap_disconnect(LENT, IN(room), 0) == 0 && (mark(), l2cap_disconnect(LENT, IN(room), 0) == 0) && l2cap_disconnect_by_cid(LENT, IN(room), L2CAP_CID_BASE) == 0 && as_expected(), "a disconnect of what isn't open resets nothing");
+}
+
+/* What frees a slot leaves zeros; the peer's disconnect alone doesn't. */
+static void frees_reset(void) {
+    static const uint8_t closes[] = {0x06, 8, 4, 0, 0x40, 0, 0x50, 0}, stranger[] = {0x15, 99, 10, 0, 0, 0, 0, 0, 0, 0, 0, 0, 0, 0}, responds[] = {0x07, 1, 4, 0, 0x50, 0, 0x40, 0}, fails[] = {0x15, 1, 10, 0, 0, 0, 0, 0, 0, 0, 0, 0, 4, 0}, opens[] = {0x15, 1, 10, 0, 0x50, 0, 100, 0, 23, 0, 5, 0, 0, 0};
+    check(two_marked() && l2cap_signal(LENT, IN(room), IN(signal), 1, 1, 0, IN(closes)) == 0 && marked(0) && marked(1), "the peer's disconnect keeps them");
+    put_state(expected, 0, 5, 8);
+    check(as_expected(), "the state alone has changed");
+    check(l2cap_disconnect(LENT, IN(room), 0) == 0 && l2cap_dec_ref(LENT, IN(room), 0) == 0 && marked(0), "and so does what we do then, but for a free");
+    check(reset(l2cap_next_disconnect(LENT, IN(room), IN(signal)), 0), "our response frees the slot");
+    check(l2cap_signal(LENT, IN(room), IN(signal), 3, 1, 0, IN(asks)) == 0 && l2cap_next_pending(LENT, 3, 1) == 0 && l2cap_answer_slot(answer) == 0 && l2cap_accept_pending(LENT, IN(signal), 0, L2CAP_DEFAULT, L2CAP_DEFAULT, L2CAP_EVERY, 1, 9) == 0 && tallies(0, 0, 0, 0, 0), "its next owner begins at zeros");
+    check(two_marked() && l2cap_signal(LENT, IN(room), IN(signal), 1, 1, 0, IN(closes)) == 0 && reset(l2cap_opened(LENT, IN(room), 0, 1, 1), L2CAP_DISCONNECTED), "the opened query frees it");
+    check(two_marked() && l2cap_signal(LENT, IN(room), IN(signal), 1, 1, 0, IN(closes)) == 0 && reset(l2cap_disconnected(LENT, IN(room), 1), 0), "link down frees it");
+    check(two_marked() && reset(l2cap_disconnected(LENT, IN(room), 1), 0), "link down of an open channel");
+    check(two_marked() && reset(l2cap_opened(LENT, IN(room), 0, 1, 0), L2CAP_DISCONNECTED), "the opened query of a link that is down");
+    check(two_marked() && l2cap_disconnect(LENT, IN(room), 0) == 0 && l2cap_next_disconnect(LENT, IN(room), IN(signal)) == 0 && (mark(), reset(l2cap_signal(LENT, IN(room), IN(signal), 1, 1, 0, IN(responds)), 0)), "the peer's response");
+    check(two_marked() && (table[cell(0, 17)] = 0, reset(l2cap_give_up(LENT, IN(room), 0), 0)), "an open channel that is given up");
+    check(anew() && attempt() && (mark(), reset(l2cap_give_up(LENT, IN(room), 0), 0)), "an attempt that is given up");
+    check(anew() && attempt() && (mark(), reset(l2cap_signal(LENT, IN(room), IN(signal), 1, 1, 0, IN(stranger)), L2CAP_NOT_FOUND)), "a response that fits no attempt");
+    check(anew() && attempt() && l2cap_signal(LENT, IN(room), IN(signal), 1, 1, 0, IN(fails)) == L2CAP_CONNECT_ERROR && (mark(), reset(l2cap_opened(LENT, IN(room), 0, 1, 1), L2CAP_CONNECT_ERROR)), "an attempt that failed");
+    check(anew() && attempt() && l2cap_signal(LENT, IN(room), IN(signal), 1, 1, 0, IN(opens)) == 0 && brings(3, 0xA1) == 0 && tallies(0, 0, 1, 0, 0) && l2cap_opened(LENT, IN(room), 0, 1, 1) == 0 && tallies(0, 0, 1, 0, 0), "an attempt that opens counts from its response on");
+    check(anew() && l2cap_signal(LENT, IN(room), IN(signal), 1, 1, 0, IN(asks)) == 0 && (mark(), reset(l2cap_reject_all_pending(LENT, IN(room), IN(signal), 1), 0)), "a pending that is rejected with all");
+    check(anew() && l2cap_signal(LENT, IN(room), IN(signal), 1, 1, 0, IN(asks)) == 0 && l2cap_next_pending(LENT, 1, 1) == 0 && (mark(), reset(l2cap_reject_pending(LENT, IN(room), IN(signal), 0, 4), 0)), "one that is rejected");
+    check(anew() && l2cap_signal(LENT, IN(room), IN(signal), 1, 1, 0, IN(asks)) == 0 && l2cap_next_pending(LENT, 1, 1) == 0 && (mark(), reset(l2cap_drop_pending(LENT, IN(room), 0), 0)), "one that is dropped");
+    check(two_marked() && l2cap_make(LENT, IN(room), N, D, M) == 0 && tallies(0, 0, 0, 0, 0) && tallies(1, 0, 0, 0, 0), "a new table");
+}
+
+/* Each wraps by itself, and a carry goes through its own eight octets alone. */
+static void tallies_wrap(void) {
+    static const uint8_t credits[] = {0x16, 9, 4, 0, 0x50, 0, 3, 0};
+    const uint64_t most = ~(uint64_t)0;
+    unsigned k;
+    for (k = 0; k < 8; k++) {
+        uint64_t at = most >> 8 * k; /* the tallies beside it are full: a carry into one would show */
+        two_talk(), put_tallies(table, 0, most, at, most, most), put_tallies(table, 1, most, most, most, most);
+        check(brings(3, 0xA1) == 0 && tallies(0, most, at + 1, most, most), "a frame");
+        put_tallies(table, 0, at - 1, most, most, most);
+        check(l2cap_send(LENT, IN(out), 0, payload, 60) == 0 && tallies(0, at + 2, most, most, most), "a send of three frames");
+        put_tallies(table, 0, most, most, at, most);
+        check(l2cap_send(LENT, IN(out), 0, payload, 60) == L2CAP_BUSY && tallies(0, most, most, at + 1, most), "a send that is blocked");
+        put_tallies(table, 0, most, most, at, most);
+        check(l2cap_start_job(LENT, IN(out), 0, 60) == L2CAP_BUSY && tallies(0, most, most, at + 1, most), "a start that is blocked");
+        put_tallies(table, 0, at, most, most, most);
+        check(l2cap_start_job(LENT, IN(out), 0, 30) == 0 && tallies(0, at + 2, most, most, most) && l2cap_cancel_job(LENT, IN(room), 0) == 0 && tallies(0, at + 2, most, most, most), "a start");
+        put(table, 0, 13, 0), put_tallies(table, 0, most, most, most, at);
+        check(brings(3, 0xA1) == L2CAP_OUT_OF_MEMORY && tallies(0, most, most, most, at + 1), "a frame that is blocked");
+        check(l2cap_signal(LENT, IN(room), IN(signal), 1, 1, 0, IN(credits)) == 0 && take(sizeof job) == 0 && tallies(0, most, most, most, at + 1) && tallies(1, most, most, most, most), "credits and a take leave them");
+    }
+}
+
+/* Any octets are a tally: refusal 1 looks at none of them, in slots of the table and past them. */
+static void any_tally(void) {
+    unsigned column, slot, octet;
+    int same = two_talk();
+    for (column = SENT; column < BLOCKED_RECEIVES + 8; column++)
+        for (slot = 0; slot < 16; slot++)
+            for (octet = 0; octet < 256; octet += 51) {
+                memcpy(table, expected, sizeof table), table[cell((uint8_t)slot, column)] = (uint8_t)octet;
+                same = same && l2cap_attention(LENT) == 0 && l2cap_send(LENT, IN(out), 0, payload, 3) == 0 && l2cap_register_spsm(LENT, 129) == 0;
+            }
+    check(same, "no tally makes a table none");
+    memcpy(table, expected, sizeof table), mark();
+    for (slot = 0; slot < 4; slot++) {
+        check(refused(tally[slot](LENT, N), L2CAP_BAD_SLOT) && refused(tally[slot](table, sizeof table - 1, answer, sizeof answer, 0), L2CAP_BAD_TABLE) && refused(tally[slot](NONE, answer, sizeof answer, 0), L2CAP_BAD_TABLE) && as_expected(), "a tally's refusals: 1 and 6");
+        check((table[6] = 1, refused(tally[slot](LENT, N), L2CAP_BAD_TABLE)) && (table[6] = 0, tally[slot](table, sizeof table, NONE, 0) == 0) && as_expected(), "1 before 6, and a question without an answer");
+    }
+}
+
 /* The octets of an answer, each number above what one octet holds. */
 static void readers(void) {
     static const uint8_t octets[L2CAP_ANSWER_OCTETS] = {L2CAP_ANSWER_DUE, 2, 0x01, 0x02, 0x03, 0x84, 0x11, 0x12, 0x13, 0x14, 0x15, 0x16, 0x17, 0x98, 0, 0};
@@ -575,6 +775,7 @@ static void readers(void) {
     check(l2cap_answer_job_length(octets) == 0x1413 && l2cap_answer_frame_count(octets) == 0x1413, "a job's length behind its link");
     check(l2cap_answer_portion_taken(octets) == 0x1413 && l2cap_answer_portion_full(octets) == 1, "a portion's numbers");
     check(l2cap_answer_run_count(octets) == 0x14131211 && l2cap_answer_run_used(octets) == 0x98171615, "a run's numbers, of four octets");
+    check(l2cap_answer_tally(octets) == 0x9817161514131211, "a tally, of eight octets");
     check(l2cap_run_answer(octets, 1) == octets + 16, "the next answer of a run");
 }
 
@@ -596,6 +797,12 @@ int main(void) {
     kept();
     short_while_disconnecting();
     short_comes_last();
+    sends_are_counted();
+    frames_are_counted();
+    ours_resets();
+    frees_reset();
+    tallies_wrap();
+    any_tally();
     readers();
     printf("%d passed, %d failed\n", passed, failed);
     return failed != 0;

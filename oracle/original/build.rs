@@ -13,12 +13,12 @@ const LINKED: [&str; 7] = ["codec.rs", "connection.rs", "connection_manager.rs",
 /// Included whole, before a child module that reads their private fields.
 const INCLUDED: [&str; 2] = ["channel_manager.rs", "l2cap/sar.rs"];
 
-/// Every feature that the files ask for. All are off: the first four by document 01, the others because they add nothing to a channel.
-const FEATURES_OFF: [&str; 13] = [
+/// Every feature that the files ask for. `channel-metrics` is on where the package has it (document 02, vi). The others are off: the first three by document 01, the rest because they add nothing to a channel.
+const FEATURES: [&str; 13] = [
     "l2cap-sdu-reassembly-optimization",
     "allow-reserved-l2cap-psu",
-    "channel-metrics",
     "connection-params-update",
+    "channel-metrics",
     "att-queued-writes",
     "central",
     "connection-metrics",
@@ -40,10 +40,11 @@ fn main() {
     let source = fs::canonicalize(&source).unwrap_or_else(|e| panic!("the original isn't at {}: {e}", source.display()));
     println!("cargo:rerun-if-env-changed=TROUBLE_HOST_SRC");
     guard(&source, &oracle.join("original.sha256"));
-    println!("cargo:rustc-check-cfg=cfg(feature, values(\"{}\"))", FEATURES_OFF.join("\", \""));
+    println!("cargo:rustc-check-cfg=cfg(feature, values(\"{}\"))", FEATURES.join("\", \""));
 
     let name = env::var("CARGO_PKG_NAME").expect("run by cargo");
-    println!("cargo:rustc-env=L2CAP_RX_QUEUE_SIZE={}", &name["original-d".len()..]);
+    let d = name["original-d".len()..].split('-').next().expect("a digit");
+    println!("cargo:rustc-env=L2CAP_RX_QUEUE_SIZE={d}");
 
     let out = PathBuf::from(env::var("OUT_DIR").expect("run by cargo")).join("original");
     let _ = fs::remove_dir_all(&out);

@@ -16,6 +16,7 @@ pub const OPTIONS: &str = "options:
   --outside N      of a hundred scripts, so many leave the domain on purpose (40)
   --view-every N   a view of the whole table after every N-th call or so (1)
   --longest N      calls of the longest script (120)
+  --counted N      the tallies of every channel start there, on both sides; not for a program (0)
   --limit N        seconds that a program has for a batch (300)";
 
 /// The words behind a command.
@@ -38,6 +39,7 @@ impl Words {
                 "--outside" => words.extent.outside = number()? as usize,
                 "--view-every" => words.extent.view_every = number()?.max(1) as usize,
                 "--longest" => words.extent.longest = number()?.max(3) as usize,
+                "--counted" => words.extent.counted = number()?,
                 "--limit" => words.limit = number()?,
                 "--" => {
                     words.command = given.collect();
@@ -98,15 +100,20 @@ pub fn compare(port: &mut dyn Port, extent: &Extent) -> ExitCode {
 }
 
 /// Ports with a planted fault each: every one has to be found, and none in the port without a fault.
-pub fn faults<P: Port>(mut plain: P, faulty: impl Iterator<Item = (&'static str, P)>, extent: &Extent) -> ExitCode {
-    println!("seed {}", extent.seed);
-    if !run(&mut plain, extent, 1, |_| {}).is_ok_and(|found| found.clean()) {
-        println!("the port differs without a planted fault");
-        return ExitCode::FAILURE;
+pub fn faults<P: Port>(
+    plain: impl IntoIterator<Item = (P, Extent)>,
+    faulty: impl IntoIterator<Item = (&'static str, P, Extent)>,
+) -> ExitCode {
+    for (mut port, extent) in plain {
+        println!("seed {}", extent.seed);
+        if !run(&mut port, &extent, 1, |_| {}).is_ok_and(|found| found.clean()) {
+            println!("the port differs without a planted fault");
+            return ExitCode::FAILURE;
+        }
     }
     let (mut hits, mut missed) = (0, 0);
-    for (title, mut port) in faulty {
-        match run(&mut port, extent, 1, |_| {}) {
+    for (title, mut port, extent) in faulty {
+        match run(&mut port, &extent, 1, |_| {}) {
             Ok(found) if !found.differences.is_empty() => {
                 let (script, difference) = &found.differences[0];
                 println!("found: {title} ({} calls; smallest script {} lines)", found.counts.calls, script.steps.len());

@@ -52,7 +52,7 @@ impl Counts {
                 }
             }
             if step.call == Call::View {
-                for row in step.original.iter().skip(1) {
+                for row in step.original.iter().skip(1).filter(|row| row.starts_with('=')) {
                     let state = row.split(' ').nth(2).unwrap_or_default().split(':').next().unwrap_or_default();
                     *self.states.entry(state.to_string()).or_default() += 1;
                 }

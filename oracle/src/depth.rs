@@ -1,7 +1,7 @@
 //! What deep places a run reached, counted: the list of issue texts and bench cases that a generator has to meet to be worth its time.
 
 use crate::kinds::{fields, grants, signal_verdict};
-use language::{signals, Answer, Call, Reply, SlotView, State, View, SIZE_LEAST};
+use language::{signals, Answer, Call, Reply, SlotView, State, Tallies, View, SIZE_LEAST};
 
 /// The notable things about one call, from the table before it and what the original answered.
 pub fn marks(view: &View, call: &Call, reply: &Reply) -> Vec<&'static str> {
@@ -13,6 +13,7 @@ pub fn marks(view: &View, call: &Call, reply: &Reply) -> Vec<&'static str> {
     if let (Call::Take { size, .. }, Some(slot)) = (call, named) {
         marks.extend(buffer(slot, *size));
     }
+    marks.extend(counted(view, call, answered));
     match call {
         Call::Frame { link, cid, payload } => {
             let slot = view.slot_of(*cid).map(|slot| &view.slots[slot]);
@@ -121,6 +122,75 @@ pub fn marks(view: &View, call: &Call, reply: &Reply) -> Vec<&'static str> {
     }
     if view.next_identifier == 255 && matches!(call, Call::Create { .. } | Call::NextDisconnect | Call::Take { .. }) {
         marks.push("identifier 255 before a request, grant or attempt");
+    }
+    marks
+}
+
+/// What counts, and what ends the counting of a channel that has counted.
+fn counted(view: &View, call: &Call, answered: Option<Answer>) -> Vec<&'static str> {
+    let has = |slot: &&SlotView| slot.tallies != slot.inherited;
+    let left = |slot: &&SlotView| slot.inherited != Tallies::default();
+    let cid = match call {
+        Call::Frame { cid, .. } | Call::DisconnectByCid { cid } => view.slot_of(*cid),
+        _ => call.slot().map(usize::from),
+    };
+    let named = cid.and_then(|slot| view.slots.get(slot));
+    let open = |slot: &SlotView| slot.state == State::Connected;
+    let done = answered == Some(Answer::Number(0));
+    let mut marks = Vec::new();
+    match (call, answered) {
+        (Call::Send { .. }, Some(Answer::Number(14))) => marks.push("a blocked send"),
+        (Call::Start { .. }, Some(Answer::Number(14))) => marks.push("a blocked start"),
+        (Call::Frame { .. }, Some(Answer::Number(10))) => marks.push("a blocked receive"),
+        (Call::Frame { .. }, Some(Answer::Number(9))) if named.filter(has).is_some() => {
+            marks.push("a frame ends a channel that has counted");
+        }
+        (Call::Disconnect { .. } | Call::DisconnectByCid { .. }, _) if named.filter(has).is_some_and(open) => {
+            marks.push("a disconnect of a channel that has counted");
+        }
+        (Call::Release { .. }, _) if named.filter(has).is_some_and(|slot| open(slot) && slot.hold == 1) => {
+            marks.push("a last release of a channel that has counted");
+        }
+        (Call::GiveUp { .. }, _) if named.filter(has).is_some_and(open) && done => marks.push("a give-up of a channel that has counted"),
+        (Call::Opened { up, link, .. }, Some(Answer::Number(18))) if named.filter(has).is_some_and(|slot| slot.link == *link) => {
+            marks.push(if *up {
+                "an attempt asked for behind its peer's disconnect, and it has counted"
+            } else {
+                "an attempt asked for with its link down, and it has counted"
+            });
+        }
+        (Call::LinkDown { link }, _) if view.slots.iter().filter(has).any(|slot| slot.is_of(*link)) => {
+            marks.push("a link down that has a channel that has counted");
+        }
+        (Call::NextDisconnect, _) => {
+            let due = view.slots.iter().find(|slot| slot.disconnect_due());
+            if due.filter(has).is_some() {
+                marks.push("a disconnect answered of a channel that has counted");
+            }
+        }
+        (Call::Accept { .. }, _) if done && named.filter(left).is_some() => {
+            marks.push("a pending accepted in a slot whose last owner's tallies stand")
+        }
+        (Call::Signal { link, pdu, .. }, _) => {
+            let of_link = |slot: &&SlotView| slot.is_of(*link);
+            for part in signals(pdu).unwrap_or_default() {
+                match part[0] {
+                    0x06 if view.slots.iter().filter(of_link).filter(has).any(open) => {
+                        marks.push("a peer's disconnect where its link has a channel that has counted");
+                    }
+                    0x15 if done
+                        && view.slots.iter().filter(of_link).filter(left).any(|slot| matches!(slot.state, State::Connecting(_))) =>
+                    {
+                        marks.push("an attempt answered in a slot whose last owner's tallies stand");
+                    }
+                    0x16 if answered == Some(Answer::Number(9)) && view.slots.iter().filter(of_link).filter(has).any(open) => {
+                        marks.push("credits past 65,535 where their link has a channel that has counted");
+                    }
+                    _ => {}
+                }
+            }
+        }
+        _ => {}
     }
     marks
 }

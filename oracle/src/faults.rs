@@ -4,7 +4,7 @@
 use crate::kinds::Kind;
 use crate::port::Port;
 use crate::script::{Script, Step};
-use language::{hex, played, Call, Manner, Row};
+use language::{hex, played, Call, Manner, Row, State, Tallies, BASE_ID};
 
 #[derive(Clone, Copy, Debug, PartialEq, Eq)]
 pub enum Fault {
@@ -39,10 +39,22 @@ pub enum Fault {
     ShortGranted,
     LengthOnce,
     LengthOff,
+    TalliesTurned,
+    TallyNextSlot,
+    TallyBlockedFrames,
+    TallyFullQueue,
+    TallyNoCredit,
+    TallyLeftByUs,
+    TallyLeftByFree,
+    TallyLostByPeer,
+    TallyStart,
+    TallyPortion,
+    TallyCancel,
+    TallyOctet,
 }
 
 impl Fault {
-    pub const ALL: [Fault; 30] = [
+    pub const ALL: [Fault; 42] = [
         Fault::LostLine,
         Fault::TakenOctet,
         Fault::CidsTurned,
@@ -73,6 +85,18 @@ impl Fault {
         Fault::ShortGranted,
         Fault::LengthOnce,
         Fault::LengthOff,
+        Fault::TalliesTurned,
+        Fault::TallyNextSlot,
+        Fault::TallyBlockedFrames,
+        Fault::TallyFullQueue,
+        Fault::TallyNoCredit,
+        Fault::TallyLeftByUs,
+        Fault::TallyLeftByFree,
+        Fault::TallyLostByPeer,
+        Fault::TallyStart,
+        Fault::TallyPortion,
+        Fault::TallyCancel,
+        Fault::TallyOctet,
     ];
 
     pub fn title(self) -> &'static str {
@@ -108,11 +132,22 @@ impl Fault {
             Fault::ShortGranted => "the frames that a grant is due for aren't in the view behind a short take",
             Fault::LengthOnce => "a taken job's length is printed once",
             Fault::LengthOff => "a taken job's length is printed one too many, the second time",
+            Fault::TalliesTurned => "the tallies of sends and of frames change places",
+            Fault::TallyNextSlot => "the tallies printed are the next slot's",
+            Fault::TallyBlockedFrames => "a blocked send counts its frames",
+            Fault::TallyFullQueue => "a job dropped at a full queue isn't counted as received",
+            Fault::TallyNoCredit => "a frame without a credit isn't counted",
+            Fault::TallyLeftByUs => "a channel that our side ends keeps its tallies",
+            Fault::TallyLeftByFree => "a freed slot keeps its tallies",
+            Fault::TallyLostByPeer => "a peer's disconnect resets the tallies",
+            Fault::TallyStart => "a start isn't counted",
+            Fault::TallyPortion => "a frame that a portion gives out is counted again",
+            Fault::TallyCancel => "a cancel takes a frame back from the tally",
+            Fault::TallyOctet => "a frame whose last octet is odd is counted twice",
         }
     }
 
-    /// `last` is the step before.
-    fn slip(self, step: &Step, last: Option<&Step>, lines: &mut Vec<String>, last_identifier: &mut u8) {
+    fn slip(self, step: &Step, kept: &mut Kept<'_>, lines: &mut Vec<String>) {
         let call = &step.call;
         match (self, call) {
             (Fault::TakenOctet, Call::Take { .. }) => change_words(&mut lines[0], |words| {
@@ -127,7 +162,7 @@ impl Fault {
                     words[1] = format!("{}{}{}", &words[1][..16], &words[1][20..], &words[1][16..20]);
                 }
             }),
-            (Fault::IdentifierZero, _) => follow_identifier(call, &mut lines[0], last_identifier),
+            (Fault::IdentifierZero, _) => follow_identifier(call, &mut lines[0], &mut kept.identifier),
             (Fault::WrongResult, Call::Signal { .. }) => {
                 lines.iter_mut().filter(|line| line.ends_with("00000a00")).for_each(|line| *line = line.replace("00000a00", "00000400"));
             }
@@ -201,7 +236,7 @@ impl Fault {
                 }
             }),
             (Fault::ShortDropped | Fault::ShortGranted, Call::View) => {
-                if let Some(slot) = last.and_then(short) {
+                if let Some(slot) = kept.last.and_then(short) {
                     change_words(&mut lines[1 + usize::from(slot)], |words| self.slip_behind_short(words));
                 }
             }
@@ -215,6 +250,7 @@ impl Fault {
                     words[3] = (words[3].parse::<usize>().unwrap_or(0) + 1).to_string();
                 }
             }),
+            (_, Call::Tallies { slot }) if lines[0].starts_with("0 ") => self.slip_in_tallies(step, *slot, kept, &mut lines[0]),
             (_, Call::View) => lines.iter_mut().skip(1).for_each(|line| change_words(line, |words| self.slip_in_view(words))),
             _ => {}
         }
@@ -231,6 +267,45 @@ impl Fault {
         }
     }
 
+    /// `0 - sent received blocked_sends blocked_receives`
+    fn slip_in_tallies(self, step: &Step, slot: u16, kept: &mut Kept<'_>, line: &mut String) {
+        let Some(view) = step.after.last().map(|sight| &sight.view) else { return };
+        let (slots, at) = (&view.slots, usize::from(slot));
+        let (record, told) = (&slots[at], slots[at].tallies);
+        let acted = kept.acted.filter(|acted| about(acted) == Some(slot));
+        let answer = acted.and_then(|acted| acted.port[0].as_deref()).unwrap_or_default();
+        let tallies = match (self, acted.map(|acted| &acted.call)) {
+            (Fault::TalliesTurned, _) => Tallies { sent: told.received, received: told.sent, ..told },
+            (Fault::TallyNextSlot, _) => slots[(at + 1) % slots.len()].tallies,
+            (Fault::TallyBlockedFrames, Some(Call::Send { sdu, .. })) if answer == "14 -" => {
+                let frames = (sdu.len() + 2).div_ceil(record.peer_mps.into()) as u64;
+                Tallies { blocked_sends: told.blocked_sends - 1 + frames, ..told }
+            }
+            (Fault::TallyFullQueue, Some(Call::Frame { .. })) if answer == "21 -" => Tallies { received: told.received - 1, ..told },
+            (Fault::TallyNoCredit, Some(Call::Frame { .. })) if answer == "10 -" => {
+                Tallies { blocked_receives: told.blocked_receives - 1, ..told }
+            }
+            (Fault::TallyLeftByUs, _) if matches!(record.state, State::Disconnecting { .. }) => kept.tallies[at],
+            (Fault::TallyLeftByFree, _) if record.free() => kept.tallies[at],
+            (Fault::TallyLostByPeer, _) if matches!(record.state, State::PeerDisconnecting(_)) => Tallies::default(),
+            (Fault::TallyStart, Some(Call::Start { .. })) if answer.starts_with("0 ") => {
+                Tallies { sent: told.sent - u64::from(record.job.map_or(0, |job| job.aside)), ..told }
+            }
+            (Fault::TallyPortion, Some(Call::Portion { .. })) if answer.starts_with("0 ") && answer.ends_with(" 1") => {
+                Tallies { sent: told.sent + 1, ..told }
+            }
+            (Fault::TallyCancel, Some(Call::Cancel { .. })) if told.sent > 0 => Tallies { sent: told.sent - 1, ..told },
+            (Fault::TallyOctet, Some(Call::Frame { payload, .. }))
+                if answer == "0 -" && payload.last().is_some_and(|last| last % 2 == 1) =>
+            {
+                Tallies { received: told.received + 1, ..told }
+            }
+            _ => told,
+        };
+        kept.tallies[at] = told;
+        *line = tallies.numbers().iter().fold(Row::number(0), Row::column).to_string();
+    }
+
     /// The line of a slot whose take was short.
     fn slip_behind_short(self, words: &mut Vec<String>) {
         match self {
@@ -240,6 +315,26 @@ impl Fault {
             }
             _ => words[10] = "0".to_string(),
         }
+    }
+}
+
+/// What a fault knows of the calls before.
+#[derive(Default)]
+struct Kept<'a> {
+    /// The step before, and the last one that didn't only look.
+    last: Option<&'a Step>,
+    acted: Option<&'a Step>,
+    /// The last identifier that was given.
+    identifier: u8,
+    /// By slot: the tallies that `t` told last.
+    tallies: [Tallies; 16],
+}
+
+/// The slot that a step is about.
+fn about(step: &Step) -> Option<u16> {
+    match step.call {
+        Call::Frame { cid, .. } => cid.checked_sub(BASE_ID),
+        _ => step.call.slot(),
     }
 }
 
@@ -310,12 +405,13 @@ impl Port for Faulty {
         for (at, start) in starts.iter().enumerate() {
             let end = starts.get(at + 1).copied().unwrap_or(calls.len());
             let script = Script::in_manner(&calls[*start..end], manner).ok_or("a script of the domain starts with a table")?;
-            let mut last_identifier = 0;
-            let last = std::iter::once(None).chain(script.steps.iter().map(Some));
-            for (step, last) in script.steps.iter().zip(last) {
+            let mut kept = Kept::default();
+            for step in &script.steps {
                 let lines = step.port.iter().zip(&step.original).map(|(port, original)| port.as_ref().unwrap_or(original).clone());
                 let mut lines: Vec<String> = lines.collect();
-                self.0.slip(step, last, &mut lines, &mut last_identifier);
+                self.0.slip(step, &mut kept, &mut lines);
+                kept.last = Some(step);
+                kept.acted = if step.call.only_looks() { kept.acted } else { Some(step) };
                 rows.extend(lines);
             }
         }

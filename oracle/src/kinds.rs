@@ -35,10 +35,11 @@ pub enum Kind {
     BelowLeast = 50,
     LongerThanMps = 51,
     ShortTake = 54,
+    TalliesLeft = 55,
 }
 
 impl Kind {
-    pub const ALL: [Kind; 29] = [
+    pub const ALL: [Kind; 30] = [
         Kind::SpsmIgnored,
         Kind::SlotPanic,
         Kind::HeldPanic,
@@ -68,6 +69,7 @@ impl Kind {
         Kind::BelowLeast,
         Kind::LongerThanMps,
         Kind::ShortTake,
+        Kind::TalliesLeft,
     ];
 
     pub fn number(self) -> usize {
@@ -105,6 +107,7 @@ impl Kind {
             Kind::BelowLeast => "a peer's MTU or MPS below 23 is taken",
             Kind::LongerThanMps => "a frame longer than our MPS is taken",
             Kind::ShortTake => "a job is cut to a shorter buffer, and its rest is gone",
+            Kind::TalliesLeft => "tallies of the last owner stand in a freed slot, and the next one inherits them",
         }
     }
 }
@@ -166,7 +169,7 @@ pub fn verdict(view: &View, oldest_job: Option<&[u8]>, call: &Call) -> Option<Ve
             (Kind::LongFrame, ..) => {
                 Some(Verdict { kind: Kind::LongFrame, row: cut(sdu, slot.peer_mps, slot.peer_cid).to_string(), parts: true })
             }
-            (kind, number, sent) => refusal(kind, number, sent),
+            (kind, number, did) => refusal(kind, number, did != Did::Nothing),
         },
         (Call::Start { length, size, .. }, Some(slot)) => start(view, slot, usize::from(*length), usize::from(*size)),
         // Gone behind the first frame: the length octets and those taken aren't all in the frame that is being filled.
@@ -250,7 +253,8 @@ fn frame(view: &View, link: u16, cid: u16, payload: &[u8]) -> Option<Verdict> {
         return None;
     }
     if slot.link != link {
-        return refusal(Kind::FrameAnyLink, 8, slot.credits > 0);
+        // Without a credit the original counts it as blocked.
+        return refusal(Kind::FrameAnyLink, 8, true);
     }
     if slot.credits == 0 {
         return None;
@@ -286,7 +290,8 @@ fn no_packet(view: &View, link: u16, cid: u16) -> Option<Verdict> {
         None => (7, false),
         Some(slot) if slot.state != State::Connected => (0, false),
         Some(slot) if slot.link != link => (8, false),
-        Some(slot) if slot.credits == 0 => (10, false),
+        // Counted as blocked.
+        Some(slot) if slot.credits == 0 => (10, true),
         Some(_) => (9, true),
     };
     refusal(Kind::NoPacket, number, parts)
@@ -304,8 +309,17 @@ fn cut(sdu: &[u8], mps: u16, peer_cid: u16) -> Row {
     Row::number(0).octets(octets.collect()).column(n)
 }
 
-/// A job of so many octets that is sent or begun: the kind, what document 01 or 02 answers, and whether the original sends it.
-fn sending(view: &View, slot: &SlotView, length: usize) -> Option<(Kind, u16, bool)> {
+/// What the original does with a job.
+#[derive(PartialEq, Eq)]
+enum Did {
+    Nothing,
+    Sent,
+    /// It has counted it as blocked, or as sent before its frame was found too long.
+    Counted,
+}
+
+/// A job of so many octets that is sent or begun: the kind, what document 01 or 02 answers, and what the original does.
+fn sending(view: &View, slot: &SlotView, length: usize) -> Option<(Kind, u16, Did)> {
     let passes = length <= usize::from(slot.peer_mtu);
     if slot.state != State::Connected || !(passes || slot.job.is_some()) {
         return None;
@@ -315,13 +329,17 @@ fn sending(view: &View, slot: &SlotView, length: usize) -> Option<(Kind, u16, bo
     // The original's own count: its length sum stops at 65,535.
     let paid = (length + 2).min(65_535).div_ceil(mps) <= usize::from(slot.peer_credits);
     let fits = (length + 2).min(mps) + 4 <= usize::from(view.m);
-    let sent = passes && paid && fits;
+    let did = match passes {
+        false => Did::Nothing,
+        true if paid && fits => Did::Sent,
+        true => Did::Counted,
+    };
     if slot.job.is_some() {
-        Some((Kind::JobOpen, 24, sent))
+        Some((Kind::JobOpen, 24, did))
     } else if length >= 65_534 {
-        Some((Kind::TooLong, 23, sent))
+        Some((Kind::TooLong, 23, did))
     } else if paid && !fits {
-        Some((Kind::LongFrame, 0, false))
+        Some((Kind::LongFrame, 0, did))
     } else {
         None
     }
@@ -333,16 +351,16 @@ pub fn buffer(slot: &SlotView, length: usize) -> usize {
 }
 
 fn start(view: &View, slot: &SlotView, length: usize, size: usize) -> Option<Verdict> {
-    let (kind, number, sent) = sending(view, slot, length)?;
+    let (kind, number, did) = sending(view, slot, length)?;
     let short = size < buffer(slot, length);
     match kind {
-        Kind::LongFrame if short => refusal(kind, 3, false),
+        Kind::LongFrame if short => refusal(kind, 3, true),
         Kind::LongFrame => {
             let frames = (length + 2).div_ceil(slot.peer_mps.into());
             Some(Verdict { kind, row: Row::number(0).column(frames).to_string(), parts: true })
         }
         // The driver takes back what was sent with too short a buffer, but not beside an open job.
-        _ => refusal(kind, number, sent && (!short || kind == Kind::JobOpen)),
+        _ => refusal(kind, number, did == Did::Counted || did == Did::Sent && (!short || kind == Kind::JobOpen)),
     }
 }
 
@@ -475,8 +493,9 @@ fn credits(view: &View, link: u16, cid: u16, given: u16) -> Option<Verdict> {
 pub fn left_in(record: &SlotView) -> Vec<Kind> {
     let settled = record.settled();
     let mut kinds = Vec::new();
-    if (SlotView { jobs: settled.jobs.clone(), have: settled.have, want: settled.want, stale: settled.stale, ..record.clone() }) != settled
-    {
+    // Jobs and assembly are looked at below, and a view shows no tallies.
+    let SlotView { jobs, have, want, stale, tallies, inherited, .. } = settled.clone();
+    if (SlotView { jobs, have, want, stale, tallies, inherited, ..record.clone() }) != settled {
         kinds.push(Kind::NumbersLeft);
     }
     if record.jobs != settled.jobs {

@@ -15,3 +15,4 @@ pub mod run;
 pub mod script;
 pub mod shrink;
 pub mod twin;
+pub mod without;

@@ -19,6 +19,11 @@ pub fn session(n: u16, d: u16, m: u16, manner: Manner, feed: &mut dyn Feed) -> b
     }
 }
 
+/// The same on the build without `channel-metrics`, whose D is 2.
+pub fn plain_session(n: u16, m: u16, manner: Manner, feed: &mut dyn Feed) -> bool {
+    original_d2_plain::session(n, m, manner, feed)
+}
+
 /// What a call prints on a table of no slots.
 pub fn without_table(call: &Call) -> Reply {
     let refusal = || Row::number(1).not_run(NO_SLOTS);

@@ -17,11 +17,13 @@ pub struct Extent {
     pub outside: usize,
     pub view_every: usize,
     pub longest: usize,
+    /// The number at which the tallies of every channel start.
+    pub counted: u64,
 }
 
 impl Default for Extent {
     fn default() -> Self {
-        Self { seed: 1, calls: 100_000, batch: 100, outside: 40, view_every: 1, longest: 120 }
+        Self { seed: 1, calls: 100_000, batch: 100, outside: 40, view_every: 1, longest: 120, counted: 0 }
     }
 }
 
@@ -32,7 +34,7 @@ pub fn script(extent: &Extent, number: u64) -> Script {
     let plan = Plan { outside, view_every: extent.view_every, longest: extent.longest };
     let mut generator = Generator::new(seed, plan);
     let (n, d, m) = generator.sizes();
-    Script::judge(n, d, m, Manner::default(), &mut generator)
+    Script::judge(n, d, m, Manner { counted: extent.counted, ..Manner::default() }, &mut generator)
 }
 
 /// What a run found.
@@ -67,7 +69,7 @@ pub fn run(port: &mut dyn Port, extent: &Extent, most: usize, mut progress: impl
         let differences = port.differences(&scripts)?;
         for (at, difference) in differences.into_iter().take(most - found.differences.len()) {
             let whole = (scripts[at].clone(), difference);
-            found.differences.push(shrink(port, &scripts[at].calls()).unwrap_or(whole));
+            found.differences.push(shrink(port, &scripts[at]).unwrap_or(whole));
         }
         for made in &scripts {
             found.counts.add(made);

@@ -1,12 +1,15 @@
 //! A script judged: each call with what the original printed, what the port must print, and the differences that the list foretells.
-//! Where the list says that the tables part, the script ends.
+//! Where the list says that the tables part, the script ends: behind that call the port alone is looked at.
 
 use crate::depth::marks;
 use crate::foretell::foretold;
 use crate::kinds::{cuts, left_in, signal_verdicts, verdict, Kind, Verdict};
 use crate::play;
 use language::{can_be_made, Answer, Call, Eyes, Feed, Manner, Reply, Row, Sight, View, HIGHEST_LINK};
+use std::rc::Rc;
 
+/// Why the original isn't asked for a look.
+const PARTED: &str = "a look behind a call at which the tables part: the documents' rule decides";
 /// Why the original isn't asked for a take.
 const CUT: &str = "a take into a buffer that is shorter than the job: the original would cut it";
 
@@ -29,7 +32,7 @@ pub struct Step {
     /// What the port must print, line for line; none for the signals of a PDU behind one at which the tables part.
     pub port: Vec<Option<String>>,
     /// What must stand after the call: after each signal of an `S` line, up to one at which the tables part and that one included.
-    pub after: Vec<Sight>,
+    pub after: Vec<Rc<Sight>>,
     pub kinds: Vec<Kind>,
     pub not_run: Vec<&'static str>,
     /// What deep place this call met.
@@ -45,6 +48,7 @@ pub struct Step {
 /// A `T` line and the calls on its table.
 #[derive(Clone, Debug, Default)]
 pub struct Script {
+    pub manner: Manner,
     pub steps: Vec<Step>,
 }
 
@@ -54,7 +58,7 @@ impl Script {
         assert!(can_be_made(n, d, m), "a script starts with a table that can be made");
         let make = Reply::from(Row::number(0));
         let first = Step::plain(Call::Make { n, d, m }, &make);
-        let mut judge = Judge { source, asked: None, script: Script { steps: vec![first] }, parted: false };
+        let mut judge = Judge { source, asked: None, script: Script { manner, steps: vec![first] }, parted: false, stands: None };
         assert!(play::session(n, d, m, manner, &mut judge), "the original is built for this M");
         judge.script
     }
@@ -109,7 +113,7 @@ impl Step {
 /// What stood before the call that is being answered.
 struct Before {
     call: Call,
-    sight: Sight,
+    sight: Rc<Sight>,
     oldest_job: Option<Vec<u8>>,
 }
 
@@ -118,6 +122,14 @@ struct Judge<'a> {
     asked: Option<Before>,
     script: Script,
     parted: bool,
+    /// What stands, as the original has it and settled. A call that only looks leaves it, and a script has many of them.
+    stands: Option<(Rc<Sight>, Rc<Sight>)>,
+}
+
+fn stands(eyes: &dyn Eyes) -> (Rc<Sight>, Rc<Sight>) {
+    let sight = eyes.sight();
+    let settled = sight.clone().settled();
+    (Rc::new(sight), Rc::new(settled))
 }
 
 impl Feed for Judge<'_> {
@@ -126,9 +138,9 @@ impl Feed for Judge<'_> {
             return None;
         }
         loop {
-            let sight = eyes.sight();
+            let (sight, settled) = self.stands.get_or_insert_with(|| stands(eyes)).clone();
             // What the original left of the call before.
-            self.script.steps.last_mut().expect("a script has its first step").after.push(sight.clone().settled());
+            self.script.steps.last_mut().expect("a script has its first step").after.push(settled);
             let call = self.source.next(&sight.view)?;
             let named = call.slot().map(usize::from).filter(|slot| *slot < sight.view.slots.len());
             let oldest_job = match call {
@@ -147,10 +159,26 @@ impl Feed for Judge<'_> {
 
     fn answered(&mut self, reply: Reply) {
         let before = self.asked.take().expect("a reply follows a call");
+        self.stands = self.stands.take().filter(|_| before.call.only_looks());
         let (step, parted) = before.judge(&reply);
         self.parted = parted;
+        let stands = step.after.last().filter(|_| parted && !step.surprise && step.port.last().is_some_and(Option::is_some)).cloned();
         self.script.steps.push(step);
+        self.script.steps.extend(stands.iter().flat_map(looks));
     }
+}
+
+/// The view of a table that the port alone has, and each slot's tallies.
+fn looks(sight: &Rc<Sight>) -> Vec<Step> {
+    let tallies = sight.view.slots.iter().map(|record| record.tallies.numbers().iter().fold(Row::number(0), Row::column));
+    let tallies = (0..).zip(tallies).map(|(slot, row)| (Call::Tallies { slot }, Reply::from(row)));
+    let looks = std::iter::once((Call::View, Reply::from(sight.view.clone()))).chain(tallies);
+    let look = |(call, reply): (Call, Reply)| {
+        let mut step = Step::plain(call, &reply);
+        step.original.fill(Row::new(Answer::Skipped).to_string());
+        Step { not_run: vec![PARTED], after: vec![sight.clone()], ..step }
+    };
+    looks.map(look).collect()
 }
 
 impl Before {
@@ -168,7 +196,7 @@ impl Before {
         step.owner = named.filter(|record| !record.free()).map(|record| record.link);
         step.idle = named.is_none_or(|record| record.settled().want == 0);
         let verdicts = self.verdicts(reply);
-        step.after.extend(reply.between.iter().cloned().map(Sight::settled));
+        step.after.extend(reply.between.iter().map(|sight| Rc::new(sight.clone().settled())));
         let mut parted = false;
         for (at, (line, verdict)) in step.port.iter_mut().zip(&verdicts).enumerate() {
             if parted {
@@ -177,9 +205,9 @@ impl Before {
                 *line = Some(verdict.row.clone());
                 parted = verdict.parts;
                 if parted {
-                    let before = at.checked_sub(1).map_or(&self.sight, |last| &reply.between[last]);
+                    let before = at.checked_sub(1).map_or(&*self.sight, |last| &reply.between[last]);
                     step.after.truncate(at);
-                    step.after.push(foretold(before.clone().settled(), &self.call, at, verdict.kind));
+                    step.after.push(Rc::new(foretold(before.clone().settled(), &self.call, at, verdict.kind)));
                 }
             }
         }
@@ -195,7 +223,7 @@ impl Before {
         match &self.call {
             Call::Signal { link, .. } if *link > HIGHEST_LINK => Vec::new(),
             Call::Signal { link, listening, pdu, .. } => {
-                let before = std::iter::once(&self.sight).chain(&reply.between);
+                let before = std::iter::once(&*self.sight).chain(&reply.between);
                 signal_verdicts(*link, *listening, pdu, before.map(|sight| &sight.view))
             }
             call if call.link().is_some_and(|link| link > HIGHEST_LINK) => Vec::new(),
@@ -220,6 +248,13 @@ impl Before {
                 step.port[0] = Some(row.column(record.peer_mtu).column(record.peer_mps).to_string());
                 if step.port[0].as_ref() != step.original.first() {
                     step.kinds.push(Kind::NumbersLeft);
+                }
+            }
+            (Call::Tallies { .. }, _, Some(record)) => {
+                let row = record.settled().tallies.numbers().iter().fold(Row::number(0), Row::column);
+                step.port[0] = Some(row.to_string());
+                if step.port[0].as_ref() != step.original.first() {
+                    step.kinds.push(Kind::TalliesLeft);
                 }
             }
             (Call::Room { .. }, _, Some(record)) => {

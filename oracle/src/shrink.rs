@@ -5,21 +5,23 @@ use crate::compare::Difference;
 use crate::play::SIZES;
 use crate::port::Port;
 use crate::script::Script;
-use language::{signals, Call, Config, BASE_ID, HIGHEST_LINK, SLOTS};
+use language::{signals, Call, Config, Manner, BASE_ID, HIGHEST_LINK, SLOTS};
 
 /// The most tries for one script.
 const TRIES: usize = 3_000;
 
 struct Shrinker<'a> {
     port: &'a mut dyn Port,
+    manner: Manner,
     tries: usize,
     best: (Script, Difference),
 }
 
-/// The smallest script found, and its difference. None where the calls show none.
-pub fn shrink(port: &mut dyn Port, calls: &[Call]) -> Option<(Script, Difference)> {
-    let best = difference(port, calls)?;
-    let mut shrinker = Shrinker { port, tries: 0, best };
+/// The smallest script found, and its difference. None where the script shows none.
+pub fn shrink(port: &mut dyn Port, script: &Script) -> Option<(Script, Difference)> {
+    let manner = script.manner;
+    let best = difference(port, manner, &script.calls())?;
+    let mut shrinker = Shrinker { port, manner, tries: 0, best };
     loop {
         let before = shrinker.size();
         shrinker.leave_out();
@@ -32,8 +34,8 @@ pub fn shrink(port: &mut dyn Port, calls: &[Call]) -> Option<(Script, Difference
 }
 
 /// The script up to its first difference, if it has one.
-fn difference(port: &mut dyn Port, calls: &[Call]) -> Option<(Script, Difference)> {
-    let mut script = Script::of(calls)?;
+fn difference(port: &mut dyn Port, manner: Manner, calls: &[Call]) -> Option<(Script, Difference)> {
+    let mut script = Script::in_manner(calls, manner)?;
     let (_, difference) = port.differences(std::slice::from_ref(&script)).ok()?.into_iter().next()?;
     script.steps.truncate(difference.step + 1);
     Some((script, difference))
@@ -50,7 +52,7 @@ impl Shrinker<'_> {
             return false;
         }
         self.tries += 1;
-        match difference(self.port, calls) {
+        match difference(self.port, self.manner, calls) {
             Some(found) => {
                 self.best = found;
                 true
@@ -169,7 +171,7 @@ fn slot_mut(call: &mut Call) -> Option<&mut u16> {
         Accept { slot, .. } | Reject { slot, .. } | DropPending { slot } | Opened { slot, .. } | GiveUp { slot } => Some(slot),
         AddHold { slot } | Release { slot } | Disconnect { slot } | Send { slot, .. } | Take { slot, .. } => Some(slot),
         Start { slot, .. } | Portion { slot, .. } | Cancel { slot } => Some(slot),
-        Queries { slot } | Room { slot } | OpenJob { slot } => Some(slot),
+        Queries { slot } | Tallies { slot } | Room { slot } | OpenJob { slot } => Some(slot),
         _ => None,
     }
 }

@@ -9,9 +9,10 @@ use oracle::kinds::Kind;
 use oracle::play::{play, quiet};
 use oracle::rng::Rng;
 use oracle::run::{run, script, Extent};
-use oracle::script::Script;
+use oracle::script::{Script, Step};
 use oracle::shrink::shrink;
 use oracle::twin::Twin;
+use oracle::without::without;
 use std::io::Write;
 use std::path::Path;
 use std::process::{Command, Stdio};
@@ -190,6 +191,60 @@ fn buffers_around_the_job_are_met() {
     }
 }
 
+/// The places of document 02 (vi) that a run has to reach: what counts, and every way in which a channel that has counted ends or its numbers are handed on.
+#[test]
+fn what_counts_and_what_resets_is_met() {
+    quiet();
+    let mut counts = Counts::default();
+    (0..900).for_each(|number| counts.add(&script(&extent(1, 0), number)));
+    for mark in [
+        "a blocked send",
+        "a blocked start",
+        "a blocked receive",
+        "a frame ends a channel that has counted",
+        "a disconnect of a channel that has counted",
+        "a last release of a channel that has counted",
+        "a give-up of a channel that has counted",
+        "an attempt asked for with its link down, and it has counted",
+        "an attempt asked for behind its peer's disconnect, and it has counted",
+        "a link down that has a channel that has counted",
+        "a disconnect answered of a channel that has counted",
+        "a peer's disconnect where its link has a channel that has counted",
+        "credits past 65,535 where their link has a channel that has counted",
+        "a pending accepted in a slot whose last owner's tallies stand",
+        "an attempt answered in a slot whose last owner's tallies stand",
+    ] {
+        assert!(counts.marks.contains_key(mark), "{mark}");
+    }
+    assert!(counts.kinds.contains_key(&Kind::TalliesLeft));
+}
+
+/// After every call of a script each slot's tallies are looked at: so a run of a program compares them all.
+#[test]
+fn every_call_is_followed_by_every_slots_tallies() {
+    quiet();
+    let mut calls = 0;
+    for number in 0..60 {
+        let made = script(&extent(4, 0), number);
+        let Call::Make { n, .. } = made.steps[0].call else { panic!("a script starts with a table") };
+        let views: Vec<usize> = (1..made.steps.len()).filter(|at| made.steps[*at].call == Call::View).collect();
+        // The calls before the first view open the table; one that ends its script has no look behind it.
+        for at in &views {
+            let behind = made.steps[at + 1..].iter().take(n.into()).map(|step| step.call.clone());
+            assert!(behind.eq((0..n).map(|slot| Call::Tallies { slot })), "{}", made.text());
+            calls += 1;
+        }
+        let acted = |step: &&Step| !step.call.only_looks();
+        assert!(made.steps.iter().filter(acted).count() <= views.len() + opening(&made) + 1, "{}", made.text());
+    }
+    assert!(calls > 1_000);
+}
+
+/// The calls before a script's first look.
+fn opening(script: &Script) -> usize {
+    script.steps.iter().take_while(|step| step.call != Call::View).count()
+}
+
 /// The original isn't asked for a take that it would cut, and for no other. A script of the domain goes on behind it, nothing has changed, and the job that was kept is taken later.
 #[test]
 fn short_takes_alone_are_kept_from_the_original() {
@@ -259,6 +314,16 @@ fn what_must_stand_is_what_the_view_and_the_places_show() {
     }
 }
 
+/// What was found without `channel-metrics` stands with it on: both builds are driven. A build without the feature that differs otherwise is told.
+#[test]
+fn the_feature_counts_and_changes_nothing_else() {
+    quiet();
+    let extent = extent(3, 8_000);
+    let beside = without(&extent, Manner::default()).unwrap_or_else(|why| panic!("{why}"));
+    assert!(beside.calls >= 8_000 && beside.counted > 2_000, "{} {}", beside.calls, beside.counted);
+    assert!(without(&extent, Manner { lost_line: true, ..Manner::default() }).is_err());
+}
+
 #[test]
 fn the_original_agrees_with_itself() {
     quiet();
@@ -275,9 +340,8 @@ fn the_lost_line_is_found_and_made_small() {
     assert!(script.steps.len() < 16, "{}", script.text());
     assert_ne!(difference.expected, difference.got);
     // The small script still shows it, and shows nothing without the fault.
-    let calls = script.calls();
-    assert!(shrink(&mut Faulty(Fault::LostLine), &calls).is_some());
-    assert!(shrink(&mut Faulty(Fault::None), &calls).is_none());
+    assert!(shrink(&mut Faulty(Fault::LostLine), script).is_some());
+    assert!(shrink(&mut Faulty(Fault::None), script).is_none());
 }
 
 #[test]
@@ -299,6 +363,7 @@ fn twin_runs_find_octets_that_reach_another_link() {
     };
     assert_eq!(pairs(Fault::None), 0);
     assert!(pairs(Fault::LostLine) > 0);
+    assert!(pairs(Fault::TallyOctet) > 0);
 }
 
 /// With `confirm` called at once, as published, the original panics where the list says and nowhere else.

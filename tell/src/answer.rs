@@ -3,8 +3,8 @@
 use crate::look::{open_job, room, table};
 use crate::refusals::{refused, refused_so, result};
 use crate::seen::Seen;
-use crate::words::{count, list, parameters, short_hex, sizes};
-use language::{Answer, Call, JobView, Row, State, View};
+use crate::words::{count, list, parameters, short_hex, sizes, tallies};
+use language::{Answer, Call, JobView, Row, State, Tallies, View};
 
 /// The lines of an answer. `view` is what a `V` shows.
 pub fn answer(call: &Call, row: &Row, view: Option<&View>, before: &Seen) -> Vec<String> {
@@ -92,6 +92,9 @@ fn said(call: &Call, row: &Row, columns: &[u64], before: &Seen) -> Option<String
             let narrow = |number: &u64| u16::try_from(*number).ok();
             let (ours, its) = (sizes(narrow(mtu)?, narrow(mps)?), sizes(narrow(peer_mtu)?, narrow(peer_mps)?));
             format!("SPSM {spsm}; we take {ours}; the phone takes {its}")
+        }
+        (Call::Tallies { .. }, &[sent, received, blocked_sends, blocked_receives]) => {
+            tallies(Tallies { sent, received, blocked_sends, blocked_receives })
         }
         (Call::Room { slot }, _) => room(*slot, &row.octets, before),
         (Call::Frame { cid, .. }, _) => {

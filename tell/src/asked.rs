@@ -47,6 +47,7 @@ pub fn asked(call: &Call, before: &Seen) -> String {
         Call::Take { slot, size } => format!("take the oldest job of {} into a buffer of {}", at(slot), count(*size, "octet")),
         Call::Attention => "which slots call for attention?".to_string(),
         Call::Queries { slot } => format!("the numbers of slot {slot}"),
+        Call::Tallies { slot } => format!("the tallies of {}", at(slot)),
         Call::ParameterRequest { link, min, max, latency, timeout } => {
             format!("ask {} for {}", phone(*link), parameters(*min, *max, *latency, *timeout))
         }

@@ -2,8 +2,8 @@
 
 use crate::look::{progress, waiting};
 use crate::seen::{held, Held, Seen};
-use crate::words::{count, holds, phone, state};
-use language::{Answer, Call, Row, SlotView, State};
+use crate::words::{count, holds, phone, state, tallies};
+use language::{Answer, Call, Row, SlotView, State, Tallies};
 
 /// The changes, a line each; one line says so where there is none.
 pub fn changed(call: &Call, row: &Row, before: &Seen, after: &Seen) -> Vec<String> {
@@ -62,7 +62,15 @@ impl Step<'_> {
         let facts = [self.state(), self.arrival(), self.taken(), self.job(), self.credits(), self.peer_credits(), self.holds()];
         let facts = facts.into_iter().flatten().collect::<Vec<_>>().join("; ");
         let facts = Some(facts).filter(|facts| !facts.is_empty());
-        let told = [self.lost_arrival(), self.lost_jobs(), self.lost_open_job(), self.lost_disconnect(), facts, self.left_behind()];
+        let told = [
+            self.lost_arrival(),
+            self.lost_jobs(),
+            self.lost_open_job(),
+            self.lost_disconnect(),
+            facts,
+            self.tallies(),
+            self.left_behind(),
+        ];
         let mut lines: Vec<String> = told.into_iter().flatten().collect();
         let room = |seen: &Seen| seen.rooms.get(self.slot).cloned();
         if lines.is_empty() && (self.old != self.new || room(self.before) != room(self.after)) {
@@ -207,6 +215,20 @@ impl Step<'_> {
             0 => Some("no hold left".to_string()),
             hold => Some(holds(hold)),
         }
+    }
+
+    /// What was counted, or that all of it is gone. A line of its own: it changes nothing of the channel.
+    fn tallies(&self) -> Option<String> {
+        let (old, new) = (self.old.tallies, self.new.tallies);
+        if old == new {
+            return None;
+        }
+        if new == Tallies::default() {
+            return Some(format!("its tallies are zeros again, and were: {}", tallies(old)));
+        }
+        let names = ["frames sent", "frames received", "blocked sends", "blocked frames"];
+        let counted = names.into_iter().zip(old.numbers().into_iter().zip(new.numbers())).filter(|(_, (old, new))| old != new);
+        Some(counted.map(|(name, (old, new))| format!("{name} {old} → {new}")).collect::<Vec<_>>().join("; "))
     }
 
     /// The room rule broken: octets that are of no job any more.

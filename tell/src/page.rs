@@ -41,10 +41,6 @@ impl<W: Write> Page<W> {
         Ok(())
     }
 
-    pub fn end(&mut self) -> io::Result<()> {
-        self.0.flush()
-    }
-
     /// Where the page was written.
     pub fn into_inner(self) -> W {
         self.0

@@ -1,6 +1,6 @@
 //! What the program is given: the script with looking lines put in, so that its rows show what each call left.
 
-use language::{can_be_made, is_played, lines, signals, Call, Wrong};
+use language::{can_be_made, is_played, lines, signals, Call, Wrong, BASE_ID};
 use std::collections::BTreeSet;
 
 /// A line of a script.
@@ -20,22 +20,38 @@ pub struct Part {
     pub looked_at: Option<Looks>,
 }
 
-/// How many slots are looked at; and those in which a job in portions was begun since the table was made, whose open job is looked at too: no view shows it.
+/// How many slots are looked at; those in which a job in portions was begun since the table was made, whose open job is looked at too, and those that something was sent
+/// from or to since then, whose tallies are: no view shows these.
 #[derive(Clone, Debug, Default)]
 pub struct Looks {
     pub slots: u16,
     pub jobs: BTreeSet<u16>,
+    pub counted: BTreeSet<u16>,
 }
 
 impl Looks {
     fn note(&mut self, call: &Call) {
         match *call {
-            Call::Make { n, d, m } => *self = Self { slots: if can_be_made(n, d, m) { n } else { 0 }, jobs: BTreeSet::new() },
+            Call::Make { n, d, m } => *self = Self { slots: if can_be_made(n, d, m) { n } else { 0 }, ..Self::default() },
             Call::Start { slot, .. } if slot < self.slots => {
                 self.jobs.insert(slot);
             }
             _ => {}
         }
+        let counts = match *call {
+            Call::Send { slot, .. } | Call::Start { slot, .. } => Some(slot),
+            Call::Frame { cid, .. } => cid.checked_sub(BASE_ID),
+            _ => None,
+        };
+        self.counted.extend(counts.filter(|slot| *slot < self.slots));
+    }
+
+    /// The lines that look.
+    pub fn calls(&self) -> impl Iterator<Item = Call> + '_ {
+        let rooms = (0..self.slots).map(|slot| Call::Room { slot });
+        let jobs = self.jobs.iter().map(|slot| Call::OpenJob { slot: *slot });
+        let tallies = self.counted.iter().map(|slot| Call::Tallies { slot: *slot });
+        std::iter::once(Call::View).chain(rooms).chain(jobs).chain(tallies)
     }
 }
 
@@ -86,11 +102,7 @@ pub fn sent(script: &str) -> String {
             Ok(parts) => {
                 for Part { call, looked_at } in parts {
                     send(&call.to_string());
-                    if let Some(Looks { slots, jobs }) = looked_at {
-                        send(&Call::View.to_string());
-                        (0..slots).for_each(|slot| send(&Call::Room { slot }.to_string()));
-                        jobs.into_iter().for_each(|slot| send(&Call::OpenJob { slot }.to_string()));
-                    }
+                    looked_at.iter().flat_map(Looks::calls).for_each(|look| send(&look.to_string()));
                 }
             }
         }
@@ -109,7 +121,12 @@ mod tests {
         // From a start on its slot's open job is looked at too, until the next table.
         assert_eq!(
             sent("T 2 1 64\nN 1 5 11\nN 2 5 11\nn 1\nT 1 1 64"),
-            "T 2 1 64\nV\nM 0\nM 1\nN 1 5 11\nV\nM 0\nM 1\nn 1\nN 2 5 11\nV\nM 0\nM 1\nn 1\nn 1\nT 1 1 64\nV\nM 0\n"
+            "T 2 1 64\nV\nM 0\nM 1\nN 1 5 11\nV\nM 0\nM 1\nn 1\nt 1\nN 2 5 11\nV\nM 0\nM 1\nn 1\nt 1\nn 1\nT 1 1 64\nV\nM 0\n"
+        );
+        // And from something sent on, from a slot or to it, its tallies.
+        assert_eq!(
+            sent("T 2 1 64\nF 1 65 -\nt 0\nF 1 66 -\nF 1 63 -\nK 0 -\nT 1 1 64"),
+            "T 2 1 64\nV\nM 0\nM 1\nF 1 65 -\nV\nM 0\nM 1\nt 1\nt 0\nF 1 66 -\nV\nM 0\nM 1\nt 1\nF 1 63 -\nV\nM 0\nM 1\nt 1\nK 0 -\nV\nM 0\nM 1\nt 0\nt 1\nT 1 1 64\nV\nM 0\n"
         );
     }
 

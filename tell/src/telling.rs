@@ -8,7 +8,7 @@ use crate::page::Page;
 use crate::plan::{plan, Line, Looks, Part};
 use crate::seen::Seen;
 use crate::words::count;
-use language::{Answer, Call, JobView, Row, SlotView, View};
+use language::{Answer, Call, JobView, Row, SlotView, Tallies, View};
 use std::fmt;
 use std::io::{self, Write};
 
@@ -39,7 +39,7 @@ impl From<io::Error> for Trouble {
 
 /// Tells a script from the rows that a program printed for what `sent` makes of it. True where every line could be read.
 pub fn tell<W: Write>(script: &str, rows: &mut dyn Iterator<Item = io::Result<String>>, page: &mut Page<W>) -> Result<bool, Trouble> {
-    let mut rows = Rows { lines: rows, number: 0 };
+    let mut rows = Rows::new(rows);
     rows.begin()?;
     let mut seen = Seen::none();
     let mut all_read = true;
@@ -105,18 +105,33 @@ fn job(row: &Row) -> Option<JobView> {
     }
 }
 
+/// The numbers of a row that shows a slot's tallies.
+fn tallies(row: &Row) -> Option<Tallies> {
+    let numbers: Vec<u64> = row.columns.iter().map(|column| column.parse().ok()).collect::<Option<_>>()?;
+    match (row.answer, &numbers[..]) {
+        (Answer::Number(0), &[sent, received, blocked_sends, blocked_receives]) => {
+            Some(Tallies { sent, received, blocked_sends, blocked_receives })
+        }
+        _ => None,
+    }
+}
+
 /// A line of the program as a message shows it: its start, and nothing that a terminal takes for a command.
 fn cut(line: &str) -> String {
     line.chars().take(60).flat_map(char::escape_debug).collect()
 }
 
 /// The lines that the program prints, and the number of the script's line to which the next ones belong.
-struct Rows<'a> {
+pub(crate) struct Rows<'a> {
     lines: &'a mut dyn Iterator<Item = io::Result<String>>,
     number: usize,
 }
 
-impl Rows<'_> {
+impl<'a> Rows<'a> {
+    pub(crate) fn new(lines: &'a mut dyn Iterator<Item = io::Result<String>>) -> Self {
+        Self { lines, number: 0 }
+    }
+
     fn trouble(&self, why: impl fmt::Display) -> Trouble {
         match self.number {
             0 => Trouble::Rows(why.to_string()),
@@ -135,12 +150,17 @@ impl Rows<'_> {
         read(&line).ok_or_else(|| self.trouble(format!("the program printed `{}` where {what} must stand", cut(&line))))
     }
 
-    fn begin(&mut self) -> Result<(), Trouble> {
+    pub(crate) fn begin(&mut self) -> Result<(), Trouble> {
         self.read("the head line `answer octets`", |line| (line == "answer octets").then_some(()))
     }
 
-    fn row(&mut self) -> Result<Row, Trouble> {
+    pub(crate) fn row(&mut self) -> Result<Row, Trouble> {
         self.read("the row of its call", |line| Row::parse(line).filter(|row| row.answer != Answer::Unread))
+    }
+
+    /// The row of a call, or of a line that cannot be read: whether it could.
+    pub(crate) fn any(&mut self) -> Result<Row, Trouble> {
+        self.read("a row of the script", Row::parse)
     }
 
     fn unread(&mut self) -> Result<(), Trouble> {
@@ -148,7 +168,7 @@ impl Rows<'_> {
     }
 
     /// The view that a row begins.
-    fn view(&mut self, row: &Row) -> Result<View, Trouble> {
+    pub(crate) fn view(&mut self, row: &Row) -> Result<View, Trouble> {
         let numbers: Vec<u16> = row.columns.iter().map_while(|column| column.parse().ok()).collect();
         let begun = match (row.answer, &numbers[..]) {
             (Answer::Number(0), [n, d, m, identifier]) => u8::try_from(*identifier).ok().map(|identifier| (n, d, m, identifier)),
@@ -164,8 +184,8 @@ impl Rows<'_> {
         Ok(view)
     }
 
-    /// What stands after a call: the view, the room of each slot, and the open jobs.
-    fn seen(&mut self, Looks { slots, jobs }: &Looks) -> Result<Seen, Trouble> {
+    /// What stands after a call: the view, the room of each slot, the open jobs and the tallies.
+    fn seen(&mut self, Looks { slots, jobs, counted }: &Looks) -> Result<Seen, Trouble> {
         let row = self.row()?;
         let mut seen = Seen { view: self.view(&row)?, rooms: Vec::new() };
         if seen.view.n() != *slots {
@@ -182,10 +202,17 @@ impl Rows<'_> {
             let job = self.read(&format!("the open job of slot {slot}"), |line| Row::parse(line).and_then(|row| job(&row)))?;
             seen.view.slots[usize::from(*slot)].job = Some(job).filter(|job| job.aside != 0);
         }
+        for slot in counted {
+            seen.view.slots[usize::from(*slot)].tallies = self.tallies(*slot)?;
+        }
         Ok(seen)
     }
 
-    fn end(&mut self) -> Result<(), Trouble> {
+    pub(crate) fn tallies(&mut self, slot: u16) -> Result<Tallies, Trouble> {
+        self.read(&format!("the tallies of slot {slot}"), |line| Row::parse(line).and_then(|row| tallies(&row)))
+    }
+
+    pub(crate) fn end(&mut self) -> Result<(), Trouble> {
         match self.next()? {
             None => Ok(()),
             Some(_) => Err(Trouble::Rows("the program printed more rows than the script asks for".to_string())),

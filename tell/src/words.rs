@@ -1,11 +1,16 @@
 //! Words that many rows share.
 
 use crate::refusals::result;
-use language::{hex, Policy, SlotView, State};
+use language::{hex, Policy, SlotView, State, Tallies};
 
 /// `no jobs`, `1 job`, `2 jobs`.
 pub fn count(number: impl Into<usize>, thing: &str) -> String {
-    match number.into() {
+    // A length is below 2^64 on every machine that there is.
+    many(number.into() as u64, thing)
+}
+
+fn many(number: u64, thing: &str) -> String {
+    match number {
         0 => format!("no {thing}s"),
         1 => format!("1 {thing}"),
         number => format!("{number} {thing}s"),
@@ -19,6 +24,18 @@ pub fn list(items: &[String]) -> String {
         [one] => one.clone(),
         [first @ .., last] => format!("{} and {last}", first.join(", ")),
     }
+}
+
+/// What a slot's channel came to: `3 frames sent, 1 frame received; blocked: no sends, 2 frames`.
+pub fn tallies(tallies: Tallies) -> String {
+    let Tallies { sent, received, blocked_sends, blocked_receives } = tallies;
+    format!(
+        "{} sent, {} received; blocked: {}, {}",
+        many(sent, "frame"),
+        many(received, "frame"),
+        many(blocked_sends, "send"),
+        many(blocked_receives, "frame")
+    )
 }
 
 /// Octets where they are few, and the first of many.
@@ -89,6 +106,12 @@ mod tests {
         assert_eq!([0usize, 1, 2].map(|number| count(number, "job")), ["no jobs", "1 job", "2 jobs"]);
         let slots = |numbers: &[usize]| list(&numbers.iter().map(usize::to_string).collect::<Vec<_>>());
         assert_eq!([slots(&[]), slots(&[3]), slots(&[0, 1]), slots(&[0, 1, 2])], ["", "3", "0 and 1", "0, 1 and 2"]);
+    }
+
+    #[test]
+    fn tallies_have_64_bits() {
+        let most = Tallies { sent: u64::MAX, received: 1, blocked_sends: 0, blocked_receives: 2 };
+        assert_eq!(tallies(most), "18446744073709551615 frames sent, 1 frame received; blocked: no sends, 2 frames");
     }
 
     #[test]

@@ -2,7 +2,7 @@
 
 use std::ffi::OsString;
 use std::path::PathBuf;
-use tell::{plan, sent, tell, Line, Page, Program};
+use tell::{plan, screen, sent, tell, with_screen, Line, Page, Program};
 
 fn program(script: String) -> Program {
     let command = std::env::var("TELL_PROGRAM").expect("TELL_PROGRAM names a program");
@@ -43,6 +43,35 @@ fn examples_are_told_as_they_stand() {
     }
 }
 
+/// The service screens of examples/: those of the scripts beside them.
+#[test]
+#[ignore = "needs a program"]
+fn screens_are_shown_as_they_stand() {
+    let screens = files("examples", "screen");
+    assert!(!screens.is_empty());
+    for file in screens {
+        let script = text(&file.with_extension("script"));
+        let mut shown = Vec::new();
+        screen(&script, &mut program(with_screen(&script)).rows(), &mut shown).expect("rows that fit");
+        assert_eq!(String::from_utf8(shown).expect("text"), text(&file), "{}; `./chanrun --screen` writes it anew", file.display());
+    }
+}
+
+/// The looking lines of a screen leave every row of the script as it is, and a script that ends with them has the numbers that the screen shows.
+#[test]
+#[ignore = "needs a program"]
+fn a_screen_changes_no_row() {
+    for file in files("examples", "script") {
+        let script = text(&file);
+        let (own, all) = (printed(script.clone()), printed(with_screen(&script)));
+        assert!(all.len() > own.len() && all[..own.len()] == own, "{}", file.display());
+    }
+    let script = text(&PathBuf::from(env!("CARGO_MANIFEST_DIR")).join("../examples/service-screen.script"));
+    let (own, all) = (printed(script.clone()), printed(with_screen(&script)));
+    // `V` with its sixteen slots, and sixteen times `t`.
+    assert_eq!(all[all.len() - 33..], own[own.len() - 33..]);
+}
+
 /// Every change that the recorded scripts make has words, and leaves no octet behind.
 #[test]
 #[ignore = "needs a program"]
@@ -74,8 +103,8 @@ fn own(script: &str, printed: Vec<String>) -> Vec<String> {
         let Line::Played { asked, .. } = line else { continue };
         for looked_at in asked.map_or(vec![None], |parts| parts.into_iter().map(|part| part.looked_at).collect()) {
             own.extend(row());
-            // The view, each slot's room and open jobs, where they were looked at.
-            (0..looked_at.map_or(0, |looks| 1 + usize::from(looks.slots) + looks.jobs.len())).for_each(|_| drop(row()));
+            // The view, each slot's room, open jobs and tallies, where they were looked at.
+            (0..looked_at.map_or(0, |looks| looks.calls().count())).for_each(|_| drop(row()));
         }
     }
     own.extend(printed);

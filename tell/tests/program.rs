@@ -49,6 +49,19 @@ fn the_program_is_given_the_script_with_its_looking_lines() {
 }
 
 #[test]
+fn a_screen_is_shown_at_the_scripts_end() {
+    let echo = r#"printf 'answer octets\n'; while read -r line; do case $line in V) echo "0 - 0 0 0 1";; *) echo "1 -";; esac; done"#;
+    let output = run(&["--screen", "-", "sh", "-c", echo], "# a scene\nQ\nT 0 1 64\n");
+    assert_eq!((output.status.code(), &output.stdout[..]), (Some(0), &b"There is no table, and no slot.\n"[..]));
+    // Lines that cannot be read are named beside it.
+    let unread = r"printf 'answer octets\n? -\n1 -\n? -\n0 - 0 0 0 1\n'";
+    let said = "tell: line 1: `z` is no call\ntell: line 4: the word `slot` is missing: a number of 1 to 5 digits, at most 65535\n";
+    assert_eq!(ended(&["--screen", "-", "sh", "-c", &program(unread)], "z\nQ\n#\nt\n"), (Some(1), said.to_string()));
+    let why = (Some(2), "tell: the program's rows end where a row of the script must stand\n".to_string());
+    assert_eq!(ended(&["--screen", "-", "sh", "-c", &program(r"printf 'answer octets\n'")], "Q\n"), why);
+}
+
+#[test]
 fn octets_that_are_no_text_cannot_be_read() {
     let mut child = Command::new(TELL)
         .args(["-", "sh", "-c", &program(r"printf 'answer octets\n? -\n'")])
@@ -87,14 +100,14 @@ fn what_fails_is_said_in_one_sentence() {
 
 #[test]
 fn words_are_looked_at_first() {
-    for words in [&[][..], &["-"], &["--tell", "cat"], &["-x", "cat"]] {
+    for words in [&[][..], &["-"], &["--tell", "cat"], &["-x", "cat"], &["--screen", "-"], &["--screen", "--screen", "cat"]] {
         let (status, said) = ended(words, "");
         assert_eq!(status, Some(2), "{words:?}");
-        assert!(said.starts_with("usage: tell FILE PROGRAM"), "{words:?}: {said}");
+        assert!(said.starts_with("usage: tell [--screen] FILE PROGRAM"), "{words:?}: {said}");
     }
     let output = run(&["--help"], "");
     assert_eq!(output.status.code(), Some(0));
-    assert!(output.stdout.starts_with(b"usage: tell FILE PROGRAM"));
+    assert!(output.stdout.starts_with(b"usage: tell [--screen] FILE PROGRAM"));
 }
 
 #[test]
@@ -103,7 +116,8 @@ fn an_output_that_takes_nothing_is_a_failure() {
     // Where nothing can be said, the status stands.
     let status = Command::new(TELL).stderr(full()).status().expect("tell runs");
     assert_eq!(status.code(), Some(2));
-    for words in [&["-", "sh", "-c", "cat > /dev/null; echo answer octets"][..], &["--help"]] {
+    let no_table = "cat > /dev/null; echo answer octets; echo 0 - 0 0 0 1";
+    for words in [&["-", "sh", "-c", "cat > /dev/null; echo answer octets"][..], &["--screen", "-", "sh", "-c", no_table], &["--help"]] {
         let mut child =
             Command::new(TELL).args(words).stdin(Stdio::piped()).stdout(full()).stderr(Stdio::piped()).spawn().expect("tell runs");
         let _ = child.stdin.take().expect("piped").write_all(b"# a scene\n");

@@ -80,6 +80,7 @@ impl Random {
             "B n n",
             "I",
             "U n",
+            "t n",
             "Y n n n n n",
             "y n n",
             "V",
@@ -173,6 +174,10 @@ impl Random {
                 Call::OpenJob { slot } if slot < n => {
                     let numbers: Vec<String> = (0..4).map(|_| self.number().to_string()).collect();
                     rows += &format!("0 {} {}\n", hex(&self.octets()), numbers.join(" "));
+                }
+                Call::Tallies { slot } if slot < n => {
+                    let numbers: Vec<String> = (0..4).map(|_| (u64::MAX >> self.below(64)).to_string()).collect();
+                    rows += &format!("0 - {}\n", numbers.join(" "));
                 }
                 call => {
                     if let Call::Make { n: slots, d: jobs, m: packet } = call {

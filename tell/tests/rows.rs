@@ -28,9 +28,14 @@ fn room(places: [&str; 2]) -> String {
 fn steps(steps: &[Step<'_>]) -> String {
     let mut script = String::new();
     let mut rows = "answer octets\n".to_string();
+    let mut tallies = "";
     for (line, row, slot, places) in [&[("T 1 1 29", "0 -", FREE, [NONE; 2])], steps].concat() {
         script += &format!("{line}\n");
-        rows += &format!("{row}\n0 - 1 1 29 1\n= 0 {slot}\n{}\n", room(places));
+        // From the first frame or send on they are looked at; here they stay.
+        if line.starts_with(['F', 'K']) {
+            tallies = "0 - 0 0 0 0\n";
+        }
+        rows += &format!("{row}\n0 - 1 1 29 1\n= 0 {slot}\n{}\n{tallies}", room(places));
     }
     let (text, all_read) = told(&script, &rows).expect("rows that fit");
     assert!(all_read);
@@ -449,7 +454,7 @@ fn portions(steps: &[(&str, &str, &str, &str)]) -> String {
     let mut rows = format!("answer octets\n0 -\n{}0 -\n{}", free(FREE), free(OPEN));
     for (line, row, slot, job) in steps {
         script += &format!("{line}\n");
-        rows += &format!("{row}\n{}{job}\n", free(slot));
+        rows += &format!("{row}\n{}{job}\n0 - 0 0 0 0\n", free(slot));
     }
     let (text, all_read) = told(&script, &rows).expect("rows that fit");
     assert!(all_read);
@@ -516,4 +521,82 @@ fn a_job_in_portions_that_ends_early() {
     let rows = format!("{rows}{FREE}\n{0}\n11 -\n0 - 1 1 29 1\n= 0 {FREE}\n{0}\n0 - 1 2\n", room([NONE; 2]));
     let trouble = crate::told(script, &rows).expect_err("a row of another form").to_string();
     assert_eq!(trouble, "line 2: the program printed `0 - 1 2` where the open job of slot 0 must stand");
+}
+
+/// A table of one open slot with these tallies: what is told of each line from its row, the slot behind it, and its tallies.
+fn counted(steps: &[(&str, &str, &str, &str)]) -> String {
+    let mut script = "T 1 1 29\nH 0\n".to_string();
+    let seen = |slot: &str| format!("0 - 1 1 29 1\n= 0 {slot}\n{}\n", room([NONE; 2]));
+    let mut rows = format!("answer octets\n0 -\n{}0 -\n{}", seen(FREE), seen(OPEN));
+    for (line, row, slot, tallies) in steps {
+        script += &format!("{line}\n");
+        rows += &if line.starts_with('t') { format!("{row}\n") } else { format!("{row}\n{}0 - {tallies}\n", seen(slot)) };
+    }
+    let (text, all_read) = told(&script, &rows).expect("rows that fit");
+    assert!(all_read);
+    text[text.find("   3  ").expect("a third line")..].to_string()
+}
+
+#[test]
+fn tallies_are_told_and_what_changes_in_them() {
+    let sent = OPEN.replace("23 100 5", "23 100 4");
+    let closing = sent.replace("connected", "disconnecting");
+    assert_eq!(
+        counted(&[
+            ("K 0 0102", "0 0400500002000102 1", &sent, "1 0 0 0"),
+            ("K 0 0102", "14 -", &sent, "1 0 1 0"),
+            ("F 1 64 dd", "10 -", &sent, "1 0 1 1"),
+            ("t 0", "0 - 1 0 1 1", "", ""),
+            ("t 1", "6 -", "", ""),
+            ("t 0", "0 - 18446744073709551615 2 0 18446744073709551615", "", ""),
+            ("D 0", "0 -", &closing, "0 0 0 0"),
+            ("t 0", "0 - 0 0 0 0", "", ""),
+        ]),
+        "   3  K 0 0102
+      asked    send a job of 2 octets to the phone on link 1 (slot 0)
+      answer   0 done: sent in 1 frame
+      out      to the phone on link 1: 1 frame to its CID 80, of 4 octets: a job of 2 octets, and
+               its length
+      changed  slot 0: our credits 5 → 4
+               slot 0: frames sent 0 → 1
+   4  K 0 0102
+      asked    send a job of 2 octets to the phone on link 1 (slot 0)
+      answer   14 Busy: the phone gave too few credits for all frames: nothing was sent
+      changed  slot 0: blocked sends 0 → 1
+   5  F 1 64 dd
+      asked    the phone on link 1 sends a frame to CID 64 (slot 0): 1 octet, too few to say a job's
+               length
+      answer   10 OutOfMemory: the phone had no credit left for this frame
+      changed  slot 0: blocked frames 0 → 1
+   6  t 0
+      asked    the tallies of the phone on link 1 (slot 0)
+      answer   0 done: 1 frame sent, no frames received; blocked: 1 send, 1 frame
+   7  t 1
+      asked    the tallies of slot 1
+      answer   6 BadSlot: the table has no such slot
+   8  t 0
+      asked    the tallies of the phone on link 1 (slot 0)
+      answer   0 done: 18446744073709551615 frames sent, 2 frames received; blocked: no sends,
+               18446744073709551615 frames
+   9  D 0
+      asked    close the channel to the phone on link 1 (slot 0)
+      answer   0 done
+      changed  slot 0: open → closing, our request is due
+               slot 0: its tallies are zeros again, and were: 1 frame sent, no frames received;
+               blocked: 1 send, 1 frame
+  10  t 0
+      asked    the tallies of the phone on link 1 (slot 0)
+      answer   0 done: no frames sent, no frames received; blocked: no sends, no frames
+"
+    );
+    // A program that counts what it must not is told, and so is one that shows no tallies.
+    let wrong = counted(&[("F 2 64 dd", "8 -", OPEN, "0 1 0 0")]);
+    assert!(wrong.ends_with("changed  slot 0: frames received 0 → 1\n"), "{wrong}");
+    let rows = |row: &str| {
+        format!("answer octets\n0 -\n0 - 1 1 29 1\n= 0 {FREE}\n{0}\n0 -\n0 - 1 1 29 1\n= 0 {FREE}\n{0}\n{row}\n", room([NONE; 2]))
+    };
+    for row in ["? -", "6 -", "0 - 1 2 3", "0 - 1 2 3 18446744073709551616", "0 - 1 2 3 4 5"] {
+        let trouble = crate::told("T 1 1 29\nF 1 64 dd", &rows(row)).expect_err("a row of another form").to_string();
+        assert_eq!(trouble, format!("line 2: the program printed `{row}` where the tallies of slot 0 must stand"));
+    }
 }

@@ -1,7 +1,7 @@
 //! Whether a file is the archive that this crate links, for the target that it is built for. Each thing that can be wrong is one sentence.
 
-/// The version of the entries that `src/rows.rs` declares, as the header has it. The archive has it in the name of an entry, `l2cap_version_3`.
-pub const VERSION: u32 = 3;
+/// The version of the entries that `src/rows.rs` declares, as the header has it. The archive has it in the name of an entry, `l2cap_version_4`.
+pub const VERSION: u32 = 4;
 
 /// How an archive is made.
 pub const HOW: &str =

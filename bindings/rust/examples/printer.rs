@@ -1,11 +1,11 @@
 //! A printer's loop. `Printer::packet` takes one whole L2CAP packet that came on a link, and sends and prints all that it calls for: replies, credits,
-//! disconnects, jobs; `Printer::reply` sends a sheet of the printer's own, a line at a time. It needs no heap and no `std`, so that a firmware can take it over as it stands; `main` plays a scene with it.
+//! disconnects, jobs; `Printer::reply` sends a sheet of the printer's own, a line at a time; `Printer::service` gives the rows of a service screen. It needs no heap and no `std`, so that a firmware can take it over as it stands; `main` plays a scene with it.
 //!
 //!     cargo run --example printer
 
 use l2cap_channels::{
     room_octets, ChannelIndex, ChannelManager, ChannelState, Cid, ConnHandle, CreditFlowPolicy, Hold, L2capChannelConfig, LeConnRole,
-    LeCreditConnResultCode, Refusal, Slot, CID_BASE, SIGNAL_OCTETS, SIZE_LEAST, SLOTS,
+    LeCreditConnResultCode, Refusal, Slot, Tallies, CID_BASE, SIGNAL_OCTETS, SIZE_LEAST, SLOTS,
 };
 
 const CHANNELS: u16 = 16;
@@ -113,6 +113,16 @@ impl<'r> Printer<'r> {
         // A sheet of no line is a job too: one empty portion sends it.
         if !job.is_done() {
             job.give_all(&mut self.channels, &[], |link, frame| out.send(link, frame))?;
+        }
+        Ok(())
+    }
+
+    /// A row of the service screen for each slot that has a channel: whose it is, and what it came to so far.
+    pub fn service(&self, mut row: impl FnMut(ChannelIndex, ConnHandle, Tallies)) -> Result<(), Fault> {
+        for index in (0..SLOTS).map(ChannelIndex::from) {
+            if let Some(slot) = self.channels.table().slot(index).filter(|slot| slot.state != ChannelState::Disconnected) {
+                row(index, slot.handle, self.channels.tallies(index)?);
+            }
         }
         Ok(())
     }
@@ -263,6 +273,20 @@ fn packet(cid: u16, payload: &[u8]) -> Vec<u8> {
     packet
 }
 
+/// The service screen, a line for each channel.
+fn screen(printer: &Printer<'_>) -> Vec<String> {
+    let mut lines = Vec::new();
+    let row = |index: ChannelIndex, link: ConnHandle, tallies: Tallies| {
+        let Tallies { sent, received, blocked_sends, blocked_receives } = tallies;
+        lines.push(format!(
+            "slot {}, link {}: {sent} out, {received} in, blocked {blocked_sends} out, {blocked_receives} in",
+            index.0, link.0
+        ));
+    };
+    printer.service(row).expect("a table");
+    lines
+}
+
 /// A phone's connect request, from its own CID 0x50: jobs up to 100 octets, frames of 23, five credits.
 fn connect() -> Vec<u8> {
     connect_with(SIZE_LEAST as u8)
@@ -302,6 +326,8 @@ pub fn main() {
     assert_eq!(printer.reply(ChannelIndex(0), 3, sheet, &mut desk), Err(Fault::Refused(Refusal::Busy)));
     assert_eq!(printer.reply(ChannelIndex(0), 0, sheet, &mut desk), Ok(()));
     assert_eq!(desk.sent.pop(), Some((anna, packet(0x50, &[0, 0]))));
+    // The sheet's three frames and the empty one; the job's two; and the sheet that had to wait, once.
+    assert_eq!(screen(&printer), ["slot 0, link 1: 4 out, 2 in, blocked 1 out, 0 in"]);
 
     // Ben's phone closes its channel in the middle of a job. Cleo's gets the slot, and her job comes out clean.
     assert_eq!(printer.packet(ben, &connect(), &mut desk), Ok(()));
@@ -312,6 +338,8 @@ pub fn main() {
     assert_eq!(printer.packet(cleo, &packet(0x41, b"\x08\0ticket 3"), &mut desk), Ok(()));
     assert_eq!(desk.printed.pop(), Some((cleo, b"ticket 3".to_vec())));
     assert_eq!(desk.codes(cleo), [RESPONSE, CREDITS]);
+    // Ben's frame isn't hers.
+    assert_eq!(screen(&printer)[1..], ["slot 1, link 3: 0 out, 1 in, blocked 0 out, 0 in"]);
 
     // A frame of Cleo's comes cut: her channel is closed. The same from another link does nothing.
     let cut = &packet(0x41, b"\x08\0ticket 4")[..10];

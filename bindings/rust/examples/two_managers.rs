@@ -78,6 +78,15 @@ pub fn main() {
         jobs += theirs.len() + ours.len();
     }
     assert_eq!((jobs, frames), (1_888, 3_520));
+    // What one side has sent the other has received, on every link; and nothing was blocked.
+    let mut sent = 0;
+    for (its, our) in theirs.iter().zip(&ours) {
+        let (its, our) = (phones.tallies(its.index()).expect("a slot"), printer.tallies(our.index()).expect("a slot"));
+        assert_eq!((its.sent, its.received), (our.received, our.sent));
+        assert_eq!([its.blocked_sends, its.blocked_receives, our.blocked_sends, our.blocked_receives], [0; 4]);
+        sent += its.sent + our.sent;
+    }
+    assert_eq!(sent, frames as u64);
 
     // The phones let go: their requests, the printer's responses; then the printer's holds.
     let (mut ask, mut answer) = ([0; SIGNAL_OCTETS], [0; SIGNAL_OCTETS]);

@@ -27,6 +27,11 @@ impl Answer {
         self.number(0)
     }
 
+    /// All four numbers as one of 64 bits, the lowest first: a tally.
+    pub(crate) fn tally(&self) -> u64 {
+        (0..4).rev().fold(0, |tally, place| tally << 16 | u64::from(self.number(place)))
+    }
+
     pub(crate) fn is_opened(&self) -> bool {
         self.0[0] == OPENED
     }
@@ -245,6 +250,20 @@ pub struct Attention {
     pub count: u8,
     /// The lowest of them.
     pub lowest: Option<ChannelIndex>,
+}
+
+/// What a channel came to since it was opened, for a service screen: see [`tallies`](crate::ChannelManager::tallies). Each number wraps at 64 bits.
+#[derive(Clone, Copy, Debug, Default, PartialEq, Eq)]
+pub struct Tallies {
+    /// The frames that were sent: those of each [`send`](crate::ChannelManager::send) that wasn't refused, and of each job in portions all of its frames from its
+    /// [`start_job`](crate::ChannelManager::start_job) on, cancelled later or not.
+    pub sent: u64,
+    /// The frames that came and used a credit of the peer's; also one whose job was dropped because the queue was full (21).
+    pub received: u64,
+    /// The sends and starts that were refused by [`Busy`](Refusal::Busy) (14): one each, however many frames they have.
+    pub blocked_sends: u64,
+    /// The frames that were refused by [`OutOfMemory`](Refusal::OutOfMemory) (10), since the peer had no credit.
+    pub blocked_receives: u64,
 }
 
 /// When a take grants the peer new credits: then as many as frames came since the last grant, so that the peer has all that it started with.

@@ -182,7 +182,7 @@ pub enum Refusal {
     /// our disconnect request can go out), credits above 65,535 (those before are kept), a frame above our MPS, or one that its job has no place for (its
     /// credit is used): the channel is disconnecting, and [`next_disconnect`](crate::ChannelManager::next_disconnect) comes next.
     InvalidValue,
-    /// 10: a frame for which the peer had no credit.
+    /// 10: a frame for which the peer had no credit. It is counted ([`Tallies::blocked_receives`](crate::Tallies::blocked_receives)), and nothing else changes.
     OutOfMemory,
     /// 11: the channel isn't open. Jobs that wait in one that disconnects can still be taken.
     ChannelClosed,
@@ -191,7 +191,7 @@ pub enum Refusal {
     InsufficientSpace,
     /// 13: no slot is free. The create has used an identifier.
     NoChannelAvailable,
-    /// 14: the job needs more frames than the peer gave credits. Nothing was sent.
+    /// 14: the job needs more frames than the peer gave credits. Nothing was sent; it is counted, once ([`Tallies::blocked_sends`](crate::Tallies::blocked_sends)).
     Busy,
     /// 15: a signal that can't be read. Where its header can, a reject is written.
     Decode,

@@ -84,7 +84,7 @@ rows!(entries);
 
 extern "C" {
     fn l2cap_signal_rest(pdu: *const u8, pdu_len: usize) -> usize;
-    fn l2cap_version_3() -> u32;
+    fn l2cap_version_4() -> u32;
 }
 
 /// How many octets of the PDU stand behind its first signal.
@@ -96,5 +96,5 @@ pub(crate) fn signal_rest(pdu: &[u8]) -> usize {
 /// The version of the archive. Its entry is named after it, so that an archive of another version than these rows isn't linked.
 pub(crate) fn version() -> u32 {
     // SAFETY: the entry asks nothing.
-    unsafe { l2cap_version_3() }
+    unsafe { l2cap_version_4() }
 }

@@ -1,7 +1,7 @@
 //! A Bluetooth L2CAP channel manager whose every call is proved equal to its definition: the channel manager of trouble-host 0.8.0, ported, behind
 //! safe types. This crate is the wrapper; the calls are in an archive, `libentries.a`, which `build.rs` links.
 //!
-//! A channel lives in a slot ([`ChannelIndex`]) and has a CID on the air ([`Cid`]). [`ChannelManager`] keeps the table, in 800 octets, and borrows
+//! A channel lives in a slot ([`ChannelIndex`]) and has a CID on the air ([`Cid`]). [`ChannelManager`] keeps the table, in 1,312 octets, and borrows
 //! the room in which jobs arrive and wait. Whoever uses a channel has a [`Hold`] on its slot, and gives it back: [`life`] goes through it, case by
 //! case. A slot is free where its channel is [`Disconnected`](ChannelState::Disconnected) and nobody holds it. A call that can't be done gives a [`Refusal`], and says in its documentation what that leaves. No call panics, waits or allocates; in builds
 //! with debug assertions a hold that is forgotten panics.
@@ -66,7 +66,7 @@ mod table;
 
 pub use answer::{
     Attention, ChannelSignal, ChannelState, ConnParamUpdateReq, CreditFlowPolicy, FrameIter, Frames, Given, L2capChannelConfig, Outgoing,
-    Received, Signalled, ANSWER_OCTETS,
+    Received, Signalled, Tallies, ANSWER_OCTETS,
 };
 pub use codes::{ChannelIndex, Cid, ConnHandle, LeConnRole, LeCreditConnResultCode, Refusal, CID_BASE, SIZE_LEAST, SLOTS};
 pub use credits::{frames, least_credits, ConfigError};

@@ -75,6 +75,19 @@
 //!
 //! Everything that ends a channel closes its job. No credit comes back then, and the value that is left is refused by 11.
 //!
+//! # What a service screen shows
+//!
+//! [`tallies`] has what a slot's channel came to: frames sent and received, sends and frames refused for want of credits. They go with the channel:
+//!
+//! | what happens | slot | tallies |
+//! |---|---|---|
+//! | it is opened | `Connected` | zeros, and they count from here |
+//! | we end it, or a frame or credits that break the rules do | `Disconnecting(false)` | zeros, at once |
+//! | the phone ends it | `PeerDisconnecting` | as they were |
+//! | [`next_disconnect`] answers, or [`opened`] or [`disconnected`] closes the slot | `Disconnected` | zeros |
+//!
+//! So a screen that keeps what a phone came to reads them before [`next_disconnect`].
+//!
 //! # An attempt of our own
 //!
 //! | what happens | call | slot | holds |
@@ -150,3 +163,4 @@
 //! [`SIZE_LEAST`]: crate::SIZE_LEAST
 //! [`Slot::hold`]: crate::Slot::hold
 //! [`Table::held`]: crate::Table::held
+//! [`tallies`]: crate::ChannelManager::tallies

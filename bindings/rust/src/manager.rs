@@ -1,7 +1,8 @@
 //! The calls.
 
 use crate::answer::{
-    Attention, ChannelSignal, ConnParamUpdateReq, Frames, Given, L2capChannelConfig, Outgoing, Received, Signalled, ANSWER_OCTETS,
+    Answer, Attention, ChannelSignal, ConnParamUpdateReq, Frames, Given, L2capChannelConfig, Outgoing, Received, Signalled, Tallies,
+    ANSWER_OCTETS,
 };
 use crate::codes::{ChannelIndex, Cid, ConnHandle, LeConnRole, LeCreditConnResultCode, Refusal};
 use crate::entries::{self, Returned};
@@ -387,8 +388,8 @@ impl<'r> ChannelManager<'r> {
 
     /// Takes in a frame that came on a link: its CID, and its payload behind the L2CAP header. Nothing where the channel isn't open.
     ///
-    /// Refusals: 1, 2, 4; 7 for a CID of no slot; 8 for another link's open channel; 10 without a credit; then, with the credit used, 9 for a payload above our
-    /// MPS, be it a job's first, whose two length octets count, or a later one, 19 for a job's first of less than two octets, 9 for a job above our MTU and for more
+    /// Refusals: 1, 2, 4; 7 for a CID of no slot; 8 for another link's open channel; 10 without a credit, which [`tallies`](Self::tallies) counts and which changes
+    /// nothing else; then, with the credit used, 9 for a payload above our MPS, be it a job's first, whose two length octets count, or a later one, 19 for a job's first of less than two octets, 9 for a job above our MTU and for more
     /// octets than the job has: these leave the channel disconnecting, and nothing of the job; jobs that wait stay. 21 drops the job, and the channel stays open.
     pub fn dispatch(&mut self, handle: ConnHandle, cid: Cid, payload: &[u8]) -> Result<(), Refusal> {
         entries::dispatch(&mut self.table.0, self.room, handle.0, cid.0, payload).told().map(|_| ())
@@ -397,7 +398,8 @@ impl<'r> ChannelManager<'r> {
     /// Cuts a job into frames, and uses a credit for each.
     ///
     /// Refusals: 1, 6; 11 where the channel isn't open; 24 where a job is open in this slot; 12 above the peer's MTU; 23 above 65,533 octets; 20 where the
-    /// peer's MPS is under 23, as no call leaves one; 14 where the credits don't suffice; 3 where `out` is too short.
+    /// peer's MPS is under 23, as no call leaves one; 14 where the credits don't suffice, which [`tallies`](Self::tallies) counts and which changes nothing else; 3 where
+    /// `out` is too short.
     pub fn send<'b>(&mut self, index: ChannelIndex, sdu: &[u8], out: &'b mut [u8]) -> Result<Frames<'b>, Refusal> {
         let answer = entries::send(&mut self.table.0, out, index.0, sdu).told()?;
         Ok(answer.frames(out))
@@ -407,7 +409,7 @@ impl<'r> ChannelManager<'r> {
     /// `buffer`, of [`job_buffer_octets`](crate::job_buffer_octets) octets or more, which the [`OpenJob`] borrows until its end. Nothing goes out yet.
     ///
     /// Refusals: 1, 6; 11 where the channel isn't open; 24 where a job is open in this slot; 12 above the peer's MTU; 23 above 65,533 octets; 20 where the
-    /// peer's MPS is under 23, as no call leaves one; 14 where the credits don't suffice; 3 where `buffer` is too short.
+    /// peer's MPS is under 23, as no call leaves one; 14 where the credits don't suffice, counted as [`send`](Self::send)'s is; 3 where `buffer` is too short.
     pub fn start_job<'b>(&mut self, index: ChannelIndex, len: usize, buffer: &'b mut [u8]) -> Result<OpenJob<'b>, Refusal> {
         entries::start_job(&mut self.table.0, buffer, index.0, len).told()?;
         Ok(OpenJob::of(index, self.table.standing(index), buffer))
@@ -577,9 +579,19 @@ impl<'r> ChannelManager<'r> {
 
     // ---- questions
 
+    /// A question about a slot.
+    fn ask(&self, question: fn(&[u8; TABLE_OCTETS], u8) -> Returned, index: ChannelIndex) -> Result<Answer, Refusal> {
+        question(&self.table.0, index.0).told()
+    }
+
     /// A slot's number.
     fn asked(&self, question: fn(&[u8; TABLE_OCTETS], u8) -> Returned, index: ChannelIndex) -> Result<u16, Refusal> {
-        question(&self.table.0, index.0).told().map(|answer| answer.first())
+        self.ask(question, index).map(|answer| answer.first())
+    }
+
+    /// A slot's tally.
+    fn tallied(&self, question: fn(&[u8; TABLE_OCTETS], u8) -> Returned, index: ChannelIndex) -> Result<u64, Refusal> {
+        self.ask(question, index).map(|answer| answer.tally())
     }
 
     /// The slots that call for something.
@@ -623,5 +635,52 @@ impl<'r> ChannelManager<'r> {
     /// Refusals: 1, 6.
     pub fn peer_mps(&self, index: ChannelIndex) -> Result<u16, Refusal> {
         self.asked(entries::peer_mps, index)
+    }
+
+    /// What the channel of a slot came to, for a service screen: frames sent and received, and the sends and frames that were refused for want of credits. Zeros where the
+    /// slot is closed.
+    ///
+    /// They begin at zeros with each channel, and wrap at 64 bits. When our side ends an open channel they are zeros at once: by [`disconnect`](Self::disconnect),
+    /// [`disconnect_by_cid`](Self::disconnect_by_cid) or the last [`dec_ref`](Self::dec_ref), by a frame that is refused by 9 or 19, by credits above 65,535, and by a cancel after
+    /// a job's first frame. So what a frame that broke its channel came to isn't seen here any more. Where the peer disconnects they stand until the slot is closed, by
+    /// [`next_disconnect`](Self::next_disconnect), [`opened`](Self::opened) or a link that goes down: read them before. The next owner of a slot finds zeros.
+    ///
+    /// 14 and 10 change their tally and nothing else; no other refusal counts, and a question changes nothing.
+    ///
+    /// Refusals: 1, 6.
+    ///
+    /// ```
+    /// # use l2cap_channels::*;
+    /// # fn main() -> Result<(), Box<dyn core::error::Error>> {
+    /// # let mut room = [0; room_octets(2, 1, 64)];
+    /// # let mut channels = ChannelManager::new(2, 1, 64, &mut room)?;
+    /// # channels.register_spsm(0x80)?;
+    /// # let (phone, mut signal, mut out) = (ConnHandle(1), [0; SIGNAL_OCTETS], [0; 256]);
+    /// # channels.feed_pdu(phone, true, LeConnRole::Peripheral, &[0x14, 7, 10, 0, 0x80, 0, 0x50, 0, 100, 0, 23, 0, 5, 0], |_, _| {});
+    /// # let index = channels.next_pending(phone, true)?.expect("a pending channel").into_index();
+    /// # channels.accept_pending(index, &L2capChannelConfig::default(), &mut signal)?;
+    /// // The phone has given us five credits. A sheet of 60 octets is three frames; a second one has to wait.
+    /// channels.send(index, &[b'.'; 60], &mut out)?;
+    /// assert_eq!(channels.send(index, &[b'.'; 60], &mut out), Err(Refusal::Busy));
+    /// // It has one credit of ours, and sends two frames.
+    /// channels.dispatch(phone, index.cid(), b"\x03\0job")?;
+    /// assert_eq!(channels.dispatch(phone, index.cid(), b"\x03\0job"), Err(Refusal::OutOfMemory));
+    /// assert_eq!(channels.tallies(index)?, Tallies { sent: 3, received: 1, blocked_sends: 1, blocked_receives: 1 });
+    ///
+    /// // The phone closes its channel: they stand, until our response closes the slot.
+    /// channels.feed_pdu(phone, true, LeConnRole::Peripheral, &[0x06, 8, 4, 0, 0x40, 0, 0x50, 0], |_, _| {});
+    /// assert_eq!(channels.tallies(index)?.sent, 3);
+    /// channels.next_disconnect(&mut signal)?;
+    /// assert_eq!(channels.tallies(index)?, Tallies::default());
+    /// # Ok(())
+    /// # }
+    /// ```
+    pub fn tallies(&self, index: ChannelIndex) -> Result<Tallies, Refusal> {
+        Ok(Tallies {
+            sent: self.tallied(entries::tally_sent, index)?,
+            received: self.tallied(entries::tally_received, index)?,
+            blocked_sends: self.tallied(entries::tally_blocked_sends, index)?,
+            blocked_receives: self.tallied(entries::tally_blocked_receives, index)?,
+        })
     }
 }

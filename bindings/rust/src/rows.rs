@@ -37,6 +37,10 @@ macro_rules! rows {
             ask mps = l2cap_mps(slot: u8);
             ask peer_mtu = l2cap_peer_mtu(slot: u8);
             ask peer_mps = l2cap_peer_mps(slot: u8);
+            ask tally_sent = l2cap_tally_sent(slot: u8);
+            ask tally_received = l2cap_tally_received(slot: u8);
+            ask tally_blocked_sends = l2cap_tally_blocked_sends(slot: u8);
+            ask tally_blocked_receives = l2cap_tally_blocked_receives(slot: u8);
         }
     };
 }

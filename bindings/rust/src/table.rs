@@ -1,11 +1,11 @@
 //! The table as octets, and a look at what they say.
 
-use crate::answer::{ChannelState, CreditFlowPolicy};
+use crate::answer::{ChannelState, CreditFlowPolicy, Tallies};
 use crate::codes::{ChannelIndex, ConnHandle, LeCreditConnResultCode, SLOTS};
 use crate::slots::Slots;
 
 /// The octets of a table, for every number of slots.
-pub const TABLE_OCTETS: usize = 800;
+pub const TABLE_OCTETS: usize = 1_312;
 
 const HEAD: usize = 48;
 const STATE: usize = 0;
@@ -13,6 +13,10 @@ const HOLD: usize = 17;
 const LINK: usize = 2;
 const PEER_CID: usize = 18;
 const JOB: usize = 39;
+const SENT: usize = 47;
+const BLOCKED_SENDS: usize = 55;
+const RECEIVED: usize = 63;
+const BLOCKED_RECEIVES: usize = 71;
 
 /// The octets of room that a table needs: a place for the job that arrives and one for each that waits, in every slot. `channels` is 1 to 16,
 /// `queue` 1 to 4 and `packet` 29 to 1,024; other sizes are refused by [`ChannelManager::new`](crate::ChannelManager::new).
@@ -88,6 +92,11 @@ impl Table {
         u16::from_le_bytes([self.cell(index, column), self.cell(index, column + 1)])
     }
 
+    /// A tally of a slot's row: eight columns.
+    fn tally(&self, index: u8, column: usize) -> u64 {
+        (0..8).rev().fold(0, |tally, place| tally << 8 | u64::from(self.cell(index, column + place)))
+    }
+
     /// The job that is open in a slot: one is while credits are set aside for it.
     fn job(&self, index: u8) -> Option<JobNumbers> {
         let number = |place: usize| self.number(index, JOB + 2 * place);
@@ -139,6 +148,12 @@ impl Table {
             waiting: octet(30),
             lens: [number(31), number(33), number(35), number(37)],
             job: self.job(index.0),
+            tallies: Tallies {
+                sent: self.tally(index.0, SENT),
+                received: self.tally(index.0, RECEIVED),
+                blocked_sends: self.tally(index.0, BLOCKED_SENDS),
+                blocked_receives: self.tally(index.0, BLOCKED_RECEIVES),
+            },
         })
     }
 }
@@ -182,6 +197,8 @@ pub struct Slot {
     pub lens: [u16; 4],
     /// The job of ours that is being handed over in portions.
     pub job: Option<JobNumbers>,
+    /// Frames sent and received, and sends and frames that were refused for want of credits.
+    pub tallies: Tallies,
 }
 
 /// The numbers of a job that is handed over in portions. Its octets stand in the buffer that its caller lends.

@@ -47,7 +47,7 @@ fn wrong(octets: &[u8], target: &Target) -> String {
     judge("lib.a", octets, target).expect_err("something is wrong")
 }
 
-const NAMES: &str = "l2cap_make\0l2cap_version_3\0";
+const NAMES: &str = "l2cap_make\0l2cap_version_4\0";
 
 #[test]
 fn an_archive_for_the_target() {
@@ -167,16 +167,16 @@ fn another_library() {
 fn another_version() {
     assert_eq!(
         wrong(&entries(0x3e, "l2cap_make\0"), &X86_64),
-        format!("lib.a is older than versions, and this crate is of version 3: it has no entry l2cap_version_3; {HOW}")
+        format!("lib.a is older than versions, and this crate is of version 4: it has no entry l2cap_version_4; {HOW}")
     );
-    for other in [1, 2, 4, 30, 33] {
+    for other in [1, 3, 5, 40, 44] {
         let names = format!("l2cap_make\0l2cap_version_{other}\0");
-        assert_eq!(wrong(&entries(0x3e, &names), &X86_64), format!("lib.a is of version {other}, and this crate is of version 3; {HOW}"));
+        assert_eq!(wrong(&entries(0x3e, &names), &X86_64), format!("lib.a is of version {other}, and this crate is of version 4; {HOW}"));
     }
     // The entries' names decide, and not those of the sections that they once stood in.
-    let sections = object(0x3e, "\0.text.l2cap_version_3\0");
-    let renamed = archive(&[("/", &index("l2cap_make\0l2cap_version_4\0")), ("entries.o/", &sections)]);
-    assert!(wrong(&renamed, &X86_64).starts_with("lib.a is of version 4, "));
+    let sections = object(0x3e, "\0.text.l2cap_version_4\0");
+    let renamed = archive(&[("/", &index("l2cap_make\0l2cap_version_5\0")), ("entries.o/", &sections)]);
+    assert!(wrong(&renamed, &X86_64).starts_with("lib.a is of version 5, "));
 }
 
 #[test]

@@ -8,13 +8,14 @@ use common::*;
 use l2cap_channels::CreditFlowPolicy::{Every, MinThreshold};
 use l2cap_channels::*;
 
-/// A channel as a search sees it: the table but for the identifier of our next request, which every grant moves on. All jobs are of zeros, and so is
-/// the room.
+/// A channel as a search sees it: the table but for the identifier of our next request, which every grant moves on, and the tallies, which every frame does: with them no state would
+/// come again, and the search would never end. All jobs are of zeros, and so is the room.
 type State = [u8; TABLE_OCTETS];
 
 fn seen(channels: &ChannelManager<'_>) -> State {
     let mut octets = *channels.table().octets();
     octets[5] = 1;
+    put_tallies(&mut octets, 0, Tallies::default());
     octets
 }
 
@@ -118,7 +119,7 @@ fn a_job_of_two_frames_sticks_at_one_credit() {
     channels.register_spsm(SPSM).unwrap();
     open(&mut channels, PHONE, &request(0x50, 100, 23, 5), &config);
     channels.dispatch(PHONE, SLOT.cid(), &[&[22, 0][..], &[b'j'; 21]].concat()).unwrap();
-    unchanged(&mut channels, Refusal::OutOfMemory, |channels| channels.dispatch(PHONE, SLOT.cid(), b"b"));
+    blocked(&mut channels, SLOT, Refusal::OutOfMemory, |channels| channels.dispatch(PHONE, SLOT.cid(), b"b"));
     let (mut job, mut signal) = ([0; PLACE], [0; SIGNAL_OCTETS]);
     assert_eq!(channels.receive(SLOT, &mut job, &mut signal), Ok(None));
     assert_eq!(slot(&channels, SLOT).credits, 0);

@@ -58,7 +58,7 @@ fn zeros_and_ones_are_no_table() {
 #[test]
 fn forged_heads() {
     let (octets, room) = busy();
-    let mut forged = vec![(0, 0), (0, 1), (0, 3), (1, 0), (1, 17), (2, 0), (2, 5), (3, 28), (4, 5)];
+    let mut forged = vec![(0, 0), (0, 2), (0, 4), (1, 0), (1, 17), (2, 0), (2, 5), (3, 28), (4, 5)];
     forged.extend((6..16).map(|place| (place, 1)));
     for (place, value) in forged {
         let mut octets = octets;
@@ -219,10 +219,18 @@ fn full() -> [u8; TABLE_OCTETS] {
     for (column, value) in [(8, 58), (13, 0xFF), (14, 0xFE), (15, 0), (16, 1), (26, 58), (28, 58), (30, 2), (31, 58), (33, 58)] {
         octets[cell(0, column)] = value;
     }
+    // One more carries to the last octet of a tally, or wraps; its neighbours are full.
+    put_tallies(&mut octets, 0, Tallies { sent: u64::MAX, received: u64::MAX >> 8, blocked_sends: u64::MAX, blocked_receives: u64::MAX });
     octets
 }
 
-/// A send tests the octets in a pass of its own. Whatever one octet becomes, it refuses by 1 what a question refuses, and leaves it; else it changes the peer's credits of its slot alone.
+/// More in a tally of slot 0, wrapping.
+fn add(octets: &mut [u8; TABLE_OCTETS], column: usize, more: u64) {
+    let tally = u64::from_le_bytes(core::array::from_fn(|place| octets[cell(0, column + place)]));
+    put_tally(octets, 0, column, tally.wrapping_add(more));
+}
+
+/// A send tests the octets in a pass of its own. Whatever one octet becomes, it refuses by 1 what a question refuses, and leaves it; else it changes the peer's credits of its slot and a tally alone.
 #[test]
 fn a_send_refuses_the_same() {
     let (busy, mut room) = busy();
@@ -237,12 +245,16 @@ fn a_send_refuses_the_same() {
             let answer = channels.send(SLOT, &[1, 2, 3], &mut out).map(|frames| frames.count);
             assert_eq!(answer == Err(Refusal::BadTable), bad, "octet {place} with {change:#x}");
             if let Ok(count) = answer {
+                add(&mut octets, SENT, count.into());
                 let credits = [octets[cell(0, 24)], octets[cell(0, 25)]];
                 [octets[cell(0, 24)], octets[cell(0, 25)]] = (u16::from_le_bytes(credits) - count).to_le_bytes();
                 sent += 1;
             } else {
                 assert_eq!(out, [0x77; 64]);
                 refused += 1;
+                if answer == Err(Refusal::Busy) {
+                    add(&mut octets, BLOCKED_SENDS, 1);
+                }
             }
             assert!(channels.table().octets() == &octets, "octet {place} with {change:#x}");
         }
@@ -250,7 +262,7 @@ fn a_send_refuses_the_same() {
     assert!(refused > 0 && sent > 0);
 }
 
-/// A frame in tests the octets in the same pass, and of its slot it changes state, account, assembly and queue alone, and closes the open job of a channel that ends.
+/// A frame in tests the octets in the same pass, and of its slot it changes state, account, assembly, queue and the tally that it counts in alone, and closes the open job of a channel that ends, and its tallies.
 #[test]
 fn a_frame_refuses_the_same() {
     let (busy, room) = busy();
@@ -266,6 +278,14 @@ fn a_frame_refuses_the_same() {
             assert_eq!(answer == Err(Refusal::BadTable), bad, "octet {place} with {change:#x}");
             refused += u32::from(bad);
             changed += u32::from(channels.table().octets() != &octets);
+            let open = octets[cell(0, 0)] == 3;
+            match answer {
+                Ok(()) if open => add(&mut octets, RECEIVED, 1),
+                Err(Refusal::QueueFull) => add(&mut octets, RECEIVED, 1),
+                Err(Refusal::OutOfMemory) => add(&mut octets, BLOCKED_RECEIVES, 1),
+                Err(Refusal::InvalidValue | Refusal::ShortFrame) => put_tallies(&mut octets, 0, Tallies::default()),
+                _ => {}
+            }
             for column in (0..=1).chain(10..=16).chain(26..=46).filter(|_| !bad) {
                 octets[cell(0, column)] = channels.table().octets()[cell(0, column)];
             }

@@ -68,7 +68,7 @@ fn wrapper() -> Entries {
         entries.insert(entry.into(), types);
     }
     entries.insert("l2cap_signal_rest".into(), vec!["*const u8".into(), "usize".into(), "usize".into()]);
-    entries.insert("l2cap_version_3".into(), vec!["u32".into()]);
+    entries.insert("l2cap_version_4".into(), vec!["u32".into()]);
     entries
 }
 

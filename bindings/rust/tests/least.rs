@@ -177,6 +177,7 @@ fn frames_are_held_to_our_mps() {
             let (mut wanted, mut places) = (octets, before);
             put(&mut wanted, 0, 13, 8);
             put(&mut wanted, 0, 15, 1);
+            put_tally(&mut wanted, 0, RECEIVED, 1);
             let refused = if len > mps {
                 Err(Refusal::InvalidValue)
             } else if !later && len < 2 {
@@ -187,6 +188,7 @@ fn frames_are_held_to_our_mps() {
             match refused {
                 Err(_) => {
                     wanted = changed(wanted, [6, 0], [0x50, 23, 100, 5]);
+                    put_tally(&mut wanted, 0, RECEIVED, 0);
                     put(&mut wanted, 0, 26, 0);
                     put(&mut wanted, 0, 28, 0);
                     places[0] = 0;

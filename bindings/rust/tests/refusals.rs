@@ -163,7 +163,11 @@ fn refusal_06_bad_slot() {
                 "mtu",
                 "mps",
                 "peer_mtu",
-                "peer_mps"
+                "peer_mps",
+                "tally_sent",
+                "tally_received",
+                "tally_blocked_sends",
+                "tally_blocked_receives"
             ]
         );
     }
@@ -256,7 +260,7 @@ fn refusal_10_out_of_memory() {
     let (table, mut room) = busy();
     let mut channels = ChannelManager::from_parts(table, &mut room);
     assert_eq!(slot(&channels, SLOT).credits, 0);
-    unchanged(&mut channels, Refusal::OutOfMemory, |channels| channels.dispatch(PHONE, SLOT.cid(), &[4, 5, 6]));
+    blocked(&mut channels, SLOT, Refusal::OutOfMemory, |channels| channels.dispatch(PHONE, SLOT.cid(), &[4, 5, 6]));
     assert_eq!(slot(&channels, SLOT).state, ChannelState::Connected);
 }
 
@@ -329,7 +333,8 @@ fn refusal_14_busy() {
     let mut channels = made(&mut room);
     let index = open(&mut channels, PHONE, &request(0x50, 100, 23, 1), &L2capChannelConfig::default());
     let mut out = [0x77; 64];
-    unchanged(&mut channels, Refusal::Busy, |channels| channels.send(index, &[1; 22], &mut out).map(|_| ()));
+    blocked(&mut channels, index, Refusal::Busy, |channels| channels.send(index, &[1; 22], &mut out).map(|_| ()));
+    blocked(&mut channels, index, Refusal::Busy, |channels| channels.start_job(index, 22, &mut out).map(|_| ()));
     assert_eq!(out, [0x77; 64]);
     assert_eq!(channels.send(index, &[1; 21], &mut out).unwrap().count, 1);
     assert_eq!(slot(&channels, index).peer_credits, 0);
@@ -448,7 +453,8 @@ fn refusal_21_queue_full() {
     assert_eq!(channels.dispatch(PHONE, index.cid(), &[2, 0, 4, 5]), Err(Refusal::QueueFull));
     channels.dispatch(PHONE, index.cid(), &[2, 0, 4]).unwrap();
     assert_eq!(channels.dispatch(PHONE, index.cid(), &[5]), Err(Refusal::QueueFull));
-    let wanted = Slot { credits: 4, received: 5, ..table.slot(index).unwrap() };
+    let tallies = Tallies { received: 5, ..Tallies::default() };
+    let wanted = Slot { credits: 4, received: 5, tallies, ..table.slot(index).unwrap() };
     assert_eq!(slot(&channels, index), wanted);
     assert_eq!(channels.room(), room);
     let (mut job, mut signal) = ([0; PLACE], [0; SIGNAL_OCTETS]);

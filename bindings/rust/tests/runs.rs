@@ -190,7 +190,7 @@ fn bad_tables_and_rooms() {
             let octets = any_run(of, &mut chance);
             let mut table = table.octets().to_vec();
             table[chance.of(&all)] ^= chance.of(&[1, 2, 4, 8, 16, 32, 64, 128]);
-            table.truncate(chance.of(&[0, 672, TABLE_OCTETS - 1, TABLE_OCTETS, TABLE_OCTETS, TABLE_OCTETS, TABLE_OCTETS, TABLE_OCTETS]));
+            table.truncate(chance.of(&[0, 800, TABLE_OCTETS - 1, TABLE_OCTETS, TABLE_OCTETS, TABLE_OCTETS, TABLE_OCTETS, TABLE_OCTETS]));
             room.truncate(chance.of(&[0, ROOM - 1, ROOM, ROOM, ROOM, ROOM]));
             let was = Memory::new(&table, &room, 200, 160);
             let mut is = same(of, &octets, &was);

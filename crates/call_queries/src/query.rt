@@ -11,7 +11,7 @@ use channel::Table;
 use channel::Verdict;
 
 // The query whose answer is n.
-pub fn told(t: Table, slot: ChannelIndex, n: u16) -> Served
+pub fn told(t: Table, slot: ChannelIndex, n: u64) -> Served
     ensures { λ r. ⌜ r ≡ servedOf (query (λ _. n) t (slot .0)) ⌝ }
 {
     match table_gate::gate(

@@ -81,6 +81,18 @@ pub struct OpenJob {
     pub aside: u16,
 }
 
+// One direction's tallies: its frames, and how often it was refused for want of credits. Each wraps at 64 bits.
+pub struct Tally {
+    pub frames: u64,
+    pub blocked: u64,
+}
+
+// What a service screen shows of a channel (`Metrics` in the original): frames sent and blocked sends, frames received and blocked receives.
+pub struct Tallies {
+    pub sends: Tally,
+    pub receives: Tally,
+}
+
 // One slot (`ChannelStorage` in the original). Its local CID is 0x40 + its number and isn't stored.
 pub struct Slot {
     pub state: ChannelState,
@@ -94,6 +106,7 @@ pub struct Slot {
     pub assembly: Assembly,
     pub queue: Queue,
     pub job: OpenJob,
+    pub tallies: Tallies,
 }
 
 // The table: N slots in use, D waiting jobs a slot, packets of M octets, the next identifier, a bit for each registered SPSM.
@@ -164,8 +177,8 @@ pub enum Answer {
         count: u8,
         lowest: u8,
     },
-    // 0, and the number asked for.
-    Number(u16),
+    // 0, and the number asked for: of a tally all 64 bits.
+    Number(u64),
     // 0, and the valid parameters that the peer asks for.
     Event {
         min: u16,

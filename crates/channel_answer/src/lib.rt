@@ -4,9 +4,9 @@ use channel::Answer;
 use codes::Refusal;
 use octets::least;
 ghost use mathlib.Core.Path.{_≡_};
-ghost use Rattle.channel.specs.declared.Answer.the-variants.{Refused};
+ghost use Rattle.channel.specs.declared.Answer.the-variants.{Refused, Number};
 ghost use Rattle.lists.specs.Bits as Bits;
-ghost use Rattle.channel_answer.specs.Tells.{shown, toldBy, tells};
+ghost use Rattle.channel_answer.specs.Tells.{shown, toldBy, tells, numberTold};
 
 // The kinds, a number for each answer in their order (specs/Kinds.antt). 11 is the answer of a run, which is no call's (`edge_run`).
 pub const DONE: u8 = 0;
@@ -84,6 +84,21 @@ fn refused(r: Refusal) -> Told
     }
 }
 
+// A number of 64 bits, in four.
+fn number(n: u64) -> Told
+    ensures { λ r. ⌜ r ≡ tells (Number n) ⌝ }
+{
+    let l = octets::limbs_of(n);
+    plain(NUMBER, l.first, l.second, l.third, l.fourth)
+}
+
+// The number that an answer of that kind told.
+pub fn number_told(x: Told) -> u64
+    ensures { λ r. ⌜ r ≡ numberTold x ⌝ }
+{
+    octets::of_limbs(x.first, x.second, x.third, x.fourth)
+}
+
 // What an answer tells.
 pub fn tells(a: Answer) -> Told
     ensures { λ r. ⌜ r ≡ tells a ⌝ }
@@ -104,7 +119,7 @@ pub fn tells(a: Answer) -> Told
             lowest as u16,
             0,
         ),
-        Answer::Number(n) => plain(NUMBER, n, 0, 0, 0),
+        Answer::Number(n) => number(n),
         Answer::Event {
             min,
             max,

@@ -67,6 +67,7 @@ module _ (t : Table) (line room octets frames buffers : List ℕ) where
   lineOf (Command.Send slot job) = played (Command.Send slot job)
   lineOf (Command.Receive slot size) = played (Command.Receive slot size)
   lineOf (Command.Queries slot) = played (Command.Queries slot)
+  lineOf (Command.Tallies slot) = played (Command.Tallies slot)
   lineOf Command.View = played Command.View
   lineOf (Command.Room slot) = played (Command.Room slot)
   lineOf (Command.Portions c) = within (λ own. lentAll (portionsOf t own line octets buffers c))

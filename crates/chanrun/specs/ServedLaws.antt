@@ -46,13 +46,13 @@ module _ (t : Table) (line room octets frames buffers : List ℕ) {c : Command} 
 -- ---- the last way: neither `T` nor `S`, and no call that is lent a slot's buffer
 
 abbrev notMake : List ℕ
-notMake = 0 ∷ 1 ∷ 2 ∷ 4 ∷ 5 ∷ 6 ∷ 7 ∷ 8 ∷ 9 ∷ 10 ∷ 11 ∷ 12 ∷ []
+notMake = 0 ∷ 1 ∷ 2 ∷ 4 ∷ 5 ∷ 6 ∷ 7 ∷ 8 ∷ 9 ∷ 10 ∷ 11 ∷ 12 ∷ 13 ∷ []
 
 abbrev notSignal : List ℕ
-notSignal = 0 ∷ 1 ∷ 2 ∷ 3 ∷ 5 ∷ 6 ∷ 7 ∷ 8 ∷ 9 ∷ 10 ∷ 11 ∷ 12 ∷ []
+notSignal = 0 ∷ 1 ∷ 2 ∷ 3 ∷ 5 ∷ 6 ∷ 7 ∷ 8 ∷ 9 ∷ 10 ∷ 11 ∷ 12 ∷ 13 ∷ []
 
 abbrev notPortions : List ℕ
-notPortions = 0 ∷ 1 ∷ 2 ∷ 3 ∷ 4 ∷ 5 ∷ 6 ∷ 7 ∷ 8 ∷ 9 ∷ 10 ∷ 11 ∷ []
+notPortions = 0 ∷ 1 ∷ 2 ∷ 3 ∷ 4 ∷ 5 ∷ 6 ∷ 7 ∷ 8 ∷ 9 ∷ 10 ∷ 11 ∷ 12 ∷ []
 
 module _ (t : Table) (line room octets frames buffers : List ℕ) where
   played-is : (c : Command) → OneOf notMake (tagOf the-type c) → OneOf notSignal (tagOf the-type c) → OneOf notPortions (tagOf the-type c)
@@ -68,9 +68,10 @@ module _ (t : Table) (line room octets frames buffers : List ℕ) where
   played-is (Command.Send slot job) h k p = refl
   played-is (Command.Receive slot size) h k p = refl
   played-is (Command.Queries slot) h k p = refl
+  played-is (Command.Tallies slot) h k p = refl
   played-is Command.View h k p = refl
   played-is (Command.Room slot) h k p = refl
-  played-is (Command.Portions c) h k p = absurd (miss notPortions 12 tt p)
+  played-is (Command.Portions c) h k p = absurd (miss notPortions 13 tt p)
 
   pub row-is : (c : Command) {u : Table} {size : ℕ} {part′ : List ℕ}
       → OneOf notMake (tagOf the-type c) → OneOf notSignal (tagOf the-type c) → OneOf notPortions (tagOf the-type c) → size ≡ held t room

@@ -111,9 +111,11 @@ module _ (t : Table) (fit : Fit t) (link : ℕ) where
   unfolding dispatch
   frame-apart room cid head count =
       gate-does on (Is room) Nothing (Is link) Nothing λ _.
-      else-does on _ _ _ itself λ a. else-does on _ _ _ itself λ b. else-does on _ _ _ itself λ d. else-does on _ _ _ itself λ _.
+      else-does on _ _ _ itself λ a. else-does on _ _ _ itself λ b. else-does on _ _ _ itself λ d.
       let x : Slot = slotAt t (slotOf cid) in
-      joined-apart (slotOf cid) count _ (cid-slot t cid (not-false _ a)) (in-use isConnected refl (x .state) (x .link) (not-false _ b) ∙ ap by (eqb-true (x .link) link (not-false _ d))) _
+      let mine = in-use isConnected refl (x .state) (x .link) (not-false _ b) ∙ ap by (eqb-true (x .link) link (not-false _ d)) in
+      if-does on (λ _. change-does on _ itself (cid-slot t cid (not-false _ a)) (its mine)) λ _.
+      joined-apart (slotOf cid) count _ (cid-slot t cid (not-false _ a)) mine _
 
   -- ---- Pending.antt, Opening.antt, Closing.antt
 

@@ -1,4 +1,4 @@
--- Making and registering, the attention set, the five queries, the two parameter senders. Document 01, 'The job and its edge',
+-- Making and registering, the attention set, the five queries and those of the tallies, the two parameter senders. Document 01, 'The job and its edge',
 -- rows 1, 2 and 5, and 'Slots'; the senders and queries as S has them (READINGS L3).
 use mathlib.Core.Bool.{_&&_, not}
 use mathlib.Core.List.{List, [], _∷_, map}
@@ -93,6 +93,20 @@ peerMtu = query (λ x. x .peer .mtu)
 
 abbrev pub peerMps : Table → ℕ → Outcome
 peerMps = query (λ x. x .peer .mps)
+
+-- ---- the four tallies, asked for in the same way (document 02)
+
+abbrev pub tallySent : Table → ℕ → Outcome
+tallySent = query (λ x. x .tallies .sends .frames)
+
+abbrev pub tallyReceived : Table → ℕ → Outcome
+tallyReceived = query (λ x. x .tallies .receives .frames)
+
+abbrev pub tallyBlockedSends : Table → ℕ → Outcome
+tallyBlockedSends = query (λ x. x .tallies .sends .blocked)
+
+abbrev pub tallyBlockedReceives : Table → ℕ → Outcome
+tallyBlockedReceives = query (λ x. x .tallies .receives .blocked)
 
 -- ---- a parameter request or response of ours, with the next identifier
 

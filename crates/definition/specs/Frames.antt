@@ -6,6 +6,7 @@ use Prim.Native.Nat.{ℕ, zero, suc, _+_, _-_, _*_, min}
 use lib.Dec.{eqb, ltb}
 use lib.ListN.{length, getD, set, drop}
 use Rattle.octets.specs.Octets.{le16, u16At}
+use Rattle.codes.specs.declared.Refusal.{Refusal}
 use Rattle.codes.specs.declared.Refusal.the-variants.{InvalidChannelId, NotFound, OutOfMemory, ChannelClosed, InsufficientSpace, QueueFull, JobOpen}
 use Rattle.credit.specs.declared.Grant.{Grant}
 use Rattle.credit.specs.declared.Grant.the-variants as Grant
@@ -29,7 +30,7 @@ use Rattle.channel.specs.declared.Slot.{Slot}
 use Rattle.channel.specs.declared.Table.{Table}
 use Rattle.definition.specs.Mem.{Fill, zeros, given, job, held, Move, put}
 use Rattle.definition.specs.States.{isDisconnected, isConnecting, isPeerConnecting, isConnected, isConnectFailed}
-use Rattle.definition.specs.Slots.{withAccount, withPeerCredits, withAssembly, withQueue}
+use Rattle.definition.specs.Slots.{withAccount, withPeerCredits, withAssembly, withQueue, countSent, countReceived, countBlockedSend, countBlockedReceive, blocks}
 use Rattle.definition.specs.Table.{if_then_else_, placeOf, width, slotAt, isOpen, cidOf, isCid, slotOf, nextId, spent}
 use Rattle.definition.specs.Outcome.{Outcome, change, handout, refuse, done, unassembled, leaving, gate}
 
@@ -84,7 +85,7 @@ arriving t x head count =
     record { mtu = x .mtu; mps = x .mps; depth = t .d; assembly = x .assembly; queued = x .queue .count; payload = length head + count; said = u16At head 0 }
 
 -- "Frame in (CID, payload): 7; not Connected: dropped, answer 0; another link's slot 8; no credit 10; one credit used." A frame longer than our MPS "gives 9 right
--- after the credit is used" (document 02): the join step's first test.
+-- after the credit is used" (document 02): the join step's first test. A refusal by 10 is counted, and so is a frame whose credit is used.
 
 -- Behind the first refusals.
 abbrev pub admitted : Table → (link cid : ℕ) (head : List ℕ) (count : ℕ) → Outcome
@@ -94,8 +95,8 @@ admitted t link cid head count =
     if not (isCid t cid) then refuse t InvalidChannelId
     else if not (isConnected (x .state)) then done t
     else if not (eqb (x .link) link) then refuse t NotFound
-    else if eqb (x .account .credits) 0 then refuse t OutOfMemory
-    else joined t s (withAccount (received (x .account) 1) x) count (stepOf (arriving t x head count))
+    else if eqb (x .account .credits) 0 then change t s (countBlockedReceive x) [] (Refused OutOfMemory) []
+    else joined t s (countReceived (withAccount (received (x .account) 1) x)) count (stepOf (arriving t x head count))
 
 unfoldable pub dispatch : Table → (room link cid : ℕ) (head : List ℕ) (count : ℕ) → Outcome
 dispatch t room link cid head count = gate t (Is room) Nothing (Is link) Nothing (admitted t link cid head count)
@@ -122,10 +123,16 @@ frames cid mps l n =
     let p = min l (mps - 2) in
     given (firstHeader cid (p + 2) l) ∷ job 0 p ∷ laterFrames cid mps l (n - 1) p
 
--- "On success peer credits fall by n."
+-- A send or a start that its plan refuses: "a refusal by 14 .. counts as blocked, and row[] 14 .. change[s] that tally" (document 02).
+abbrev pub unsent : Table → (slot : ℕ) → Slot → Refusal → Outcome
+unsent t s x r =
+    if blocks r then change t s (countBlockedSend x) [] (Refused r) []
+    else refuse t r
+
+-- "On success peer credits fall by n." "A send adds n when its credits are taken".
 unfoldable pub planned : Table → (slot : ℕ) → Slot → (l : ℕ) → Plan → Outcome
-planned t s x l (Plan.Refused r) = refuse t r
-planned t s x l (Plan.Frames n octets) = change t s (withPeerCredits (x .peer .credits - n) x) [] (Frames (x .link) n) (frames (x .peer .cid) (x .peer .mps) l n)
+planned t s x l (Plan.Refused r) = unsent t s x r
+planned t s x l (Plan.Frames n octets) = change t s (countSent n (withPeerCredits (x .peer .credits - n) x)) [] (Frames (x .link) n) (frames (x .peer .cid) (x .peer .mps) l n)
 
 -- "Send order: 11, 12, 23, 20, 14, 3", and 24, "for a second send while a job is open, comes after 11" (document 02). Of these 12 to 3 are the plan's (crate sar_cut). Behind the first refusals:
 abbrev pub sentOn : Table → (slot l out : ℕ) → Outcome

@@ -44,7 +44,7 @@ use Rattle.channel.specs.declared.Verdict.the-variants.{Pass, Stop}
 use Rattle.channel.specs.declared.OpenJob.{OpenJob}
 use Rattle.channel.specs.declared.Slot.{Slot}
 use Rattle.channel.specs.declared.Table.{Table}
-use Rattle.definition.specs.Slots.{withAccount}
+use Rattle.definition.specs.Slots.{withAccount, blocks}
 use Rattle.definition.specs.Table.{slotAt, live, slotOf, gap, placeOf, width, slotFits, sizesFit, wellFormed, spent}
 use Rattle.definition.specs.Outcome.{Outcome, verdict, passed, gate, still}
 use Rattle.definition.specs.Pending.{nextPending, rejectAllPending, acceptPending, rejectPending, notCode, rejectRead, dropPending}
@@ -292,7 +292,7 @@ module _ (t : Table) where
 
   started-quiet : (s l size : ℕ) (x : Slot) (p : Plan) → Quiet (startPlanned t s x l size p)
   unfolding startPlanned
-  started-quiet s l size x (Plan.Refused r) = leaf refl refl
+  started-quiet s l size x (Plan.Refused r) = either _ (leaf refl refl) (leaf refl refl)
   started-quiet s l size x (Plan.Frames n octets) = either _ (leaf refl refl) (leaf refl refl)
 
   starts-quiet : (s l size : ℕ) → Quiet (startJob t s l size)
@@ -316,7 +316,7 @@ module _ (t : Table) where
 
   planned-hands : {h : Holder} (s l : ℕ) (x : Slot) (p : Plan) → Hands t h h nobody (planned t s x l p)
   unfolding planned
-  planned-hands s l x (Plan.Refused r) = record { out = none; tray = none }
+  planned-hands {h} s l x (Plan.Refused r) = if-cases (Hands t h h nobody) (blocks r) (λ _. record { out = none; tray = none }) (λ _. record { out = none; tray = none })
   planned-hands s l x (Plan.Frames n octets) = record { out = frames-own _ _ l n; tray = none }
 
   sends-hands : {h : Holder} (s l out : ℕ) → Hands t h h nobody (send t s l out)

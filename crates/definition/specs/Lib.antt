@@ -65,3 +65,5 @@ pub mod Line
 pub mod Worked
 -- the same of jobs handed over in portions
 pub mod PortionLines
+-- and of what is counted
+pub mod TallyLines

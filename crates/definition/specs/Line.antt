@@ -13,13 +13,14 @@ use Rattle.sar_join.specs.declared.Assembly.{Assembly}
 use Rattle.channel.specs.declared.Answer.{Answer}
 use Rattle.channel.specs.declared.Answer.the-variants.{Done, Refused, At, Link, Opened, Due, Frames, Job, Attention, Number, Event, Portion}
 use Rattle.channel.specs.declared.ChannelState.{ChannelState}
-use Rattle.channel.specs.declared.ChannelState.the-variants.{Disconnected, Connecting, PeerConnecting, Connected, ConnectFailed}
+use Rattle.channel.specs.declared.ChannelState.the-variants.{Disconnected, Connecting, PeerConnecting, Connected, ConnectFailed, PeerDisconnecting, Disconnecting}
 use Rattle.channel.specs.declared.L2capChannelConfig.{L2capChannelConfig}
 use Rattle.channel.specs.declared.Peer.{Peer}
 use Rattle.channel.specs.declared.Queue.{Queue}
 use Rattle.channel.specs.declared.Setting.the-variants as Setting
 use Rattle.channel.specs.declared.Slot.{Slot}
 use Rattle.channel.specs.declared.Table.{Table}
+use Rattle.channel.specs.declared.Tallies.{Tallies}
 use Rattle.definition.specs.Slots.{noJob}
 use Rattle.definition.specs.Calls.{Window, Call, Request, plain}
 use Rattle.definition.specs.Run.{State, outcome, after}
@@ -196,13 +197,20 @@ one a = record { count = 1; lens = a ∷ 0 ∷ 0 ∷ 0 ∷ [] }
 abbrev pub both : (a b : ℕ) → Queue
 both a b = record { count = 2; lens = a ∷ b ∷ 0 ∷ 0 ∷ [] }
 
+-- nothing counted; or these: frames sent and blocked sends, frames received and blocked receives
+abbrev pub tallied : (sent blockedSends received blockedReceives : ℕ) → Tallies
+tallied s b r c = record { sends = record { frames = s; blocked = b }; receives = record { frames = r; blocked = c } }
+
+abbrev pub untold : Tallies
+untold = tallied 0 0 0 0
+
 -- freed, but for its holds
 abbrev pub free : (hold : ℕ) → Slot
-free h = record { state = Disconnected; link = 0; spsm = 0; mps = 0; mtu = 0; account = every 1 0 0; hold = h; peer = nobody; assembly = idle; queue = none; job = noJob }
+free h = record { state = Disconnected; link = 0; spsm = 0; mps = 0; mtu = 0; account = every 1 0 0; hold = h; peer = nobody; assembly = idle; queue = none; job = noJob; tallies = untold }
 
 -- what the peer asked for: SPSM 0x80, with 3 credits
 abbrev pub wish : ChannelState → (link hold : ℕ) → Peer → Slot
-wish k l h p = record { state = k; link = l; spsm = 0x80; mps = 0; mtu = 0; account = every 1 0 0; hold = h; peer = p; assembly = idle; queue = none; job = noJob }
+wish k l h p = record { state = k; link = l; spsm = 0x80; mps = 0; mtu = 0; account = every 1 0 0; hold = h; peer = p; assembly = idle; queue = none; job = noJob; tallies = untold }
 
 -- .. and that waits for an answer
 abbrev pub asked : (link id hold : ℕ) → Slot
@@ -210,7 +218,7 @@ asked l id h = wish (PeerConnecting id) l h (peer 3)
 
 -- our own attempt, for SPSM 0x81, with the default numbers: waiting, refused, granted
 abbrev pub attempt : ChannelState → (link hold : ℕ) → Peer → Slot
-attempt k l h p = record { state = k; link = l; spsm = 0x81; mps = 25; mtu = 23; account = every 1 2 0; hold = h; peer = p; assembly = idle; queue = none; job = noJob }
+attempt k l h p = record { state = k; link = l; spsm = 0x81; mps = 25; mtu = 23; account = every 1 2 0; hold = h; peer = p; assembly = idle; queue = none; job = noJob; tallies = untold }
 
 abbrev pub ours : (link id hold : ℕ) → Slot
 ours l id h = attempt (Connecting id) l h nobody
@@ -221,9 +229,19 @@ failed l code h = attempt (ConnectFailed code) l h nobody
 abbrev pub granted : (link hold : ℕ) → Slot
 granted l h = attempt Connected l h (peer 3)
 
+-- What a channel has counted; one that our side has left, nothing.
+abbrev pub counts : ChannelState → Tallies
+counts Disconnected = tallied 7 5 3 2
+counts (Connecting i) = tallied 7 5 3 2
+counts (PeerConnecting i) = tallied 7 5 3 2
+counts Connected = tallied 7 5 3 2
+counts (ConnectFailed c) = tallied 7 5 3 2
+counts (PeerDisconnecting i) = tallied 7 5 3 2
+counts (Disconnecting a) = untold
+
 -- a channel that is or was Connected
 abbrev pub channel : ChannelState → (link hold : ℕ) → CreditFlowControl → Peer → Assembly → Queue → Slot
-channel k l h a p s q = record { state = k; link = l; spsm = 0x80; mps = 25; mtu = 23; account = a; hold = h; peer = p; assembly = s; queue = q; job = noJob }
+channel k l h a p s q = record { state = k; link = l; spsm = 0x80; mps = 25; mtu = 23; account = a; hold = h; peer = p; assembly = s; queue = q; job = noJob; tallies = counts k }
 
 -- .. with 3 credits on each side, and nothing received
 abbrev pub quiet : ChannelState → (link hold : ℕ) → Slot
@@ -234,7 +252,11 @@ connected l h = quiet Connected l h
 
 -- a slot with another MPS of ours
 abbrev pub narrow : (mps : ℕ) → Slot → Slot
-narrow mps x = record { state = x .state; link = x .link; spsm = x .spsm; mps = mps; mtu = x .mtu; account = x .account; hold = x .hold; peer = x .peer; assembly = x .assembly; queue = x .queue; job = x .job }
+narrow mps x = record { state = x .state; link = x .link; spsm = x .spsm; mps = mps; mtu = x .mtu; account = x .account; hold = x .hold; peer = x .peer; assembly = x .assembly; queue = x .queue; job = x .job; tallies = x .tallies }
+
+-- a slot that has counted these
+abbrev pub telling : Tallies → Slot → Slot
+telling y x = record { state = x .state; link = x .link; spsm = x .spsm; mps = x .mps; mtu = x .mtu; account = x .account; hold = x .hold; peer = x .peer; assembly = x .assembly; queue = x .queue; job = x .job; tallies = y }
 
 -- Past N stands a channel of link 1 in which everything waits.
 abbrev pub two : Slot → Slot → Table

@@ -37,6 +37,7 @@ attemptAs id link spsm mps mtu account =
       assembly = fresh 0 .assembly;
       queue = fresh 0 .queue;
       job = fresh 0 .job;
+      tallies = fresh 0 .tallies;
     }
 
 abbrev pub attempt : Table → (link spsm : ℕ) → L2capChannelConfig → Slot

@@ -93,6 +93,7 @@ acceptedAs mps mtu account x =
       assembly = x .assembly;
       queue = x .queue;
       job = x .job;
+      tallies = x .tallies;
     }
 
 abbrev pub accepted : Table → L2capChannelConfig → Slot → Slot

@@ -28,7 +28,7 @@ use Rattle.definition.specs.Frames.{send, planned}
 use Rattle.definition.specs.Portions.{startPlanned, startJob, givePortion, cancelJob}
 use Rattle.definition.specs.Calls.{Call, portions, down, signals, releases, leaves, starts, cancels, jobs, bare, serve, decide}
 use Rattle.definition.specs.Run.{State, outcome, after}
-use Rattle.definition.specs.Line.{_⊢_⇒_, _&_, Hold, Agree, Told, refused, answered, told, ask, start, window, two, no, yes, slots, writes, cleared0, wiped0, peer, every, idle, none, free, channel, quiet, connected, credits, leaving}
+use Rattle.definition.specs.Line.{_⊢_⇒_, _&_, Hold, Agree, Told, refused, answered, told, ask, start, window, two, no, yes, slots, writes, cleared0, wiped0, peer, every, idle, none, free, channel, tallied, telling, quiet, connected, credits, leaving}
 
 -- ---- slots with a job open
 
@@ -90,9 +90,10 @@ record Start-lines : Type 0 where
       ∷ (begun (to 65535 65535 1) 65533 65539, answered (Frames 1 1))
       ∷ [])
   begins : Hold (
-      two (free 0) (connected 2 1) ⊢ ask (starts 1 5) ⇒ yes (Frames 2 1) & slots (free 0) (withJob (job 5 0 2 1) (channel Connected 2 1 (every 1 3 0) (peer 2) idle none))
+      two (free 0) (connected 2 1) ⊢ ask (starts 1 5) ⇒ yes (Frames 2 1) & slots (free 0) (telling (tallied 8 5 3 2) (withJob (job 5 0 2 1) (channel Connected 2 1 (every 1 3 0) (peer 2) idle none)))
       & writes (7 ∷ 0 ∷ 0x40 ∷ 0 ∷ 5 ∷ 0 ∷ [])
       ∷ two (free 0) (connected 2 1) ⊢ ask (starts 1 22) ⇒ no 3
+      ∷ two (free 0) (channel Connected 2 1 (every 1 3 0) (peer 0) idle none) ⊢ ask (starts 1 5) ⇒ no 14 & slots (free 0) (telling (tallied 7 6 3 2) (channel Connected 2 1 (every 1 3 0) (peer 0) idle none))
       ∷ [])
   -- the first frame is MPS octets where there are more
   header : startJob (two (to 30 23 2) (free 0)) 0 22 27 .out ≡ given (23 ∷ 0 ∷ 0x40 ∷ 0 ∷ 22 ∷ 0 ∷ []) ∷ []

@@ -18,10 +18,10 @@ use Rattle.channel.specs.declared.Slot.{Slot}
 use Rattle.channel.specs.declared.Table.{Table}
 use Rattle.definition.specs.Mem.{Fill, given, job}
 use Rattle.definition.specs.States.{isConnected}
-use Rattle.definition.specs.Slots.{withPeerCredits, withJob, noJob}
+use Rattle.definition.specs.Slots.{withPeerCredits, withJob, noJob, countSent}
 use Rattle.definition.specs.Table.{if_then_else_, slotAt, isOpen}
 use Rattle.definition.specs.Outcome.{Outcome, change, filling, refuse, leaving, gate}
-use Rattle.definition.specs.Frames.{header, firstHeader}
+use Rattle.definition.specs.Frames.{header, firstHeader, unsent}
 
 -- ---- an open job. Its stream is the two octets of its length, then its own, as sar_cut has it; its frames are that stream's stretches.
 
@@ -47,13 +47,13 @@ frameSize mps j = min mps (j .length + 2 - givenOut j)
 abbrev pub begun : (l n : ℕ) → OpenJob
 begun l n = record { length = l; taken = 0; filled = 2; aside = n }
 
--- What the plan of a send comes to for a start. "3 also for that buffer too short, last at the start".
+-- What the plan of a send comes to for a start. "3 also for that buffer too short, last at the start". Its frames are counted at once, and no portion or cancel counts again or takes back.
 unfoldable pub startPlanned : Table → (slot : ℕ) → Slot → (l size : ℕ) → Plan → Outcome
-startPlanned t s x l size (Plan.Refused r) = refuse t r
+startPlanned t s x l size (Plan.Refused r) = unsent t s x r
 startPlanned t s x l size (Plan.Frames n octets) =
     let mps = x .peer .mps in
     if ltb size (bufferSize mps l) then refuse t NoRoom
-    else filling t s (withJob (begun l n) (withPeerCredits (x .peer .credits - n) x)) (Frames (x .link) n) 0 (given (firstHeader (x .peer .cid) (longest mps l) l) ∷ []) 0
+    else filling t s (withJob (begun l n) (countSent n (withPeerCredits (x .peer .credits - n) x))) (Frames (x .link) n) 0 (given (firstHeader (x .peer .cid) (longest mps l) l) ∷ []) 0
 
 -- 11, 24, then a send's 12, 23, 20, 14: its plan, for an output that suffices. Behind the first refusals:
 abbrev pub startOn : Table → (slot l size : ℕ) → Outcome

@@ -132,7 +132,7 @@ module _ (t : Table) where
 
   planned-roomless : (s l : ℕ) (x : Slot) (p : Plan) → Roomless t (planned t s x l p)
   unfolding planned frames
-  planned-roomless s l x (Plan.Refused r) = none refl refl refl
+  planned-roomless s l x (Plan.Refused r) = of-both _ (at s refl refl refl) (none refl refl refl)
   planned-roomless s l x (Plan.Frames n octets) = at s refl (later-unheld (x .peer .cid) (x .peer .mps) l (n - 1) (min l (x .peer .mps - 2))) refl
 
   sends-roomless : (s l out : ℕ) → Roomless t (send t s l out)
@@ -141,7 +141,7 @@ module _ (t : Table) where
 
   started-roomless : (s l size : ℕ) (x : Slot) (p : Plan) → Roomless t (startPlanned t s x l size p)
   unfolding startPlanned
-  started-roomless s l size x (Plan.Refused r) = none refl refl refl
+  started-roomless s l size x (Plan.Refused r) = of-both _ (at s refl refl refl) (none refl refl refl)
   started-roomless s l size x (Plan.Frames n octets) = of-both _ (none refl refl refl) (at s refl refl refl)
 
   starts-roomless : (s l size : ℕ) → Roomless t (startJob t s l size)

@@ -10,6 +10,7 @@ use borrow.Author.Tests.{eqb-true, eqb-false, ne-eqb, not-false}
 use Rattle.lists.specs.Choose.{choose}
 use Rattle.lists.specs.Both.{and-left}
 use Rattle.lists.specs.Each.{take-mapFirst}
+use Rattle.codes.specs.declared.Refusal.{Refusal}
 use Rattle.codes.specs.declared.ResultRead.{ResultRead}
 use Rattle.codes.specs.declared.ResultRead.the-variants.{Known, Unknown}
 use Rattle.credit.specs.declared.Grant.{Grant}
@@ -55,7 +56,7 @@ use Rattle.definition.specs.Pending.{nextPending, rejectAllPending, acce
 use Rattle.definition.specs.Opening.{create, opened, giveUp}
 use Rattle.definition.specs.Closing.{incRef, decRef, disconnecting, disconnect, disconnectByCid, disconnected, nextDisconnect}
 use Rattle.definition.specs.Signals.{onReject, onDisconnectionReq, onDisconnectionRes, onParameters, onParameterResponse, onConnReq, onConnRes, onCredits, handled, checked, signalled}
-use Rattle.definition.specs.Frames.{joined, dispatch, planned, send, shifted, movingUp, handing, taken, receive}
+use Rattle.definition.specs.Frames.{joined, dispatch, unsent, planned, send, shifted, movingUp, handing, taken, receive}
 use Rattle.definition.specs.Portions.{startPlanned, startJob, givePortion, cancelJob}
 use Rattle.definition.specs.Asking.{registerSpsm, attention, query, sendSignal}
 use Rattle.definition.specs.Calls.{Call, frame, sends, portions, down, plain, Request, register, signals, pends, rejectsAll, accepts, rejects, drops, creates, opens, gives, holds, releases, leaves, leavesCid, announces, takes, starts, cancels, attends, asks, sendsSignal, writes, bare, Holder, nobody, by, holderIn, holder, isBy, carrier, serve, decide}
@@ -282,14 +283,17 @@ module _ (t : Table) (fit : Fit t) where
   unfolding dispatch
   frame-safe room link cid head count =
       gate-does on (Is room) Nothing (Is link) Nothing λ _.
-      else-does on _ _ _ itself λ a. else-does on _ _ _ itself λ b. else-does on _ _ _ itself λ d. else-does on _ _ _ itself λ _.
+      else-does on _ _ _ itself λ a. else-does on _ _ _ itself λ b. else-does on _ _ _ itself λ d. if-does on (λ _. change-does on _ itself (cid-slot t cid (not-false _ a)) (kept refl refl)) λ _.
       let s : ℕ = slotOf cid in
       let e = own isConnected refl s (not-false _ b) in
       joined-safe link s count _ (cid-slot t cid (not-false _ a)) e refl (sym e ∙ ap by (eqb-true (slotAt t s .link) link (not-false _ d))) _
 
+  unsent-safe : {l : Holder} (s : ℕ) (r : Refusal) → leb (t .n) s ≡ false → Safe t l (unsent t s (slotAt t s) r)
+  unsent-safe s r a = if-does on (λ _. change-does on s itself a (kept refl refl)) (λ _. still-does on itself)
+
   planned-safe : {l : Holder} (s count : ℕ) → leb (t .n) s ≡ false → (p : Plan) → Safe t l (planned t s (slotAt t s) count p)
   unfolding planned
-  planned-safe s count a (Plan.Refused r) = still-does on itself
+  planned-safe s count a (Plan.Refused r) = unsent-safe s r a
   planned-safe s count a (Plan.Frames n octets) = change-does on s itself a (kept refl refl)
 
   sends-safe : {l : Holder} (s count out : ℕ) → Safe t l (send t s count out)
@@ -316,7 +320,7 @@ module _ (t : Table) (fit : Fit t) where
 
   started-safe : {l : Holder} (s count size : ℕ) → leb (t .n) s ≡ false → (p : Plan) → Safe t l (startPlanned t s (slotAt t s) count size p)
   unfolding startPlanned
-  started-safe s count size a (Plan.Refused r) = still-does on itself
+  started-safe s count size a (Plan.Refused r) = unsent-safe s r a
   started-safe s count size a (Plan.Frames n octets) = else-does on _ _ _ itself λ _. filling-does on s a (kept refl refl)
 
   starts-safe : {l : Holder} (s count size : ℕ) → Safe t l (startJob t s count size)

@@ -70,6 +70,7 @@ pending link id req =
       assembly = fresh 0 .assembly;
       queue = fresh 0 .queue;
       job = fresh 0 .job;
+      tallies = fresh 0 .tallies;
     }
 
 unfoldable pub onConnReq : Table → (link : ℕ) (listening : Bool) (id : ℕ) → LeCreditConnReqRead → Outcome

@@ -21,7 +21,7 @@ use Rattle.channel.specs.declared.Queue.{Queue}
 use Rattle.channel.specs.declared.Slot.{Slot}
 use Rattle.channel.specs.declared.Table.{Table}
 pub use Rattle.definition.specs.States.{isDisconnected, isConnecting, isPeerConnecting, isConnected, isConnectFailed, isPeerDisconnecting, isDisconnecting, isDue, identifierOf, failureOf}
-pub use Rattle.definition.specs.Slots.{inState, withHold, withAccount, withPeer, withPeerCredits, withAssembly, withQueue, withJob, noJob, left}
+pub use Rattle.definition.specs.Slots.{inState, withHold, withAccount, withPeer, withPeerCredits, withAssembly, withQueue, withJob, withTallies, withSends, withReceives, noJob, noTally, noTallies, counted, more, blockedMore, countSent, countReceived, countBlockedSend, countBlockedReceive, blocks, blockedBy, talliesLeft, left}
 
 -- A test, an answer, and what else: read it aloud.
 infixr 5 if_then_else_
@@ -72,9 +72,10 @@ fresh hold =
       assembly = idle;
       queue = record { count = 0; lens = replicate depthMost 0 };
       job = noJob;
+      tallies = noTallies;
     }
 
--- "Freed means Disconnected and all numbers but the hold count reset."
+-- "Freed means Disconnected and all numbers but the hold count reset." ("also whenever the slot is freed": the tallies, document 02)
 abbrev pub freed : Slot → Slot
 freed x = fresh (x .hold)
 

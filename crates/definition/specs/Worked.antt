@@ -48,7 +48,7 @@ use Rattle.definition.specs.Asking.{make, registerSpsm, attention, lowes
 use Rattle.definition.specs.Calls.{Call, Request, frame, sends, down, plain, register, signals, pends, rejectsAll, accepts, rejects, drops, creates, opens, gives, holds, releases, leaves, leavesCid, announces, takes, attends, asks, sendsSignal, jobs, bare, serve, decide}
 use Rattle.definition.specs.Numbers.{answerNumber}
 use Rattle.definition.specs.Run.{State, outcome, after, made, run, outcomes}
-use Rattle.definition.specs.Line.{_⊢_⇒_, _&_, Hold, Agree, Told, refused, answered, told, ask, start, window, three, two, counting, knowing, place, begins, no, yes, slots, next, part0, part1, wiped0, wiped1, cleared0, cleared1, writes, hands, peer, peerOf, every, threshold, idle, partly, none, one, both, free, wish, asked, attempt, ours, failed, granted, channel, quiet, connected, narrow, usual, sized, requestOf, request, responseOf, response, credits, leaving, gone, parameters, reject, refusal}
+use Rattle.definition.specs.Line.{_⊢_⇒_, _&_, Hold, Agree, Told, refused, answered, told, ask, start, window, three, two, counting, knowing, place, begins, no, yes, slots, next, part0, part1, wiped0, wiped1, cleared0, cleared1, writes, hands, peer, peerOf, every, threshold, idle, partly, none, one, both, free, wish, asked, attempt, ours, failed, granted, channel, quiet, connected, narrow, tallied, untold, telling, usual, sized, requestOf, request, responseOf, response, credits, leaving, gone, parameters, reject, refusal}
 
 -- ---- a run: two phones, each on its link, with the same identifier and the same CID. The first's job comes in three frames, the second's
 -- between them; the first is sent a job in three frames. What a phone says of the CID that both use, or of the other's slot, touches its
@@ -118,7 +118,7 @@ module _ (a b c d e x y : ℕ) where
     -- after the second frame of the first phone: its half, and the other's job; then the whole, and no octet of the half
     half-way : when 10 .room ≡ begins (a ∷ b ∷ c ∷ d ∷ []) 0 ++ place 0 ++ place 0 ++ place 0 ++ begins (x ∷ []) 0 ++ place 0
     whole-job : when 11 .room ≡ place 0 ++ begins (a ∷ b ∷ c ∷ d ∷ e ∷ []) 0 ++ place 0 ++ place 0 ++ begins (x ∷ []) 0 ++ place 0
-    -- three credits used, and none left: the fourth frame is refused and changes nothing
+    -- three credits used, and none left: the fourth frame is refused and changes a tally alone
     used : seen 12 ≡ (Connected, 1 ∷ 0 ∷ 3 ∷ 3 ∷ []) ∷ (Connected, 1 ∷ 2 ∷ 1 ∷ 3 ∷ []) ∷ []
     -- the take copies the job and grants the three
     taken-job : take 23 (when 13 .memory) ≡ 8 ∷ 0 ∷ 5 ∷ 0 ∷ 0x16 ∷ 1 ∷ 4 ∷ 0 ∷ 0x40 ∷ 0 ∷ 3 ∷ 0 ∷ 25 ∷ 0 ∷ 3 ∷ 0 ∷ 0 ∷ 0 ∷ a ∷ b ∷ c ∷ d ∷ e ∷ []
@@ -132,6 +132,9 @@ module _ (a b c d e x y : ℕ) where
     -- the first phone may not close the second's slot
     not-its-own : take 10 (when 18 .memory) ≡ reject 8 2
     closed : seen 19 ≡ (Connected, 1 ∷ 3 ∷ 0 ∷ 0 ∷ []) ∷ (PeerDisconnecting 8, 1 ∷ 3 ∷ 0 ∷ 7 ∷ []) ∷ []
+    -- frames sent and blocked sends, frames received and blocked receives: after the refused frame and the refused send; the peer's disconnect leaves them; freed, nothing is left
+    tallies : map (λ n. map (λ s. s .tallies) (take 2 (when n .table .slots))) (16 ∷ 19 ∷ 20 ∷ 21 ∷ [])
+        ≡ (tallied 3 1 3 1 ∷ tallied 0 0 1 0 ∷ []) ∷ (tallied 3 1 3 1 ∷ tallied 0 0 1 0 ∷ []) ∷ (tallied 3 1 3 1 ∷ untold ∷ []) ∷ (untold ∷ untold ∷ []) ∷ []
     -- freed, both keep their holds until these are released
     over : seen 22 ≡ (Disconnected, 0 ∷ 0 ∷ 0 ∷ 0 ∷ []) ∷ (Disconnected, 1 ∷ 0 ∷ 0 ∷ 0 ∷ []) ∷ []
 
@@ -152,6 +155,7 @@ module _ (a b c d e x y : ℕ) where
         given-credits = refl;
         not-its-own = refl;
         closed = refl;
+        tallies = refl;
         over = refl;
       }
 
@@ -182,10 +186,10 @@ record Pending-lines : Type 0 where
       ∷ two (ours 1 7 0) (free 0) ⊢ ask (accepts 0 usual) ⇒ no 8  -- state before hold
       ∷ two (asked 1 7 0) (free 0) ⊢ ask (accepts 0 usual) ⇒ no 22  -- hold 0
       ∷ two (asked 1 7 2) (free 0) ⊢ ask (accepts 0 usual)
-      ⇒ yes (Link 1) & slots (channel Connected 1 2 (every 1 2 0) (peer 3) idle none) (free 0)
+      ⇒ yes (Link 1) & slots (telling untold (channel Connected 1 2 (every 1 2 0) (peer 3) idle none)) (free 0)
       & writes (14 ∷ 0 ∷ 5 ∷ 0 ∷ 0x15 ∷ 7 ∷ 10 ∷ 0 ∷ 0x40 ∷ 0 ∷ 23 ∷ 0 ∷ 25 ∷ 0 ∷ 2 ∷ 0 ∷ 0 ∷ 0 ∷ [])
       ∷ two (free 0) (asked 2 7 1) ⊢ ask (accepts 1 (sized 23 25))
-      ⇒ yes (Link 2) & slots (free 0) (channel Connected 2 1 (threshold 2 7 0) (peer 3) idle none)
+      ⇒ yes (Link 2) & slots (free 0) (telling untold (channel Connected 2 1 (threshold 2 7 0) (peer 3) idle none))
       & writes (14 ∷ 0 ∷ 5 ∷ 0 ∷ 0x15 ∷ 7 ∷ 10 ∷ 0 ∷ 0x41 ∷ 0 ∷ 23 ∷ 0 ∷ 25 ∷ 0 ∷ 7 ∷ 0 ∷ 0 ∷ 0 ∷ [])
       ∷ [])
   reject-one : Hold (
@@ -336,7 +340,7 @@ half = channel Connected 1 1 (every 1 2 1) (peer 3) (partly 2 5) (one 4)
 
 -- an attempt as no run has it: half a job is there, and another waits
 abbrev begun : Slot → Slot
-begun x = record { state = x .state; link = x .link; spsm = x .spsm; mps = x .mps; mtu = x .mtu; account = x .account; hold = x .hold; peer = x .peer; assembly = partly 2 5; queue = one 4; job = x .job }
+begun x = record { state = x .state; link = x .link; spsm = x .spsm; mps = x .mps; mtu = x .mtu; account = x .account; hold = x .hold; peer = x .peer; assembly = partly 2 5; queue = one 4; job = x .job; tallies = x .tallies }
 
 record Signal-lines : Type 0 where
   -- every header first: in these a good request for a channel stands before the bad header, and nothing comes of it
@@ -425,7 +429,7 @@ record Signal-lines : Type 0 where
   disconnect-request : Hold (
       two half (free 0) ⊢ hear 1 (leaving 8 0x40 0x99) ⇒ yes Done & slots (channel (PeerDisconnecting 8) 1 1 (every 1 2 1) (peer 3) idle (one 4)) (free 0) & cleared0
       ∷ two (free 0) (asked 1 7 1) ⊢ hear 1 (leaving 8 0x41 0x40) ⇒ yes Done & slots (free 0) (wish (PeerDisconnecting 8) 1 1 (peer 3)) & cleared1
-      ∷ two (quiet (Disconnecting true) 1 1) (free 0) ⊢ hear 1 (leaving 8 0x40 0x40) ⇒ yes Done & slots (quiet (PeerDisconnecting 8) 1 1) (free 0) & cleared0
+      ∷ two (quiet (Disconnecting true) 1 1) (free 0) ⊢ hear 1 (leaving 8 0x40 0x40) ⇒ yes Done & slots (telling untold (quiet (PeerDisconnecting 8) 1 1)) (free 0) & cleared0
       ∷ two half (free 0) ⊢ hear 1 (leaving 8 0x3F 0x40) ⇒ yes Done & writes (reject 8 2)  -- CID below 0x40
       ∷ two half (free 0) ⊢ hear 1 (leaving 8 0x42 0x40) ⇒ yes Done & writes (reject 8 2)  -- CID at least 0x40 + N
       ∷ two half (free 0) ⊢ hear 2 (leaving 8 0x40 0x40) ⇒ yes Done & writes (reject 8 2)  -- link
@@ -479,9 +483,13 @@ signal-lines =
 
 -- ---- frames in
 
--- a Connected channel of link 1, and the same once a frame was counted and it turned Disconnecting
+-- a Connected channel of link 1, which has counted the frames that its account has received; and the same once a frame came and it turned Disconnecting
 abbrev at : (held received : ℕ) → Assembly → Queue → Slot
-at held received s q = channel Connected 1 1 (every 1 held received) (peer 3) s q
+at held received s q = telling (tallied 7 5 received 2) (channel Connected 1 1 (every 1 held received) (peer 3) s q)
+
+-- .. and with no credit held, once a frame was refused for it
+abbrev starved : Slot
+starved = telling (tallied 7 5 3 3) (at 0 3 idle none)
 
 abbrev ended : Queue → Slot
 ended q = channel (Disconnecting false) 1 1 (every 1 2 1) (peer 3) idle q
@@ -495,8 +503,8 @@ record Frame-lines : Type 0 where
       ∷ two (asked 1 7 0) (free 0) ⊢ frame 2 0x40 (0 ∷ 0 ∷ []) ⇒ yes Done  -- state before link, and before credit
       ∷ two (connected 1 1) (free 0) ⊢ frame 2 0x40 (0 ∷ 0 ∷ []) ⇒ no 8  -- link
       ∷ two (at 0 3 idle none) (free 0) ⊢ frame 2 0x40 (0 ∷ 0 ∷ []) ⇒ no 8  -- link before credit
-      ∷ two (at 0 3 idle none) (free 0) ⊢ frame 1 0x40 (0 ∷ 0 ∷ []) ⇒ no 10  -- credit
-      ∷ two (at 0 3 idle none) (free 0) ⊢ frame 1 0x40 [] ⇒ no 10  -- credit before 19
+      ∷ two (at 0 3 idle none) (free 0) ⊢ frame 1 0x40 (0 ∷ 0 ∷ []) ⇒ no 10 & slots starved (free 0)  -- credit
+      ∷ two (at 0 3 idle none) (free 0) ⊢ frame 1 0x40 [] ⇒ no 10 & slots starved (free 0)  -- credit before 19
       ∷ [])
   first-frames : Hold (
       two (at 3 0 idle (one 4)) (free 0) ⊢ frame 1 0x40 [] ⇒ no 19 & slots (ended (one 4)) (free 0) & cleared0  -- under 2 octets
@@ -518,7 +526,7 @@ record Frame-lines : Type 0 where
       & part0 (begins (7 ∷ 8 ∷ []) 1) (place 2) (place 3)  -- nothing wanted: no assembly is open, whatever is had
       ∷ two (at 3 0 (partly 4 0) none) (free 0) ⊢ frame 1 0x40 (2 ∷ 0 ∷ 7 ∷ 8 ∷ []) ⇒ yes Done & slots (at 2 1 idle (one 2)) (free 0)
       & part0 (place 1) (begins (7 ∷ 8 ∷ []) 2) (place 3)
-      ∷ two (free 0) (connected 2 1) ⊢ frame 2 0x41 (0 ∷ 0 ∷ []) ⇒ yes Done & slots (free 0) (channel Connected 2 1 (every 1 2 1) (peer 3) idle (one 0))  -- a job of 0 octets
+      ∷ two (free 0) (connected 2 1) ⊢ frame 2 0x41 (0 ∷ 0 ∷ []) ⇒ yes Done & slots (free 0) (telling (tallied 7 5 4 2) (channel Connected 2 1 (every 1 2 1) (peer 3) idle (one 0)))  -- a job of 0 octets
       ∷ [])
   joining-frames : Hold (
       two (at 3 0 (partly 2 5) none) (free 0) ⊢ frame 1 0x40 (7 ∷ 8 ∷ 9 ∷ 9 ∷ []) ⇒ no 9 & slots (ended none) (free 0) & cleared0  -- overrun
@@ -540,7 +548,7 @@ record Frame-lines : Type 0 where
       & part0 (begins (1 ∷ 1 ∷ 7 ∷ 8 ∷ []) 1) (place 2) (place 3)
       ∷ two (narrow 0 (quiet (Disconnecting false) 1 1)) (free 0) ⊢ frame 1 0x40 (5 ∷ []) ⇒ yes Done  -- state before it
       ∷ two (narrow 0 (at 3 0 idle none)) (free 0) ⊢ frame 2 0x40 (5 ∷ []) ⇒ no 8  -- link before it
-      ∷ two (narrow 0 (at 0 3 idle none)) (free 0) ⊢ frame 1 0x40 (5 ∷ []) ⇒ no 10  -- credit before it
+      ∷ two (narrow 0 (at 0 3 idle none)) (free 0) ⊢ frame 1 0x40 (5 ∷ []) ⇒ no 10 & slots (narrow 0 starved) (free 0)  -- credit before it
       ∷ two (narrow 0 (at 3 0 idle none)) (free 0) ⊢ frame 1 0x40 (5 ∷ []) ⇒ no 9 & slots (narrow 0 (ended none)) (free 0) & cleared0  -- before 19
       ∷ two (narrow 1 (at 3 0 idle (both 4 4))) (free 0) ⊢ frame 1 0x40 (0 ∷ 0 ∷ []) ⇒ no 9 & slots (narrow 1 (ended (both 4 4))) (free 0) & cleared0  -- before 21
       ∷ two (narrow 1 (at 3 0 (partly 2 4) (both 4 4))) (free 0) ⊢ frame 1 0x40 (7 ∷ 8 ∷ []) ⇒ no 9 & slots (narrow 1 (ended (both 4 4))) (free 0) & cleared0
@@ -578,9 +586,11 @@ record Send-lines : Type 0 where
       ∷ (sent (to 65535 65535 1) 65533 65539, answered (Frames 1 1))
       ∷ [])
   frames-out : Hold (
-      two (free 0) (connected 2 1) ⊢ sends 1 (7 ∷ 8 ∷ []) (window 0 8) ⇒ yes (Frames 2 1) & slots (free 0) (channel Connected 2 1 (every 1 3 0) (peer 2) idle none)
+      two (free 0) (connected 2 1) ⊢ sends 1 (7 ∷ 8 ∷ []) (window 0 8) ⇒ yes (Frames 2 1) & slots (free 0) (telling (tallied 8 5 3 2) (channel Connected 2 1 (every 1 3 0) (peer 2) idle none))
       & writes (4 ∷ 0 ∷ 0x40 ∷ 0 ∷ 2 ∷ 0 ∷ 7 ∷ 8 ∷ [])
       ∷ two (free 0) (connected 2 1) ⊢ sends 1 (7 ∷ 8 ∷ []) (window 0 7) ⇒ no 3
+      ∷ two (free 0) (channel Connected 2 1 (every 1 3 0) (peer 0) idle none) ⊢ sends 1 (7 ∷ 8 ∷ []) (window 0 8)
+      ⇒ no 14 & slots (free 0) (telling (tallied 7 6 3 2) (channel Connected 2 1 (every 1 3 0) (peer 0) idle none))
       ∷ [])
 
 send-lines : Send-lines
@@ -789,7 +799,7 @@ abbrev fits : Slot → Bool
 fits x = wellFormed (two x (free 0))
 
 abbrev sized-slot : (mtu : ℕ) → CreditFlowControl → Assembly → Queue → Slot
-sized-slot mtu a s q = record { state = Connected; link = 1; spsm = 0x80; mps = 25; mtu = mtu; account = a; hold = 1; peer = peer 3; assembly = s; queue = q; job = noJob }
+sized-slot mtu a s q = record { state = Connected; link = 1; spsm = 0x80; mps = 25; mtu = mtu; account = a; hold = 1; peer = peer 3; assembly = s; queue = q; job = noJob; tallies = untold }
 
 record Gate-lines : Type 0 where
   --                                                   table room signal link slot, its own

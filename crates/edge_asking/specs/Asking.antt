@@ -3,7 +3,7 @@ use mathlib.Core.List.{List, []}
 use Prim.Native.Nat.{ℕ}
 use lib.ListN.{length}
 use Rattle.lists.specs.Choose.{choose}
-use Rattle.definition.specs.Asking.{make, registerSpsm, attention, spsm, mtu, mps, peerMtu, peerMps, sendConnParamUpdateReq, sendConnParamUpdateRes}
+use Rattle.definition.specs.Asking.{make, registerSpsm, attention, spsm, mtu, mps, peerMtu, peerMps, tallySent, tallyReceived, tallyBlockedSends, tallyBlockedReceives, sendConnParamUpdateReq, sendConnParamUpdateRes}
 use Rattle.definition.specs.Ending.{servedOf, endOf, endMade}
 use Rattle.edge.specs.Edge.{Edge, onTable, madeOn, alone}
 
@@ -34,6 +34,18 @@ peerMtuEdge table answer slot = onTable table answer (λ t. alone (servedOf (pee
 -- The MPS of a slot's peer.
 abbrev pub peerMpsEdge : (table answer : List ℕ) (slot : ℕ) → Edge
 peerMpsEdge table answer slot = onTable table answer (λ t. alone (servedOf (peerMps t slot)))
+
+abbrev pub tallySentEdge : (table answer : List ℕ) (slot : ℕ) → Edge
+tallySentEdge table answer slot = onTable table answer (λ t. alone (servedOf (tallySent t slot)))
+
+abbrev pub tallyReceivedEdge : (table answer : List ℕ) (slot : ℕ) → Edge
+tallyReceivedEdge table answer slot = onTable table answer (λ t. alone (servedOf (tallyReceived t slot)))
+
+abbrev pub tallyBlockedSendsEdge : (table answer : List ℕ) (slot : ℕ) → Edge
+tallyBlockedSendsEdge table answer slot = onTable table answer (λ t. alone (servedOf (tallyBlockedSends t slot)))
+
+abbrev pub tallyBlockedReceivesEdge : (table answer : List ℕ) (slot : ℕ) → Edge
+tallyBlockedReceivesEdge table answer slot = onTable table answer (λ t. alone (servedOf (tallyBlockedReceives t slot)))
 
 -- The slots that call.
 abbrev pub attentionEdge : (table answer : List ℕ) → Edge

@@ -6,7 +6,7 @@ use edge_layout::TABLE_OCTETS;
 ghost use mathlib.Core.Path.{_≡_};
 ghost use mathlib.Core.List.{[]};
 ghost use Rattle.edge.specs.Edge.{edge};
-ghost use Rattle.edge_asking.specs.Asking.{makeEdge, registerSpsmEdge, spsmEdge, mtuEdge, mpsEdge, peerMtuEdge, peerMpsEdge, attentionEdge, sendConnParamUpdateReqEdge, sendConnParamUpdateResEdge};
+ghost use Rattle.edge_asking.specs.Asking.{makeEdge, registerSpsmEdge, spsmEdge, mtuEdge, mpsEdge, peerMtuEdge, peerMpsEdge, tallySentEdge, tallyReceivedEdge, tallyBlockedSendsEdge, tallyBlockedReceivesEdge, attentionEdge, sendConnParamUpdateReqEdge, sendConnParamUpdateResEdge};
 
 // Makes a table of n slots, depth d and packets of m octets, and zeroes its room. Table octets of another length are refused by 1.
 pub fn make(table: &mut [u8], answer: &mut [u8], room: &mut [u8], n: u16, d: u16, m: u16) -> u32
@@ -79,6 +79,50 @@ pub fn peer_mps(table: &[u8], answer: &mut [u8], slot: u8) -> u32
     let d = edge_layout_decode::decode(table);
     let t = d.table;
     let s = call_queries::peer_mps(t, ChannelIndex(slot));
+    let a = s.answer;
+    edge_answer::put_answer(answer, a, s.octets)
+}
+
+// The frames that a slot has sent.
+pub fn tally_sent(table: &[u8], answer: &mut [u8], slot: u8) -> u32
+    ensures { λ r. ⌜ edge r (now (table .entry)) (now (answer .exit)) [] [] [] ≡ tallySentEdge (now (table .entry)) (now (answer .entry)) slot ⌝ }
+{
+    let d = edge_layout_decode::decode(table);
+    let t = d.table;
+    let s = call_queries::tally_sent(t, ChannelIndex(slot));
+    let a = s.answer;
+    edge_answer::put_answer(answer, a, s.octets)
+}
+
+// The frames that a slot has received.
+pub fn tally_received(table: &[u8], answer: &mut [u8], slot: u8) -> u32
+    ensures { λ r. ⌜ edge r (now (table .entry)) (now (answer .exit)) [] [] [] ≡ tallyReceivedEdge (now (table .entry)) (now (answer .entry)) slot ⌝ }
+{
+    let d = edge_layout_decode::decode(table);
+    let t = d.table;
+    let s = call_queries::tally_received(t, ChannelIndex(slot));
+    let a = s.answer;
+    edge_answer::put_answer(answer, a, s.octets)
+}
+
+// A slot's sends and starts that were refused for want of credits.
+pub fn tally_blocked_sends(table: &[u8], answer: &mut [u8], slot: u8) -> u32
+    ensures { λ r. ⌜ edge r (now (table .entry)) (now (answer .exit)) [] [] [] ≡ tallyBlockedSendsEdge (now (table .entry)) (now (answer .entry)) slot ⌝ }
+{
+    let d = edge_layout_decode::decode(table);
+    let t = d.table;
+    let s = call_queries::tally_blocked_sends(t, ChannelIndex(slot));
+    let a = s.answer;
+    edge_answer::put_answer(answer, a, s.octets)
+}
+
+// A slot's frames that were refused for want of credits.
+pub fn tally_blocked_receives(table: &[u8], answer: &mut [u8], slot: u8) -> u32
+    ensures { λ r. ⌜ edge r (now (table .entry)) (now (answer .exit)) [] [] [] ≡ tallyBlockedReceivesEdge (now (table .entry)) (now (answer .entry)) slot ⌝ }
+{
+    let d = edge_layout_decode::decode(table);
+    let t = d.table;
+    let s = call_queries::tally_blocked_receives(t, ChannelIndex(slot));
     let a = s.answer;
     edge_answer::put_answer(answer, a, s.octets)
 }

@@ -51,6 +51,7 @@ fn row(t: &[u8], i: usize) -> Slot
     let assembly = edge_layout_read::assembly_at(t, i);
     let queue = edge_layout_read::queue_at(t, i);
     let job = edge_layout_read::job_at(t, i);
+    let tallies = edge_layout_read::tallies_at(t, i);
     Slot {
         state,
         link: number(t, i, LINK),
@@ -63,10 +64,11 @@ fn row(t: &[u8], i: usize) -> Slot
         assembly,
         queue,
         job,
+        tallies,
     }
 }
 
-// Writes what a frame can change of the slot: the open job too where the channel is left. With one caller too.
+// Writes what a frame can change of the slot: what is counted of frames, and where the channel is left the open job and all tallies. With one caller too.
 fn put_row(t: &mut [u8], i: usize, x: Slot)
     requires { ⌜ (tableOctets ≤ length (now t)) × (i < slotsMost) ⌝ }
     ensures { λ _. ⌜ now (t .exit) ≡ framedRow (now (t .entry)) i x ⌝ }
@@ -80,10 +82,14 @@ fn put_row(t: &mut [u8], i: usize, x: Slot)
     let q = x.queue;
     edge_layout_write::put_queue(t, i, q);
     if table_state::is_connected(k) {
+        let counted = x.tallies.receives;
+        edge_layout_write::put_receives(t, i, counted);
         return;
     }
     let j = x.job;
     edge_layout_write::put_job(t, i, j);
+    let y = x.tallies;
+    edge_layout_write::put_tallies(t, i, y);
 }
 
 // A frame to slot s, whose part is in the room and whose row is in the table's octets.

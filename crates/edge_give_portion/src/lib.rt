@@ -32,6 +32,7 @@ fn row(t: &[u8], i: usize) -> Slot
     let assembly = edge_layout_read::assembly_at(t, i);
     let queue = edge_layout_read::queue_at(t, i);
     let job = edge_layout_read::job_at(t, i);
+    let tallies = edge_layout_read::tallies_at(t, i);
     Slot {
         state,
         link: number(t, i, LINK),
@@ -44,6 +45,7 @@ fn row(t: &[u8], i: usize) -> Slot
         assembly,
         queue,
         job,
+        tallies,
     }
 }
 

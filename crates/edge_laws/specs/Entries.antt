@@ -9,7 +9,7 @@ use Rattle.codes.specs.declared.Refusal.the-variants.{BadTable}
 use Rattle.channel.specs.declared.Table.{Table}
 use Rattle.definition.specs.Mem.{sizes}
 use Rattle.definition.specs.Outcome.{Outcome, refuse}
-use Rattle.definition.specs.Asking.{noSlots, registerSpsm, attention, spsm, mtu, mps, peerMtu, peerMps, sendConnParamUpdateReq, sendConnParamUpdateRes}
+use Rattle.definition.specs.Asking.{noSlots, registerSpsm, attention, spsm, mtu, mps, peerMtu, peerMps, tallySent, tallyReceived, tallyBlockedSends, tallyBlockedReceives, sendConnParamUpdateReq, sendConnParamUpdateRes}
 use Rattle.definition.specs.Closing.{incRef, decRef, disconnect, disconnectByCid, disconnected, nextDisconnect}
 use Rattle.definition.specs.Frames.{send, receive}
 use Rattle.definition.specs.Portions.{startJob, givePortion, cancelJob}
@@ -20,7 +20,7 @@ use Rattle.definition.specs.Calls.{Call, frame, sends, portions, down, Request,
 use Rattle.definition.specs.Ending.{servedOf, endOf}
 use Rattle.edge_layout.specs.Layout.{read}
 use Rattle.edge.specs.Edge.{onTable, alone, flag, configOf}
-use Rattle.edge_asking.specs.Asking.{registerSpsmEdge, spsmEdge, mtuEdge, mpsEdge, peerMtuEdge, peerMpsEdge, attentionEdge, sendConnParamUpdateReqEdge, sendConnParamUpdateResEdge}
+use Rattle.edge_asking.specs.Asking.{registerSpsmEdge, spsmEdge, mtuEdge, mpsEdge, peerMtuEdge, peerMpsEdge, tallySentEdge, tallyReceivedEdge, tallyBlockedSendsEdge, tallyBlockedReceivesEdge, attentionEdge, sendConnParamUpdateReqEdge, sendConnParamUpdateResEdge}
 use Rattle.edge_opening.specs.Opening.{createEdge, openedEdge, giveUpEdge}
 use Rattle.edge_pending.specs.Pending.{nextPendingEdge, acceptPendingEdge, rejectPendingEdge, rejectAllPendingEdge, dropPendingEdge}
 use Rattle.edge_closing.specs.Holding.{incRefEdge, decRefEdge}
@@ -69,6 +69,22 @@ peer-mtu-on-none o a slot none = on-none-alone o a (λ t. peerMtu t slot) none (
 pub peer-mps-on-none : (o a : List ℕ) (slot : ℕ) → read o .ok ≡ false → peerMpsEdge o a slot ≡ leftAlone o a [] [] []
 unfolding serve
 peer-mps-on-none o a slot none = on-none-alone o a (λ t. peerMps t slot) none (none-serves (asks _ slot) refl 0 0 0)
+
+pub tally-sent-on-none : (o a : List ℕ) (slot : ℕ) → read o .ok ≡ false → tallySentEdge o a slot ≡ leftAlone o a [] [] []
+unfolding serve
+tally-sent-on-none o a slot none = on-none-alone o a (λ t. tallySent t slot) none (none-serves (asks _ slot) refl 0 0 0)
+
+pub tally-received-on-none : (o a : List ℕ) (slot : ℕ) → read o .ok ≡ false → tallyReceivedEdge o a slot ≡ leftAlone o a [] [] []
+unfolding serve
+tally-received-on-none o a slot none = on-none-alone o a (λ t. tallyReceived t slot) none (none-serves (asks _ slot) refl 0 0 0)
+
+pub tally-blocked-sends-on-none : (o a : List ℕ) (slot : ℕ) → read o .ok ≡ false → tallyBlockedSendsEdge o a slot ≡ leftAlone o a [] [] []
+unfolding serve
+tally-blocked-sends-on-none o a slot none = on-none-alone o a (λ t. tallyBlockedSends t slot) none (none-serves (asks _ slot) refl 0 0 0)
+
+pub tally-blocked-receives-on-none : (o a : List ℕ) (slot : ℕ) → read o .ok ≡ false → tallyBlockedReceivesEdge o a slot ≡ leftAlone o a [] [] []
+unfolding serve
+tally-blocked-receives-on-none o a slot none = on-none-alone o a (λ t. tallyBlockedReceives t slot) none (none-serves (asks _ slot) refl 0 0 0)
 
 pub attention-on-none : (o a : List ℕ) → read o .ok ≡ false → attentionEdge o a ≡ leftAlone o a [] [] []
 unfolding serve

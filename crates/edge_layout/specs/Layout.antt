@@ -1,8 +1,8 @@
--- The table as octets, for whoever keeps it outside: 800 of them, best seen in lines of 16.
+-- The table as octets, for whoever keeps it outside: 1,312 of them, best seen in lines of 16.
 --   line 0        this layout's number, N, D, M (the lower octet first), the next identifier, ten zeros
 --   lines 1, 2    a bit for each registered SPSM: SPSM s is bit s % 8 of octet s / 8
---   lines 3..49   a column each: one octet of every slot's row, slot 0 first
--- A number of 16 bits takes two columns, the lower octets first. A table has ONE spelling; other octets are refusal 1.
+--   lines 3..81   a column each: one octet of every slot's row, slot 0 first
+-- A number of 16 bits takes two columns, one of 64 bits eight, the lower octets first. A table has ONE spelling; other octets are refusal 1.
 use mathlib.Core.Bool.{Bool, true, false, _&&_}
 use mathlib.Core.List.{List, [], _∷_, _++_, map}
 use Prim.Native.Nat.{ℕ, zero, suc, _+_, _*_, _/_, _%_}
@@ -12,6 +12,7 @@ use lib.Seq.{sets}
 use Rattle.lists.specs.Choose.{choose}
 use Rattle.lists.specs.Bits.{bit}
 use Rattle.octets.specs.Octets.{part, u16At, le16}
+use Rattle.octets.specs.Limbs.{ofLimbs, le64}
 use Rattle.codes.specs.Codes.{resultNumber, resultOf}
 use Rattle.codes.specs.declared.ResultRead.{ResultRead}
 use Rattle.codes.specs.declared.ResultRead.the-variants.{Known, Unknown}
@@ -27,6 +28,8 @@ use Rattle.channel.specs.declared.Peer.{Peer}
 use Rattle.channel.specs.declared.Queue.{Queue}
 use Rattle.channel.specs.declared.Slot.{Slot}
 use Rattle.channel.specs.declared.Table.{Table}
+use Rattle.channel.specs.declared.Tallies.{Tallies}
+use Rattle.channel.specs.declared.Tally.{Tally}
 use Rattle.definition.specs.Table.{if_then_else_}
 use Rattle.definition.specs.Asking.{noSlots}
 use Rattle.edge_layout.specs.declared.Decoded.{Decoded}
@@ -34,7 +37,7 @@ use Rattle.edge_layout.specs.declared.Decoded.{Decoded}
 -- ---- sizes
 
 abbrev pub layoutNumber : ℕ
-layoutNumber = 2
+layoutNumber = 3
 
 abbrev pub spsmOctets : ℕ
 spsmOctets = 32
@@ -44,7 +47,7 @@ headOctets = 16 + spsmOctets
 
 -- the octets of one slot
 abbrev pub columnCount : ℕ
-columnCount = 47
+columnCount = 79
 
 abbrev pub tableOctets : ℕ
 tableOctets = headOctets + slotsMost * columnCount
@@ -100,6 +103,13 @@ queueOctets q = q .count ∷ le16 (getD (q .lens) 0 0) ++ (le16 (getD (q .lens) 
 abbrev pub jobOctets : OpenJob → List ℕ
 jobOctets j = le16 (j .length) ++ (le16 (j .taken) ++ (le16 (j .filled) ++ le16 (j .aside)))
 
+-- what is counted of sends, then of frames: 64 bits each
+abbrev pub tallyOctets : Tally → List ℕ
+tallyOctets y = le64 (y .frames) ++ le64 (y .blocked)
+
+abbrev pub talliesOctets : Tallies → List ℕ
+talliesOctets y = tallyOctets (y .sends) ++ tallyOctets (y .receives)
+
 -- a slot's row, column by column
 unfoldable pub row : Slot → List ℕ
 row x =
@@ -109,7 +119,8 @@ row x =
     ++ (x .hold ∷ peerOctets (x .peer)
     ++ (assemblyOctets (x .assembly)
     ++ (queueOctets (x .queue)
-    ++ jobOctets (x .job))))))
+    ++ (jobOctets (x .job)
+    ++ talliesOctets (x .tallies)))))))
 
 -- ---- how a table is spelled
 
@@ -155,6 +166,23 @@ cell o i c = getD o (i + (headOctets + slotsMost * c)) 0
 abbrev pub numberIn : (ℕ → ℕ) → ℕ → ℕ
 numberIn f c = f c + 256 * f (suc c)
 
+-- .. and the number of 64 bits whose lowest octet is there
+abbrev pub longIn : (ℕ → ℕ) → ℕ → ℕ
+longIn f c = ofLimbs (numberIn f c) (numberIn f (2 + c)) (numberIn f (4 + c)) (numberIn f (6 + c))
+
+abbrev pub tallyIn : (ℕ → ℕ) → ℕ → Tally
+tallyIn f c = record { frames = longIn f c; blocked = longIn f (8 + c) }
+
+-- the same of octets, by their places: what the code reads
+abbrev pub numberAt : List ℕ → (i column : ℕ) → ℕ
+numberAt o i c = getD o (i + c) 0 + 256 * getD o (i + (c + slotsMost)) 0
+
+abbrev pub longAt : List ℕ → (i column : ℕ) → ℕ
+longAt o i c = ofLimbs (numberAt o i c) (numberAt o i (c + 2 * slotsMost)) (numberAt o i (c + 4 * slotsMost)) (numberAt o i (c + 6 * slotsMost))
+
+abbrev pub tallyAt : List ℕ → (i column : ℕ) → Tally
+tallyAt o i c = record { frames = longAt o i c; blocked = longAt o i (c + 8 * slotsMost) }
+
 unfoldable pub slotIn : (ℕ → ℕ) → Slot
 slotIn f =
     record {
@@ -169,6 +197,7 @@ slotIn f =
       assembly = record { have = numberIn f 26; want = numberIn f 28 };
       queue = record { count = f 30; lens = numberIn f 31 ∷ numberIn f 33 ∷ numberIn f 35 ∷ numberIn f 37 ∷ [] };
       job = record { length = numberIn f 39; taken = numberIn f 41; filled = numberIn f 43; aside = numberIn f 45 };
+      tallies = record { sends = tallyIn f 47; receives = tallyIn f 63 };
     }
 
 unfoldable pub taken : List ℕ → Table

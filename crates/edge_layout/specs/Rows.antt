@@ -2,7 +2,7 @@
 use mathlib.Core.Path.{_≡_, refl, sym, ap}
 use mathlib.Core.Bool.{Bool, true, false, false≢true, _||_}
 use mathlib.Core.List.{List, [], _∷_}
-use Prim.Native.Nat.{ℕ, zero, suc, _<_, _/_, _%_}
+use Prim.Native.Nat.{ℕ, zero, suc, _+_, _*_, _<_, _/_, _%_}
 use native.Mathlib.Omega.{arith}
 use lib.Dec.{leb, eqb}
 use lib.ListN.{length, getD}
@@ -10,6 +10,7 @@ use borrow.Author.Tests.{eqb-true, ne-eqb, le-leb, lt-leb}
 use Rattle.lists.specs.Choose.{choose, if-cases}
 use Rattle.lists.specs.Both.{both}
 use Rattle.octets.specs.Octets.{le16}
+use Rattle.octets.specs.Limbs.{limb₀, limb₁, limb₂, limb₃, ofLimbs, limbs-back, limb₀-back, limb₁-back, limb₂-back, limb₃-back}
 use Rattle.octets.specs.Numbers.{le16-back, lo-back, hi-back}
 use Rattle.codes.specs.Codes.{resultNumber, resultOf, result-back}
 use Rattle.codes.specs.declared.LeCreditConnResultCode.{LeCreditConnResultCode}
@@ -20,7 +21,7 @@ use Rattle.channel.specs.Limits.{depthMost}
 use Rattle.channel.specs.declared.ChannelState.{ChannelState}
 use Rattle.channel.specs.declared.ChannelState.the-variants.{Disconnected, Connecting, PeerConnecting, Connected, ConnectFailed, PeerDisconnecting, Disconnecting}
 use Rattle.channel.specs.declared.Slot.{Slot}
-use Rattle.edge_layout.specs.Layout.{columnCount, stateKind, stateValue, stateOctets, policyKind, policyValue, row, tabulate, stateOf, failedBy, policyOf, numberIn, slotIn}
+use Rattle.edge_layout.specs.Layout.{columnCount, stateKind, stateValue, stateOctets, policyKind, policyValue, row, tabulate, stateOf, failedBy, policyOf, numberIn, longIn, slotIn}
 use Rattle.edge_layout.specs.Spelled.{isResult, stateSpelled, rowSpelled}
 
 -- a result code's number is one octet
@@ -141,10 +142,18 @@ pub row-length : (x : Slot) → length (row x) ≡ columnCount
 unfolding row
 row-length x = refl
 
+-- a number of 64 bits, spelled and read again
+long-back : (n : ℕ)
+    → ofLimbs (limb₀ n % 256 + 256 * (limb₀ n / 256)) (limb₁ n % 256 + 256 * (limb₁ n / 256)) (limb₂ n % 256 + 256 * (limb₂ n / 256)) (limb₃ n % 256 + 256 * (limb₃ n / 256)) ≡ n
+long-back n = rw (le16-back (limb₀ n), le16-back (limb₁ n), le16-back (limb₂ n), le16-back (limb₃ n)) (limbs-back n)
+
 -- a slot is read back from its row
 pub row-back : (x : Slot) → length (x .queue .lens) ≡ depthMost → slotIn (λ c. getD (row x) c 0) ≡ x
 unfolding slotIn row
-row-back x e = simp (le16-back, state-back, policy-back, four (x .queue .lens) e)
+row-back x e =
+    let y = x .tallies in
+    rw (long-back (y .sends .frames), long-back (y .sends .blocked), long-back (y .receives .frames), long-back (y .receives .blocked))
+    (simp (le16-back, state-back, policy-back, four (x .queue .lens) e))
 
 -- its row passes the tests
 pub row-passes : (x : Slot) → rowSpelled (λ c. getD (row x) c 0) ≡ true
@@ -159,6 +168,22 @@ module _ (f : ℕ → ℕ) (octets : (c : ℕ) → f c < 256) where
   high : (c : ℕ) → numberIn f c / 256 ≡ f (suc c)
   high c = hi-back (f c) (f (suc c)) (octets c)
 
+  -- a number of 64 bits, read and cut again
+  small : (c : ℕ) → numberIn f c < 65536
+  small c = omega (arith, octets c, octets (suc c))
+
+  at₀ : (c : ℕ) → limb₀ (longIn f c) ≡ numberIn f c
+  at₀ c = limb₀-back (numberIn f c) (numberIn f (2 + c)) (numberIn f (4 + c)) (numberIn f (6 + c)) (small c)
+
+  at₁ : (c : ℕ) → limb₁ (longIn f c) ≡ numberIn f (2 + c)
+  at₁ c = limb₁-back (numberIn f c) (numberIn f (2 + c)) (numberIn f (4 + c)) (numberIn f (6 + c)) (small c) (small (2 + c))
+
+  at₂ : (c : ℕ) → limb₂ (longIn f c) ≡ numberIn f (4 + c)
+  at₂ c = limb₂-back (numberIn f c) (numberIn f (2 + c)) (numberIn f (4 + c)) (numberIn f (6 + c)) (small c) (small (2 + c)) (small (4 + c))
+
+  at₃ : (c : ℕ) → limb₃ (longIn f c) ≡ numberIn f (6 + c)
+  at₃ c = limb₃-back (numberIn f c) (numberIn f (2 + c)) (numberIn f (4 + c)) (numberIn f (6 + c)) (small c) (small (2 + c)) (small (4 + c))
+
   pub row-forth : rowSpelled f ≡ true → row (slotIn f) ≡ tabulate f columnCount
   unfolding rowSpelled slotIn row tabulate
   row-forth h =
@@ -166,4 +191,4 @@ module _ (f : ℕ → ℕ) (octets : (c : ℕ) → f c < 256) where
       let state = state-forth (f 0) (f 1) (tests .0) in
       let kind : stateKind (stateOf (f 0) (f 1)) ≡ f 0 = ap (λ (l : List ℕ). getD l 0 0) state in
       let value : stateValue (stateOf (f 0) (f 1)) ≡ f 1 = ap (λ (l : List ℕ). getD l 1 0) state in
-      simp (low, high, kind, value, policy-kind-forth (f 10) (numberIn f 11) (tests .1), policy-value-forth)
+      simp (at₀ 47, at₁ 47, at₂ 47, at₃ 47, at₀ 55, at₁ 55, at₂ 55, at₃ 55, at₀ 63, at₁ 63, at₂ 63, at₃ 63, at₀ 71, at₁ 71, at₂ 71, at₃ 71, low, high, kind, value, policy-kind-forth (f 10) (numberIn f 11) (tests .1), policy-value-forth)

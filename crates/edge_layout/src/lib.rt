@@ -19,6 +19,9 @@ pub struct Decoded {
     pub table: Table,
 }
 
+// This layout's number, the table's first octet.
+pub const LAYOUT: u8 = 3;
+
 // Where each column starts. A number of two octets has its higher octets SLOTS further on.
 pub const HEAD: usize = 48;
 
@@ -68,8 +71,13 @@ pub const JOB_FILLED: usize = JOB_TAKEN + 2 * SLOTS;
 
 pub const JOB_ASIDE: usize = JOB_FILLED + 2 * SLOTS;
 
+// A direction's frames and how often it was blocked, eight columns each.
+pub const SENDS: usize = JOB_ASIDE + 2 * SLOTS;
+
+pub const RECEIVES: usize = SENDS + 16 * SLOTS;
+
 // The octets of a table.
-pub const TABLE_OCTETS: usize = JOB_ASIDE + 2 * SLOTS;
+pub const TABLE_OCTETS: usize = RECEIVES + 16 * SLOTS;
 
 // ---- a state and a policy as octets
 

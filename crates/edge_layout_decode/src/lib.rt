@@ -3,6 +3,7 @@ use channel::SLOTS;
 use channel::Slot;
 use channel::Table;
 use edge_layout::Decoded;
+use edge_layout::LAYOUT;
 use edge_layout::TABLE_OCTETS;
 ghost use mathlib.Core.Path.{_≡_};
 ghost use Prim.Native.Nat.{_≤_};
@@ -10,9 +11,6 @@ ghost use lib.ListN.{length};
 ghost use Rattle.edge_layout.specs.Layout.{tableOctets, taken, read};
 ghost use Rattle.edge_layout.specs.Spelled.{headSpelled, rowsSpelled};
 ghost use Rattle.edge_layout_decode.specs.Whole.{spelled, notRead};
-
-// This layout's number.
-const LAYOUT: u8 = 2;
 
 // ---- the tests
 

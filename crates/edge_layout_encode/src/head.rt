@@ -1,5 +1,6 @@
 // Lines 0 to 2 of a table's octets written: layout, sizes, identifier and SPSMs. They are defined in specs/Layout.antt of `edge_layout`.
 use channel::Table;
+use edge_layout::LAYOUT;
 ghost use mathlib.Core.Path.{_≡_};
 ghost use mathlib.Core.List.{[], _∷_};
 ghost use Prim.Native.Nat.{_/_, _%_};
@@ -10,7 +11,7 @@ ghost use Rattle.edge_layout.specs.Layout.{layoutNumber, head};
 fn put_sizes(out: &mut [u8], n: usize, d: usize, m: usize, identifier: u8)
     ensures { λ _. ⌜ now (out .exit) ≡ sets (now (out .entry)) 0 (layoutNumber ∷ n % 256 ∷ d % 256 ∷ m % 256 ∷ m / 256 % 256 ∷ identifier ∷ []) ⌝ }
 {
-    octets::put(out, 0, 2);
+    octets::put(out, 0, LAYOUT);
     octets::put(out, 1, (n % 256) as u8);
     octets::put(out, 2, (d % 256) as u8);
     octets::put(out, 3, (m % 256) as u8);

@@ -6,6 +6,8 @@ use channel::Peer;
 use channel::Queue;
 use channel::SLOTS;
 use channel::Slot;
+use channel::Tallies;
+use channel::Tally;
 use credit::CreditFlowControl;
 use edge_layout::COUNT;
 use edge_layout::CREDITS;
@@ -27,18 +29,21 @@ use edge_layout::PEER_MTU;
 use edge_layout::POLICY;
 use edge_layout::POLICY_VALUE;
 use edge_layout::RECEIVED;
+use edge_layout::RECEIVES;
+use edge_layout::SENDS;
 use edge_layout::SPSM;
 use edge_layout::VALUE;
 use edge_layout::WANT;
+use edge_layout::cells::long;
 use edge_layout::cells::number;
 use edge_layout::cells::octet;
 pub use edge_layout::cells::row_spelled;
 use sar_join::Assembly;
 ghost use mathlib.Core.Path.{_≡_};
-ghost use Prim.Native.Nat.{_≤_, _<_};
+ghost use Prim.Native.Nat.{_+_, _*_, _≤_, _<_};
 ghost use lib.ListN.{length};
 ghost use Rattle.channel.specs.Limits.{slotsMost};
-ghost use Rattle.edge_layout.specs.Layout.{tableOctets, cell, slotIn};
+ghost use Rattle.edge_layout.specs.Layout.{tableOctets, cell, tallyAt, slotIn};
 
 pub fn state_at(t: &[u8], i: usize) -> ChannelState
     requires { ⌜ (tableOctets ≤ length (now t)) × (i < slotsMost) ⌝ }
@@ -109,6 +114,26 @@ pub fn job_at(t: &[u8], i: usize) -> OpenJob
     }
 }
 
+// A direction's tallies, whose frames are in that column.
+fn tally_at(t: &[u8], i: usize, column: usize) -> Tally
+    requires { ⌜ i + (column + 15 * slotsMost) < length (now t) ⌝ }
+    ensures { λ r. ⌜ r ≡ tallyAt (now (t .entry)) i column ⌝ }
+{
+    Tally {
+        frames: long(t, i, column),
+        blocked: long(t, i, column + 8 * SLOTS),
+    }
+}
+
+pub fn tallies_at(t: &[u8], i: usize) -> Tallies
+    requires { ⌜ (tableOctets ≤ length (now t)) × (i < slotsMost) ⌝ }
+    ensures { λ r. ⌜ r ≡ slotIn (cell (now (t .entry)) i) .tallies ⌝ }
+{
+    let sends = tally_at(t, i, SENDS);
+    let receives = tally_at(t, i, RECEIVES);
+    Tallies { sends, receives }
+}
+
 // The slot that row i says.
 pub fn slot_at(t: &[u8], i: usize) -> Slot
     requires { ⌜ (tableOctets ≤ length (now t)) × (i < slotsMost) ⌝ }
@@ -120,6 +145,7 @@ pub fn slot_at(t: &[u8], i: usize) -> Slot
     let assembly = assembly_at(t, i);
     let queue = queue_at(t, i);
     let job = job_at(t, i);
+    let tallies = tallies_at(t, i);
     Slot {
         state,
         link: number(t, i, LINK),
@@ -132,5 +158,6 @@ pub fn slot_at(t: &[u8], i: usize) -> Slot
         assembly,
         queue,
         job,
+        tallies,
     }
 }

@@ -8,14 +8,14 @@ use lib.ListN.{length, getD, set, length-set}
 use lib.Seq.{getD-set-same, getD-set-other}
 use Rattle.channel.specs.Limits.{slotsMost}
 use Rattle.channel.specs.declared.Slot.{Slot}
-use Rattle.edge_layout.specs.Layout.{headOctets, columnCount, tableOctets, cell, stateOctets, localOctets, accountOctets, peerOctets, assemblyOctets, queueOctets, jobOctets, row}
+use Rattle.edge_layout.specs.Layout.{headOctets, columnCount, tableOctets, cell, stateOctets, localOctets, accountOctets, peerOctets, assemblyOctets, queueOctets, jobOctets, talliesOctets, row}
 use Rattle.edge_layout.specs.Rows.{row-length}
 use Rattle.edge_layout_write.specs.Puts.{puts}
 
 -- a slot's parts, written one after the other, are its row
 pub row-parts : (o : List ℕ) (i : ℕ) (x : Slot) →
-    puts (puts (puts (puts (set (puts (puts (puts o i 0 (stateOctets (x .state))) i 2 (localOctets (x .link) (x .spsm) (x .mps) (x .mtu))) i 10 (accountOctets (x .account)))
-    (i + (headOctets + slotsMost * 17)) (x .hold)) i 18 (peerOctets (x .peer))) i 26 (assemblyOctets (x .assembly))) i 30 (queueOctets (x .queue))) i 39 (jobOctets (x .job))
+    puts (puts (puts (puts (puts (set (puts (puts (puts o i 0 (stateOctets (x .state))) i 2 (localOctets (x .link) (x .spsm) (x .mps) (x .mtu))) i 10 (accountOctets (x .account)))
+    (i + (headOctets + slotsMost * 17)) (x .hold)) i 18 (peerOctets (x .peer))) i 26 (assemblyOctets (x .assembly))) i 30 (queueOctets (x .queue))) i 39 (jobOctets (x .job))) i 47 (talliesOctets (x .tallies))
     ≡ puts o i 0 (row x)
 unfolding puts row
 row-parts o i x = refl

@@ -7,6 +7,8 @@ use channel::Peer;
 use channel::Queue;
 use channel::SLOTS;
 use channel::Slot;
+use channel::Tallies;
+use channel::Tally;
 use edge_layout::COUNT;
 use edge_layout::HAVE;
 use edge_layout::HOLD;
@@ -19,19 +21,22 @@ use edge_layout::PEER_CID;
 use edge_layout::PEER_CREDITS;
 use edge_layout::PEER_MPS;
 use edge_layout::PEER_MTU;
+use edge_layout::RECEIVES;
+use edge_layout::SENDS;
 use edge_layout::WANT;
 pub use local::put_account;
 use local::put_local;
 use local::put_number;
 use local::put_octet;
 pub use local::put_state;
+use local::put_tally;
 use sar_join::Assembly;
 ghost use mathlib.Core.Path.{_≡_};
 ghost use Prim.Native.Nat.{_≤_, _<_};
 ghost use lib.ListN.{length};
 ghost use Rattle.octets.specs.Octets.{le16};
 ghost use Rattle.channel.specs.Limits.{slotsMost};
-ghost use Rattle.edge_layout.specs.Layout.{tableOctets, peerOctets, assemblyOctets, queueOctets, jobOctets, row};
+ghost use Rattle.edge_layout.specs.Layout.{tableOctets, peerOctets, assemblyOctets, queueOctets, jobOctets, tallyOctets, talliesOctets, row};
 ghost use Rattle.edge_layout_write.specs.Puts.{puts, leftRow, takenRow};
 
 fn put_peer(t: &mut [u8], i: usize, p: Peer)
@@ -82,6 +87,32 @@ pub fn put_job(t: &mut [u8], i: usize, j: OpenJob)
     put_number(t, i, JOB_ASIDE, j.aside);
 }
 
+// What is counted of sends.
+pub fn put_sends(t: &mut [u8], i: usize, y: Tally)
+    requires { ⌜ (tableOctets ≤ length (now t)) × (i < slotsMost) ⌝ }
+    ensures { λ _. ⌜ now (t .exit) ≡ puts (now (t .entry)) i 47 (tallyOctets y) ⌝ }
+{
+    put_tally(t, i, SENDS, y);
+}
+
+// What is counted of frames.
+pub fn put_receives(t: &mut [u8], i: usize, y: Tally)
+    requires { ⌜ (tableOctets ≤ length (now t)) × (i < slotsMost) ⌝ }
+    ensures { λ _. ⌜ now (t .exit) ≡ puts (now (t .entry)) i 63 (tallyOctets y) ⌝ }
+{
+    put_tally(t, i, RECEIVES, y);
+}
+
+pub fn put_tallies(t: &mut [u8], i: usize, y: Tallies)
+    requires { ⌜ (tableOctets ≤ length (now t)) × (i < slotsMost) ⌝ }
+    ensures { λ _. ⌜ now (t .exit) ≡ puts (now (t .entry)) i 47 (talliesOctets y) ⌝ }
+{
+    let a = y.sends;
+    put_sends(t, i, a);
+    let b = y.receives;
+    put_receives(t, i, b);
+}
+
 // The job that arrives, those that wait and the open one.
 fn put_jobs(t: &mut [u8], i: usize, a: Assembly, q: Queue, j: OpenJob)
     requires { ⌜ (tableOctets ≤ length (now t)) × (i < slotsMost) ⌝ }
@@ -109,9 +140,11 @@ pub fn put_slot(t: &mut [u8], i: usize, x: Slot)
     let q = x.queue;
     let j = x.job;
     put_jobs(t, i, b, q, j);
+    let y = x.tallies;
+    put_tallies(t, i, y);
 }
 
-// Writes of the slot what changes where its channel is left: its state, its account, its assembly, the jobs that wait and the open job.
+// Writes of the slot what changes where its channel is left: its state, its account, its assembly, the jobs that wait, the open job and the tallies.
 pub fn put_left(t: &mut [u8], i: usize, x: Slot)
     requires { ⌜ (tableOctets ≤ length (now t)) × (i < slotsMost) ⌝ }
     ensures { λ _. ⌜ now (t .exit) ≡ leftRow (now (t .entry)) i x ⌝ }
@@ -124,6 +157,8 @@ pub fn put_left(t: &mut [u8], i: usize, x: Slot)
     let q = x.queue;
     let j = x.job;
     put_jobs(t, i, b, q, j);
+    let y = x.tallies;
+    put_tallies(t, i, y);
 }
 
 // Writes of the slot what a take can change: its account and the jobs that wait.

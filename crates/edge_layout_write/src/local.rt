@@ -2,6 +2,7 @@
 // It stands on `edge_layout`, whose specs/Layout.antt says what the octets mean.
 use channel::ChannelState;
 use channel::SLOTS;
+use channel::Tally;
 use credit::CreditFlowControl;
 use edge_layout::CREDITS;
 use edge_layout::KIND;
@@ -14,11 +15,11 @@ use edge_layout::RECEIVED;
 use edge_layout::SPSM;
 use edge_layout::VALUE;
 ghost use mathlib.Core.Path.{_≡_};
-ghost use Prim.Native.Nat.{_+_, _/_, _%_, _≤_, _<_};
+ghost use Prim.Native.Nat.{_+_, _*_, _≤_, _<_};
 ghost use lib.ListN.{length, set};
 ghost use Rattle.channel.specs.Limits.{slotsMost};
 ghost use Rattle.edge_layout.specs.Layout.{tableOctets, stateOctets, localOctets, accountOctets};
-ghost use Rattle.edge_layout_write.specs.Puts.{puts};
+ghost use Rattle.edge_layout_write.specs.Puts.{puts, putNumber, putLong, putTally};
 
 // ---- one column
 
@@ -31,10 +32,29 @@ pub fn put_octet(t: &mut [u8], i: usize, column: usize, v: u8)
 
 pub fn put_number(t: &mut [u8], i: usize, column: usize, v: u16)
     requires { ⌜ i + (column + slotsMost) < length (now t) ⌝ }
-    ensures { λ _. ⌜ now (t .exit) ≡ set (set (now (t .entry)) (i + column) (v % 256)) (i + (column + slotsMost)) (v / 256) ⌝ }
+    ensures { λ _. ⌜ now (t .exit) ≡ putNumber (now (t .entry)) i column v ⌝ }
 {
     put_octet(t, i, column, (v % 256) as u8);
     put_octet(t, i, column + SLOTS, (v / 256) as u8);
+}
+
+fn put_long(t: &mut [u8], i: usize, column: usize, v: u64)
+    requires { ⌜ i + (column + 7 * slotsMost) < length (now t) ⌝ }
+    ensures { λ _. ⌜ now (t .exit) ≡ putLong (now (t .entry)) i column v ⌝ }
+{
+    let l = octets::limbs_of(v);
+    put_number(t, i, column, l.first);
+    put_number(t, i, column + 2 * SLOTS, l.second);
+    put_number(t, i, column + 4 * SLOTS, l.third);
+    put_number(t, i, column + 6 * SLOTS, l.fourth);
+}
+
+pub fn put_tally(t: &mut [u8], i: usize, column: usize, y: Tally)
+    requires { ⌜ i + (column + 15 * slotsMost) < length (now t) ⌝ }
+    ensures { λ _. ⌜ now (t .exit) ≡ putTally (now (t .entry)) i column y ⌝ }
+{
+    put_long(t, i, column, y.frames);
+    put_long(t, i, column + 8 * SLOTS, y.blocked);
 }
 
 // ---- columns in a row

@@ -15,11 +15,12 @@ use Rattle.channel.specs.declared.Table.{Table}
 use Rattle.channel.specs.declared.Verdict.{Verdict}
 use Rattle.channel.specs.declared.Verdict.the-variants.{Stop}
 use Rattle.channel_answer.specs.Tells.{answerNumber}
-use Rattle.definition.specs.Table.{slotAt, putSlot, withPeerCredits, withJob}
+use Rattle.definition.specs.Table.{slotAt, putSlot, withJob}
 use Rattle.definition.specs.Outcome.{Outcome, verdict, passed, gate}
 use Rattle.definition.specs.Ending.{end, endOf, gave}
 use Rattle.definition.specs.Portions.{startJob, startOn, givePortion, portionOn}
 use Rattle.slot_work.specs.declared.Worked.{Worked}
+use Rattle.slot_work.specs.Work.{sendingAs}
 use Rattle.slot_portion.specs.Filled.{Filled, After, after, afterOf, inTable, fills-in}
 use Rattle.slot_portion.specs.Starting.{startOf}
 use Rattle.slot_portion.specs.Giving.{portionOf}
@@ -63,7 +64,7 @@ module _ (o a buffer : List ℕ) (slot l : ℕ) where
   unfolding startJob
   start-stopped r e = fill-stopped o a [] buffer slot (λ t. startOn t slot l (length buffer)) r e
 
-  -- THE PEER'S CREDITS AND THE OPEN JOB'S NUMBERS WRITTEN ARE THE TABLE AFTER THE START
+  -- THE PEER'S CREDITS, THE OPEN JOB'S NUMBERS AND WHAT IS COUNTED OF SENDS WRITTEN ARE THE TABLE AFTER THE START
   pub start-placed : validOctets o ≡ true → leb (getD o 1 0) slot ≡ false → {r : Worked} {buffer′ : List ℕ} → after r buffer′ ≡ afterOf (startOf (slotIn (cell o slot)) l (length buffer)) [] buffer
       → edge (answerNumber (r .answer)) (jobRow o slot (r .slot)) (answered a (r .answer) (r .octets)) [] buffer′ [] ≡ startEdge o a buffer slot l
   unfolding startJob
@@ -75,10 +76,10 @@ module _ (o a buffer : List ℕ) (slot l : ℕ) where
       let w = startOf x l (length buffer) in
       let here : after r buffer′ ≡ afterOf w [] buffer = worked ∙ ap (λ (x : Slot). afterOf (startOf x l (length buffer)) [] buffer) (sym (slot-read o ok slot h)) in
       let same : r .slot ≡ w .slot = ap (λ (l : After). l .gave .slot) here in
-      let alone : r .slot ≡ withJob (r .slot .job) (withPeerCredits (r .slot .peer .credits) x) =
-      same ∙ start-alone x l (length buffer) ∙ ap (λ (y : Slot). withJob (y .job) (withPeerCredits (y .peer .credits) x)) (sym same) in
+      let alone : r .slot ≡ withJob (r .slot .job) (sendingAs (r .slot) x) =
+      same ∙ start-alone x l (length buffer) ∙ ap (λ (y : Slot). withJob (y .job) (sendingAs y x)) (sym same) in
       fill-placed o a [] buffer slot (λ t. startOn t slot l (length buffer)) v n w (start-into t slot [] [] buffer [] l (length buffer)) here
-      (sym (ap (λ (y : Slot). written o (putSlot t slot y)) alone ∙ jobbed-written o ok slot h (r .slot .peer .credits) (r .slot .job)))
+      (sym (ap (λ (y : Slot). written o (putSlot t slot y)) alone ∙ jobbed-written o ok slot h (r .slot .peer .credits) (r .slot .tallies .sends) (r .slot .job)))
 
 -- ---- a portion
 

@@ -22,8 +22,8 @@ use Rattle.channel.specs.declared.Table.{Table}
 use Rattle.channel.specs.declared.Verdict.{Verdict}
 use Rattle.channel.specs.declared.Verdict.the-variants.{Pass, Stop}
 use Rattle.channel_answer.specs.Tells.{answerNumber}
-use Rattle.definition.specs.Mem.{sizes, parts}
-use Rattle.definition.specs.Table.{placeSize, partWidth, roomWidth, placeOf, slotAt, slotOf, isCid, isConnected, withAccount, putSlot}
+use Rattle.definition.specs.Mem.{Fill, sizes, parts}
+use Rattle.definition.specs.Table.{placeSize, partWidth, roomWidth, placeOf, slotAt, slotOf, isCid, isConnected, withAccount, countReceived, putSlot}
 use Rattle.definition.specs.Outcome.{verdict, passed, only}
 use Rattle.definition.specs.Ending.{itself, end, endOf, gave, written-none}
 use Rattle.definition.specs.Frames.{dispatch, admitted}
@@ -31,7 +31,8 @@ use Rattle.definition.specs.Calls.{frame, headOf, jobs, frameIn}
 use Rattle.definition.specs.Tells.{cid-within}
 use Rattle.table_gate.specs.Fits.{have-fits}
 use Rattle.table_room.specs.Placed.{Placed}
-use Rattle.slot_work.specs.Work.{Work, workedOf, works-in}
+use Rattle.slot_work.specs.Work.{Work, worked, workedOf, works-in}
+use Rattle.slot_work.specs.declared.Worked.{Worked}
 use Rattle.slot_frame.specs.FrameIn.{joinedTo, frameOf}
 use Rattle.slot_frame.specs.Admitted.{frame-quiet, frame-admitted, frame-astray}
 use Rattle.edge_layout.specs.Layout.{cell, slotIn, read, written}
@@ -39,7 +40,7 @@ use Rattle.edge_layout_write.specs.Puts.{framedRow}
 use Rattle.edge.specs.Edge.{Edge, edge}
 use Rattle.edge_scan.specs.Scan.{validOctets}
 use Rattle.edge_row.specs.Row.{slots-told, depth-told, packet-told, slot-read}
-use Rattle.edge_row.specs.Framed.{localOf, peerOf, framed-written}
+use Rattle.edge_row.specs.Framed.{localOf, peerOf, middleOf, framed-written}
 use Rattle.edge_row.specs.Gate.{answered, stays, changes, stopped, valid-read, valid-formed, stops-4, passes}
 use Rattle.edge_row.specs.Room as Room
 pub use Rattle.edge_row.specs.Room.{sized-told}
@@ -52,11 +53,37 @@ framedEdge o a room d m s link p =
     let w = frameOf d (placeSize m) x link p in
     edge (answerNumber (w .answer)) (framedRow o s (w .slot)) (answered a (w .answer) 0) (parts itself (jobOctets (x .assembly) p) (partWidth d m) (only s (w .moves)) room) [] []
 
--- a frame leaves link, SPSM, our sizes, holds and the peer's side as they were, and the open job where the channel stays
-abbrev Same : Slot → Work → Type 0
-Same x w = (localOf (w .slot) ≡ localOf x) × ((peerOf (w .slot) ≡ peerOf x) × (isConnected (w .slot .state) ≡ true → w .slot .job ≡ x .job))
+-- by which the code's proof reads it
+module _ (o a room p : List ℕ) (d m s link : ℕ) where
+  -- what stands once that is left of slot x
+  abbrev framedWith : Slot → Worked → Edge
+  framedWith x r =
+      edge (answerNumber (r .answer)) (framedRow o s (r .slot)) (answered a (r .answer) (r .octets))
+      (parts itself (jobOctets (x .assembly) p) (partWidth d m) (only s (frameOf d (placeSize m) x link p .moves)) room) [] []
 
-joined-local : (place : ℕ) (x : Slot) (k : CreditFlowControl) (count : ℕ) (j : Joined) → Same x (joinedTo place (withAccount k x) count j)
+  quiet-with : (x : Slot) → framedWith x (workedOf (frameOf d (placeSize m) x link p)) ≡ framedWith x (worked (frameOf d (placeSize m) x link p .answer) (frameOf d (placeSize m) x link p .slot) 0)
+  unfolding sizes
+  quiet-with x = ap (λ (fs : List Fill). framedWith x (worked (frameOf d (placeSize m) x link p .answer) (frameOf d (placeSize m) x link p .slot) (sizes fs))) (frame-quiet d (placeSize m) x link p)
+
+  pub framed-edge : {x : Slot} {r : Worked} {n : ℕ} {o′ a′ room′ : List ℕ} → x ≡ slotIn (cell o s) → r ≡ workedOf (frameOf d (placeSize m) x link p)
+      → room′ ≡ parts itself (jobOctets (x .assembly) p) (partWidth d m) (only s (frameOf d (placeSize m) x link p .moves)) room
+      → o′ ≡ framedRow o s (r .slot) → n ≡ answerNumber (r .answer) → a′ ≡ answered a (r .answer) (r .octets)
+      → edge n o′ a′ room′ [] [] ≡ framedEdge o a room d m s link p
+  unfolding framedEdge
+  framed-edge {x} {r} {n} {o′} {a′} {room′} said gave moved put told wrote =
+      ap (λ (k : ℕ). edge k o′ a′ room′ [] []) told
+      ∙ ap (λ (l : List ℕ). edge (answerNumber (r .answer)) l a′ room′ [] []) put
+      ∙ ap (λ (l : List ℕ). edge (answerNumber (r .answer)) (framedRow o s (r .slot)) l room′ [] []) wrote
+      ∙ ap (λ (l : List ℕ). edge (answerNumber (r .answer)) (framedRow o s (r .slot)) (answered a (r .answer) (r .octets)) l [] []) moved
+      ∙ ap (framedWith x) gave
+      ∙ quiet-with x
+      ∙ ap (λ (y : Slot). framedWith y (worked (frameOf d (placeSize m) y link p .answer) (frameOf d (placeSize m) y link p .slot) 0)) said
+
+-- a frame leaves link, SPSM, our sizes, holds and the peer's side as they were, and the open job and what is counted of sends where the channel stays
+abbrev Same : Slot → Work → Type 0
+Same x w = (localOf (w .slot) ≡ localOf x) × ((peerOf (w .slot) ≡ peerOf x) × (isConnected (w .slot .state) ≡ true → middleOf (w .slot) ≡ middleOf x))
+
+joined-local : (place : ℕ) (x : Slot) (k : CreditFlowControl) (count : ℕ) (j : Joined) → Same x (joinedTo place (countReceived (withAccount k x)) count j)
 unfolding joinedTo
 joined-local place x k count (Joined.Refused r) = (refl, (refl, λ e. absurd (false≢true e)))
 joined-local place x k count (Joined.Assembling a) = (refl, (refl, λ _. refl))

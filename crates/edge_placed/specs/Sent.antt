@@ -1,4 +1,4 @@
--- A send on the table's octets where they stand: one row read, the work on its slot, and the peer's credits written.
+-- A send on the table's octets where they stand: one row read, the work on its slot, and the peer's credits and what is counted of sends written.
 use mathlib.Core.Path.{_≡_, refl, sym, ap, _∙_}
 use mathlib.Core.Bool.{true, false}
 use mathlib.Core.List.{List, []}
@@ -7,7 +7,6 @@ use native.Mathlib.Omega.{arith}
 use lib.Dec.{leb}
 use lib.ListN.{length, getD}
 use borrow.Author.Tests.{leb-false}
-use Rattle.octets.specs.Octets.{le16}
 use Rattle.codes.specs.declared.Refusal.{Refusal}
 use Rattle.channel.specs.Limits.{slotsMost}
 use Rattle.channel.specs.declared.Answer.the-variants.{Refused}
@@ -17,18 +16,20 @@ use Rattle.channel.specs.declared.Table.{Table}
 use Rattle.channel.specs.declared.Verdict.{Verdict}
 use Rattle.channel.specs.declared.Verdict.the-variants.{Pass, Stop}
 use Rattle.channel_answer.specs.Tells.{answerNumber}
-use Rattle.definition.specs.Table.{slotAt, putSlot, withPeerCredits}
+use Rattle.definition.specs.Table.{slotAt, putSlot}
 use Rattle.definition.specs.Outcome.{verdict, passed}
 use Rattle.definition.specs.Ending.{End, endOf, end-still}
 use Rattle.definition.specs.Frames.{send, sentOn}
 use Rattle.edge_layout.specs.Layout.{cell, slotIn, read, written}
-use Rattle.edge_layout_write.specs.Puts.{puts}
+use Rattle.edge_layout_write.specs.Puts.{sentRow}
 use Rattle.edge.specs.Edge.{edge}
 use Rattle.slot_work.specs.declared.Worked.{Worked}
+use Rattle.slot_work.specs.Work.{sendingAs}
 use Rattle.slot_send.specs.Sending.{Work, work, sentFrom}
-use Rattle.slot_send.specs.Into.{into, sent-into, credits-alone, sent-within}
+use Rattle.slot_send.specs.Into.{into, sent-into, sends-alone, sent-within}
 use Rattle.edge_scan.specs.Scan.{validOctets}
-use Rattle.edge_row.specs.Row.{slot-read, credits-written}
+use Rattle.edge_row.specs.Row.{slot-read}
+use Rattle.edge_row.specs.Jobbed.{sent-written}
 use Rattle.edge_row.specs.Gate.{answered, changes, stopped, valid-read, valid-slots, passes-6}
 use Rattle.edge_placed.specs.Frames.{sendEdge, sentOctets}
 
@@ -72,21 +73,21 @@ module _ (o a out sdu : List ℕ) (slot : ℕ) (v : validOctets o ≡ true) (n :
   ends : endOf (read o .table) sdu [] out [] (send (read o .table) slot (length sdu) (length out)) ≡ into (read o .table) slot (work w out′)
   ends = left o a out sdu slot v n ∙ ap (into (read o .table) slot) (sym here)
 
-  credits : w .slot ≡ withPeerCredits (w .slot .peer .credits) (slotAt (read o .table) slot)
-  credits =
+  alone : w .slot ≡ sendingAs (w .slot) (slotAt (read o .table) slot)
+  alone =
       let x = slotAt (read o .table) slot in
       ap (λ (l : Work). l .gave .slot) here
-      ∙ credits-alone x sdu out
-      ∙ ap (λ (l : Work). withPeerCredits (l .gave .slot .peer .credits) x) (sym here)
+      ∙ sends-alone x sdu out
+      ∙ ap (λ (l : Work). sendingAs (l .gave .slot) x) (sym here)
 
-  -- THE PEER'S CREDITS WRITTEN ARE THE TABLE AFTER THE SEND
-  pub sent-placed : edge (answerNumber (w .answer)) (puts o slot 24 (le16 (w .slot .peer .credits))) (answered a (w .answer) (w .octets)) [] out′ [] ≡ sendEdge o a out slot sdu
+  -- THE PEER'S CREDITS AND WHAT IS COUNTED OF SENDS WRITTEN ARE THE TABLE AFTER THE SEND
+  pub sent-placed : edge (answerNumber (w .answer)) (sentRow o slot (w .slot)) (answered a (w .answer) (w .octets)) [] out′ [] ≡ sendEdge o a out slot sdu
   sent-placed =
       let t = read o .table in
       let ok = valid-read o v in
-      let put = credits-written o ok slot (slot-within o slot v n) (w .slot .peer .credits) in
+      let put = sent-written o ok slot (slot-within o slot v n) (w .slot .peer .credits) (w .slot .tallies .sends) in
       changes o a [] out′ [] (λ t. endOf t sdu [] out [] (send t slot (length sdu) (length out))) (w .answer) (putSlot t slot (w .slot)) (w .octets) ok ends
-      (sym (ap (λ (x : Slot). written o (putSlot t slot x)) credits ∙ put))
+      (sym (ap (λ (x : Slot). written o (putSlot t slot x)) alone ∙ put))
 
   -- and the octets of its frames are told
   pub octets-sent : w .octets ≡ sentOctets o out slot sdu

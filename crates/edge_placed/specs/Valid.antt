@@ -26,14 +26,15 @@ use Rattle.channel.specs.Limits.{slotsMost, depthMost, handleMost, creditsMost}
 use Rattle.channel.specs.declared.Given.the-variants.{Nothing, Is}
 use Rattle.channel.specs.declared.Slot.{Slot}
 use Rattle.channel.specs.declared.Table.{Table}
-use Rattle.definition.specs.Table.{placeOf, gap, slotAt, slotOf, isCid, isConnected, roomWidth, live, lensFit, isOpen, jobFits, sizesFit, slotFits, wellFormed, withAccount, withPeerCredits}
+use Rattle.channel.specs.declared.Tally.{Tally}
+use Rattle.definition.specs.Table.{placeOf, gap, slotAt, slotOf, isCid, isConnected, roomWidth, live, lensFit, isOpen, jobFits, sizesFit, slotFits, wellFormed, withAccount, withPeerCredits, withSends, countReceived, blocks}
 use Rattle.definition.specs.Tells.{cid-within}
 use Rattle.table_gate_sizes.specs.Sizes.{formed-sizes}
 use Rattle.definition.specs.Frames.{queued}
 use Rattle.slot_work.specs.Work.{Work}
 use Rattle.slot_send.specs.Sending as Sending
 use Rattle.slot_send.specs.Sending.{plannedFrom, sentFrom}
-use Rattle.slot_send.specs.Into.{credits-alone}
+use Rattle.slot_send.specs.Into.{sends-alone}
 use Rattle.slot_frame.specs.FrameIn.{joinedTo, joinOf, frameOf}
 use Rattle.edge_layout.specs.Layout.{cell, read, slotIn}
 use Rattle.edge.specs.Edge.{Edge}
@@ -126,7 +127,7 @@ joined-fits d place x count (Joined.Finished len) h k =
     }
 joined-fits d place x count Joined.Dropped h k = record { count = h .count; lens = h .lens; have = omega arith; want = omega arith; mtu = h .mtu; sum = h .sum; job = h .job; aside = h .aside }
 
-used-fits : (d place : ℕ) (x : Slot) → eqb (x .account .credits) 0 ≡ false → Fit d place x → Fit d place (withAccount (received (x .account) 1) x)
+used-fits : (d place : ℕ) (x : Slot) → eqb (x .account .credits) 0 ≡ false → Fit d place x → Fit d place (countReceived (withAccount (received (x .account) 1) x))
 used-fits d place x e h =
     let some = eqb-false (x .account .credits) 0 e in
     record { count = h .count; lens = h .lens; have = h .have; want = h .want; mtu = h .mtu; sum = rw (received-sum (x .account) 1 (h .sum) (omega arith)) (h .sum); job = h .job; aside = h .aside }
@@ -137,8 +138,8 @@ module _ (d place : ℕ) (x : Slot) (link : ℕ) (p : List ℕ) where
   frame-fit h =
       if-cases (λ (w : Work). Fit d place (w .slot)) (not (isConnected (x .state))) (λ _. h)
       (λ _. if-cases (λ (w : Work). Fit d place (w .slot)) (not (eqb (x .link) link)) (λ _. h)
-      (λ _. if-cases (λ (w : Work). Fit d place (w .slot)) (eqb (x .account .credits) 0) (λ _. h)
-      (λ e. joined-fits d place (withAccount (received (x .account) 1) x) _ _ (used-fits d place x e h) (step-fits d place (x .queue .count) (withAccount (received (x .account) 1) x) (length p) (u16At p 0) (h .mtu) (h .want)))))
+      (λ _. if-cases (λ (w : Work). Fit d place (w .slot)) (eqb (x .account .credits) 0) (λ _. record { count = h .count; lens = h .lens; have = h .have; want = h .want; mtu = h .mtu; sum = h .sum; job = h .job; aside = h .aside })
+      (λ e. joined-fits d place (countReceived (withAccount (received (x .account) 1) x)) _ _ (used-fits d place x e h) (step-fits d place (x .queue .count) (countReceived (withAccount (received (x .account) 1) x)) (length p) (u16At p 0) (h .mtu) (h .want)))))
 
   pub frame-fits : slotFits d place x ≡ true → slotFits d place (frameOf d place x link p .slot) ≡ true
   frame-fits e = fits d place _ (frame-fit (fit d place x e))
@@ -159,14 +160,14 @@ module _ (d place : ℕ) (x : Slot) (link : ℕ) (p : List ℕ) where
 
 -- ---- a send: the peer's credits are no more than before
 
-credits-fit : (d place : ℕ) (x : Slot) (n : ℕ) → n ≤ x .peer .credits → slotFits d place x ≡ true → slotFits d place (withPeerCredits n x) ≡ true
-credits-fit d place x n l e =
+credits-fit : (d place : ℕ) (x : Slot) (n : ℕ) (y : Tally) → n ≤ x .peer .credits → slotFits d place x ≡ true → slotFits d place (withSends y (withPeerCredits n x)) ≡ true
+credits-fit d place x n y l e =
     let h = fit d place x e in
-    fits d place (withPeerCredits n x) (record { count = h .count; lens = h .lens; have = h .have; want = h .want; mtu = h .mtu; sum = h .sum; job = h .job; aside = omega (arith, h .aside) })
+    fits d place (withSends y (withPeerCredits n x)) (record { count = h .count; lens = h .lens; have = h .have; want = h .want; mtu = h .mtu; sum = h .sum; job = h .job; aside = omega (arith, h .aside) })
 
 planned-less : (x : Slot) (sdu out : List ℕ) (p : Plan) → plannedFrom x sdu out p .gave .slot .peer .credits ≤ x .peer .credits
 unfolding plannedFrom
-planned-less x sdu out (Plan.Refused r) = omega arith
+planned-less x sdu out (Plan.Refused r) = if-cases (λ (y : Slot). y .peer .credits ≤ x .peer .credits) (blocks r) (λ _. omega arith) (λ _. omega arith)
 planned-less x sdu out (Plan.Frames n octets) = omega arith
 
 sent-less : (x : Slot) (sdu out : List ℕ) → sentFrom x sdu out .gave .slot .peer .credits ≤ x .peer .credits
@@ -241,9 +242,9 @@ module _ (o : List ℕ) (v : validOctets o ≡ true) where
         let low = slot-within o slot v n in
         let h : slot < t .n = rw (slots-told o (valid-read o v)) (leb-false (getD o 1 0) slot n) in
         let y = sentFrom x sdu out .gave .slot in
-        let q = credits-alone x sdu out in
+        let q = sends-alone x sdu out in
         subst Kept (sent-table o a out sdu slot v n)
-        (valid-put o v slot low y (rw q (credits-fit (t .d) (placeOf t) x _ (sent-less x sdu out) (slot-fits t slot (valid-formed o v) within h))) (rw q (row-long slot low)))
+        (valid-put o v slot low y (rw q (credits-fit (t .d) (placeOf t) x _ _ (sent-less x sdu out) (slot-fits t slot (valid-formed o v) within h))) (rw q (row-long slot low)))
 
     -- A SEND
     pub send-valid : validOctets (sendEdge o a out slot sdu .table) ≡ true

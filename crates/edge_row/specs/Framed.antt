@@ -1,5 +1,5 @@
--- A slot that a frame has changed, in its table's octets: its state, its account, its assembly and the jobs that wait are written, and its open job where the
--- channel is left; and that is its whole row.
+-- A slot that a frame has changed, in its table's octets: its state, its account, its assembly, the jobs that wait and what is counted of frames are written, and its open job and all
+-- tallies where the channel is left; and that is its whole row.
 use mathlib.Core.Path.{_≡_, refl, sym, ap, _∙_}
 use mathlib.Core.Bool.{Bool, true, false}
 use mathlib.Core.List.{List, _∷_, _++_}
@@ -9,11 +9,10 @@ use lib.ListN.{getD, List·getD-append}
 use lib.Seq.{getD-drop}
 use Rattle.lists.specs.Choose.{choose}
 use Rattle.channel.specs.Limits.{slotsMost}
-use Rattle.channel.specs.declared.OpenJob.{OpenJob}
 use Rattle.channel.specs.declared.Slot.{Slot}
 use Rattle.definition.specs.Table.{slotAt, putSlot, isConnected}
-use Rattle.edge_layout.specs.Layout.{columnCount, stateOctets, localOctets, accountOctets, peerOctets, assemblyOctets, queueOctets, jobOctets, row, cell, read, written}
-use Rattle.edge_layout_write.specs.Puts.{puts, keptRow, leftRow, framedRow}
+use Rattle.edge_layout.specs.Layout.{columnCount, stateOctets, localOctets, accountOctets, peerOctets, assemblyOctets, queueOctets, jobOctets, tallyOctets, talliesOctets, row, cell, read, written}
+use Rattle.edge_layout_write.specs.Puts.{puts, joinedRow, keptRow, leftRow, framedRow}
 use Rattle.edge_layout_write.specs.Cells.{place, puts-other, row-parts}
 use Rattle.edge_row.specs.Parts.{puts-held}
 use Rattle.edge_row.specs.Row.{holds, row-written}
@@ -25,17 +24,25 @@ localOf x = localOctets (x .link) (x .spsm) (x .mps) (x .mtu)
 abbrev pub peerOf : Slot → List ℕ
 peerOf x = x .hold ∷ peerOctets (x .peer)
 
+-- .. and, while the channel stays, the open job and what is counted of sends
+abbrev pub middleOf : Slot → List ℕ
+middleOf x = jobOctets (x .job) ++ tallyOctets (x .tallies .sends)
+
+-- the columns behind the jobs that wait
+abbrev tailOf : Slot → List ℕ
+tailOf x = jobOctets (x .job) ++ talliesOctets (x .tallies)
+
 local-cells : (x : Slot) (e : ℕ) → e < 8 → getD (row x) (2 + e) 0 ≡ getD (localOf x) e 0
 unfolding row
-local-cells x e h = sym (getD-drop 2 (row x) e 0) ∙ List·getD-append (localOf x) (accountOctets (x .account) ++ (peerOf x ++ (assemblyOctets (x .assembly) ++ (queueOctets (x .queue) ++ jobOctets (x .job))))) 0 e (omega arith)
+local-cells x e h = sym (getD-drop 2 (row x) e 0) ∙ List·getD-append (localOf x) (accountOctets (x .account) ++ (peerOf x ++ (assemblyOctets (x .assembly) ++ (queueOctets (x .queue) ++ tailOf x)))) 0 e (omega arith)
 
 peer-cells : (x : Slot) (e : ℕ) → e < 9 → getD (row x) (17 + e) 0 ≡ getD (peerOf x) e 0
 unfolding row
-peer-cells x e h = sym (getD-drop 17 (row x) e 0) ∙ List·getD-append (peerOf x) (assemblyOctets (x .assembly) ++ (queueOctets (x .queue) ++ jobOctets (x .job))) 0 e (omega arith)
+peer-cells x e h = sym (getD-drop 17 (row x) e 0) ∙ List·getD-append (peerOf x) (assemblyOctets (x .assembly) ++ (queueOctets (x .queue) ++ tailOf x)) 0 e (omega arith)
 
-job-cells : (x : Slot) (e : ℕ) → getD (row x) (39 + e) 0 ≡ getD (jobOctets (x .job)) e 0
+middle-cells : (x : Slot) (e : ℕ) → e < 24 → getD (row x) (39 + e) 0 ≡ getD (middleOf x) e 0
 unfolding row
-job-cells x e = sym (getD-drop 39 (row x) e 0)
+middle-cells x e h = sym (getD-drop 39 (row x) e 0) ∙ List·getD-append (middleOf x) (tallyOctets (x .tallies .receives)) 0 e (omega arith)
 
 module _ (o : List ℕ) (i : ℕ) (x : Slot) (has : (c : ℕ) → c < columnCount → cell o i c ≡ getD (row x) c 0) (y : Slot) where
   abbrev state-put : List ℕ
@@ -59,19 +66,19 @@ module _ (o : List ℕ) (i : ℕ) (x : Slot) (has : (c : ℕ) → c < columnCoun
       ∙ puts-other o i 0 (stateOctets (y .state)) (place i (17 + e)) (λ k f g q. omega arith)
       ∙ has (17 + e) (omega arith) ∙ peer-cells x e h)
 
-  -- and so do those behind them, where the open job is as it was
-  job-held : puts (keptRow o i y) i 39 (jobOctets (x .job)) ≡ keptRow o i y
-  job-held =
-      puts-held (keptRow o i y) i 39 (jobOctets (x .job))
+  -- and so do those behind them, where the open job and what is counted of sends are as they were
+  middle-held : puts (joinedRow o i y) i 39 (middleOf x) ≡ joinedRow o i y
+  middle-held =
+      puts-held (joinedRow o i y) i 39 (middleOf x)
       (λ e h. puts-other assembly-put i 30 (queueOctets (y .queue)) (place i (39 + e)) (λ k f g q. omega arith)
       ∙ puts-other account-put i 26 (assemblyOctets (y .assembly)) (place i (39 + e)) (λ k f g q. omega arith)
       ∙ puts-other state-put i 10 (accountOctets (y .account)) (place i (39 + e)) (λ k f g q. omega arith)
       ∙ puts-other o i 0 (stateOctets (y .state)) (place i (39 + e)) (λ k f g q. omega arith)
-      ∙ has (39 + e) (omega arith) ∙ job-cells x e)
+      ∙ has (39 + e) (omega arith) ∙ middle-cells x e (omega arith))
 
   -- with what stands behind the account written
   abbrev rest-put : List ℕ → List ℕ
-  rest-put r = puts (puts (puts r i 26 (assemblyOctets (y .assembly))) i 30 (queueOctets (y .queue))) i 39 (jobOctets (y .job))
+  rest-put r = puts (puts (puts (puts r i 26 (assemblyOctets (y .assembly))) i 30 (queueOctets (y .queue))) i 39 (jobOctets (y .job))) i 47 (talliesOctets (y .tallies))
 
   module _ (l : localOf y ≡ localOf x) (p : peerOf y ≡ peerOf x) where
     pub left-row : puts o i 0 (row y) ≡ leftRow o i y
@@ -83,10 +90,19 @@ module _ (o : List ℕ) (i : ℕ) (x : Slot) (has : (c : ℕ) → c < columnCoun
         ∙ ap (λ (r : List ℕ). rest-put (puts account-put i 17 r)) p
         ∙ ap rest-put peer-held
 
-    pub kept-row : y .job ≡ x .job → puts o i 0 (row y) ≡ keptRow o i y
-    kept-row j = left-row ∙ ap (λ (w : OpenJob). puts (keptRow o i y) i 39 (jobOctets w)) j ∙ job-held
+    -- the open job and all tallies, in two other stretches
+    in-two : leftRow o i y ≡ puts (puts (joinedRow o i y) i 39 (middleOf y)) i 63 (tallyOctets (y .tallies .receives))
+    unfolding puts
+    in-two = refl
 
-    pub framed-row : (isConnected (y .state) ≡ true → y .job ≡ x .job) → puts o i 0 (row y) ≡ framedRow o i y
+    pub kept-row : middleOf y ≡ middleOf x → puts o i 0 (row y) ≡ keptRow o i y
+    kept-row m =
+        left-row
+        ∙ in-two
+        ∙ ap (λ (w : List ℕ). puts (puts (joinedRow o i y) i 39 w) i 63 (tallyOctets (y .tallies .receives))) m
+        ∙ ap (λ (r : List ℕ). puts r i 63 (tallyOctets (y .tallies .receives))) middle-held
+
+    pub framed-row : (isConnected (y .state) ≡ true → middleOf y ≡ middleOf x) → puts o i 0 (row y) ≡ framedRow o i y
     unfolding choose
     framed-row j = go (isConnected (y .state)) refl
       where
@@ -99,11 +115,11 @@ module _ (o : List ℕ) (ok : read o .ok ≡ true) (i : ℕ) (h : i < slotsMost)
   abbrev x : Slot
   x = slotAt (read o .table) i
 
-  pub framed-written : (isConnected (y .state) ≡ true → y .job ≡ x .job) → written o (putSlot (read o .table) i y) ≡ framedRow o i y
+  pub framed-written : (isConnected (y .state) ≡ true → middleOf y ≡ middleOf x) → written o (putSlot (read o .table) i y) ≡ framedRow o i y
   framed-written j = row-written o ok i h y ∙ framed-row o i x (holds o ok i h) y l p j
 
   -- that of a channel that stays, and of one that is left
-  pub kept-written : y .job ≡ x .job → written o (putSlot (read o .table) i y) ≡ keptRow o i y
+  pub kept-written : middleOf y ≡ middleOf x → written o (putSlot (read o .table) i y) ≡ keptRow o i y
   kept-written j = row-written o ok i h y ∙ kept-row o i x (holds o ok i h) y l p j
 
   pub left-written : written o (putSlot (read o .table) i y) ≡ leftRow o i y

@@ -13,7 +13,7 @@ use Rattle.definition.specs.Calls as Calls
 use Rattle.definition.specs.Ending.{endOf}
 use Rattle.definition.specs.Run.{lent, nowhere}
 use Rattle.edge.specs.Edge.{Edge, onTable, flag, configOf}
-use Rattle.edge_asking.specs.Asking.{registerSpsmEdge, spsmEdge, mtuEdge, mpsEdge, peerMtuEdge, peerMpsEdge, attentionEdge, sendConnParamUpdateReqEdge, sendConnParamUpdateResEdge}
+use Rattle.edge_asking.specs.Asking.{registerSpsmEdge, spsmEdge, mtuEdge, mpsEdge, peerMtuEdge, peerMpsEdge, tallySentEdge, tallyReceivedEdge, tallyBlockedSendsEdge, tallyBlockedReceivesEdge, attentionEdge, sendConnParamUpdateReqEdge, sendConnParamUpdateResEdge}
 use Rattle.edge_opening.specs.Opening.{createEdge, openedEdge, giveUpEdge}
 use Rattle.edge_pending.specs.Pending.{nextPendingEdge, acceptPendingEdge, rejectPendingEdge, rejectAllPendingEdge, dropPendingEdge}
 use Rattle.edge_closing.specs.Holding.{incRefEdge, decRefEdge}
@@ -30,6 +30,10 @@ pub data Entry : Type 0 where
   mps : (slot : ℕ) → Entry
   peerMtu : (slot : ℕ) → Entry
   peerMps : (slot : ℕ) → Entry
+  tallySent : (slot : ℕ) → Entry
+  tallyReceived : (slot : ℕ) → Entry
+  tallyBlockedSends : (slot : ℕ) → Entry
+  tallyBlockedReceives : (slot : ℕ) → Entry
   attention : Entry
   sendConnParamUpdateReq : (signal : Window) (link min max latency timeout : ℕ) → Entry
   sendConnParamUpdateRes : (signal : Window) (link result : ℕ) → Entry
@@ -65,6 +69,10 @@ leaves table answer room memory (mtu slot) = mtuEdge table answer slot
 leaves table answer room memory (mps slot) = mpsEdge table answer slot
 leaves table answer room memory (peerMtu slot) = peerMtuEdge table answer slot
 leaves table answer room memory (peerMps slot) = peerMpsEdge table answer slot
+leaves table answer room memory (tallySent slot) = tallySentEdge table answer slot
+leaves table answer room memory (tallyReceived slot) = tallyReceivedEdge table answer slot
+leaves table answer room memory (tallyBlockedSends slot) = tallyBlockedSendsEdge table answer slot
+leaves table answer room memory (tallyBlockedReceives slot) = tallyBlockedReceivesEdge table answer slot
 leaves table answer room memory attention = attentionEdge table answer
 leaves table answer room memory (sendConnParamUpdateReq w link min max latency timeout) = sendConnParamUpdateReqEdge table answer (lent w memory) link min max latency timeout
 leaves table answer room memory (sendConnParamUpdateRes w link result) = sendConnParamUpdateResEdge table answer (lent w memory) link result
@@ -99,6 +107,10 @@ callOf (mtu slot) = plain (asks (λ x. x .mtu) slot) nowhere nowhere
 callOf (mps slot) = plain (asks (λ x. x .mps) slot) nowhere nowhere
 callOf (peerMtu slot) = plain (asks (λ x. x .peer .mtu) slot) nowhere nowhere
 callOf (peerMps slot) = plain (asks (λ x. x .peer .mps) slot) nowhere nowhere
+callOf (tallySent slot) = plain (asks (λ x. x .tallies .sends .frames) slot) nowhere nowhere
+callOf (tallyReceived slot) = plain (asks (λ x. x .tallies .receives .frames) slot) nowhere nowhere
+callOf (tallyBlockedSends slot) = plain (asks (λ x. x .tallies .sends .blocked) slot) nowhere nowhere
+callOf (tallyBlockedReceives slot) = plain (asks (λ x. x .tallies .receives .blocked) slot) nowhere nowhere
 callOf attention = plain attends nowhere nowhere
 callOf (sendConnParamUpdateReq w link min max latency timeout) = plain (sendsSignal link (ConnParamUpdateReq (record { min = min; max = max; latency = latency; timeout = timeout }))) w nowhere
 callOf (sendConnParamUpdateRes w link result) = plain (sendsSignal link (ConnParamUpdateRes (record { result = result }))) w nowhere

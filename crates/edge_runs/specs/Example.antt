@@ -99,12 +99,12 @@ pub octets : (id a b c x y e : ℕ) → id < 256 → AllInOctets (channel id a b
 octets id a b c x y e h = (tt, (request id h, (tt, (tt, (tt, (tt, (tt, (tt, (tt, (tt, (tt, (tt, (tt, tt)))))))))))))
 
 -- Two makings over rooms and octets of any contents: both return 0.
-pub made-well : (z : ℕ) → makeEdge (replicate 800 z) [] (replicate 92 z) 2 1 29 .number ≡ 0
+pub made-well : (z : ℕ) → makeEdge (replicate 1312 z) [] (replicate 92 z) 2 1 29 .number ≡ 0
 unfolding madeOn lifted make choose
 made-well z = refl
 
 abbrev pub begun : ℕ → EdgeState
-begun z = started (replicate 800 z) [] (replicate 92 z) 2 1 29 (replicate 30 9)
+begun z = started (replicate 1312 z) [] (replicate 92 z) 2 1 29 (replicate 30 9)
 
 -- Whatever the two jobs that came and the one that was sent, the runs are alike in life 0 of link 1: the theorem speaks of them.
 pub both-alike : (id a b c x y e a′ b′ c′ x′ y′ e′ : ℕ) → AlikeEntries 1 0 0 (begun 5) (channel id a b c x y e) (channel id a′ b′ c′ x′ y′ e′)
@@ -112,7 +112,7 @@ both-alike id a b c x y e a′ b′ c′ x′ y′ e′ =
     let es = channel id a b c x y e in
     let fs = channel id a′ b′ c′ x′ y′ e′ in
     let s : State = made 2 1 29 (replicate 92 5) (replicate 30 9) in
-    let p = starting (replicate 800 5) [] (replicate 92 5) 2 1 29 (replicate 30 9) (made-well 5) in
+    let p = starting (replicate 1312 5) [] (replicate 92 5) 2 1 29 (replicate 30 9) (made-well 5) in
     let runs : AlikeRuns 1 0 0 s (map callIn es) (map callIn fs) =
     subst₂ (λ (cs ds : List Call). AlikeRuns 1 0 0 s cs ds) (sym (are-calls id a b c x y e)) (sym (are-calls id a′ b′ c′ x′ y′ e′)) (alike id a b c x y e a′ b′ c′ x′ y′ e′) in
     subst (λ (x : EdgeState). AlikeEntries 1 0 0 x es fs) (sym (p .is))
@@ -120,5 +120,5 @@ both-alike id a b c x y e a′ b′ c′ x′ y′ e′ =
 
 pub worked : (id a b c x y e a′ b′ c′ x′ y′ e′ : ℕ) → Undistinguished 1 0 (begun 5) (begun 6) (channel id a b c x y e) (channel id a′ b′ c′ x′ y′ e′)
 worked id a b c x y e a′ b′ c′ x′ y′ e′ =
-    isolation-at-entries 1 0 2 1 29 (replicate 800 5) (replicate 800 6) [] [] (replicate 92 5) (replicate 92 6) (replicate 30 9) (channel id a b c x y e) (channel id a′ b′ c′ x′ y′ e′)
+    isolation-at-entries 1 0 2 1 29 (replicate 1312 5) (replicate 1312 6) [] [] (replicate 92 5) (replicate 92 6) (replicate 30 9) (channel id a b c x y e) (channel id a′ b′ c′ x′ y′ e′)
     (made-well 5) (made-well 6) (apart id a b c x y e) (both-alike id a b c x y e a′ b′ c′ x′ y′ e′)

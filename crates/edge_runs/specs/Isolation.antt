@@ -26,7 +26,7 @@ use Rattle.rules.specs.Run.{SettingFits, Fits, Reached, start, next}
 use Rattle.rules.specs.Rules.{never-1-nor-2}
 use Rattle.edge.specs.Edge.{settingOf}
 use Rattle.edge_sized.specs.Sized.{after-sized, run-sized}
-use Rattle.edge_runs.specs.Entries.{Entry, registerSpsm, spsm, mtu, mps, peerMtu, peerMps, attention, sendConnParamUpdateReq, sendConnParamUpdateRes, nextPending, acceptPending, rejectPending, rejectAllPending, dropPending, create, opened, giveUp, incRef, decRef, disconnect, disconnectByCid, disconnected, nextDisconnect, signal, dispatch, send, startJob, givePortion, cancelJob, receive, own, callOf}
+use Rattle.edge_runs.specs.Entries.{Entry, registerSpsm, spsm, mtu, mps, peerMtu, peerMps, tallySent, tallyReceived, tallyBlockedSends, tallyBlockedReceives, attention, sendConnParamUpdateReq, sendConnParamUpdateRes, nextPending, acceptPending, rejectPending, rejectAllPending, dropPending, create, opened, giveUp, incRef, decRef, disconnect, disconnectByCid, disconnected, nextDisconnect, signal, dispatch, send, startJob, givePortion, cancelJob, receive, own, callOf}
 use Rattle.edge_runs.specs.Run.{EdgeState, stateOf, Asked, callIn, edgeOf, entered, BuffersApart, InOctets, AllInOctets, entries, signalIn, told}
 use Rattle.edge_runs.specs.Lift.{spelled, number-is, entered-spelled, entries-spelled}
 use Rattle.edge_runs.specs.Start.{starting}
@@ -102,6 +102,10 @@ entry-fits (mtu slot) h = tt
 entry-fits (mps slot) h = tt
 entry-fits (peerMtu slot) h = tt
 entry-fits (peerMps slot) h = tt
+entry-fits (tallySent slot) h = tt
+entry-fits (tallyReceived slot) h = tt
+entry-fits (tallyBlockedSends slot) h = tt
+entry-fits (tallyBlockedReceives slot) h = tt
 entry-fits attention h = tt
 entry-fits (sendConnParamUpdateReq w link min max latency timeout) h = tt
 entry-fits (sendConnParamUpdateRes w link result) h = tt

@@ -11,3 +11,5 @@ pub mod Reading
 pub mod Made
 pub mod FrameRun
 pub mod JobRun
+-- the tallies, at the octets
+pub mod Tallies

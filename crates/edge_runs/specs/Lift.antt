@@ -31,7 +31,7 @@ use Rattle.edge_layout.specs.Back.{Sized, read-back}
 use Rattle.edge_answer.specs.Answers.{answerOctets}
 use Rattle.edge.specs.Edge.{Edge, edge, onTable, lifted, alone, flag}
 use Rattle.edge_sized.specs.Sized.{after-sized}
-use Rattle.edge_runs.specs.Entries.{Entry, registerSpsm, spsm, mtu, mps, peerMtu, peerMps, attention, sendConnParamUpdateReq, sendConnParamUpdateRes, nextPending, acceptPending, rejectPending, rejectAllPending, dropPending, create, opened, giveUp, incRef, decRef, disconnect, disconnectByCid, disconnected, nextDisconnect, signal, dispatch, send, startJob, givePortion, cancelJob, receive, own, leaves, callOf}
+use Rattle.edge_runs.specs.Entries.{Entry, registerSpsm, spsm, mtu, mps, peerMtu, peerMps, tallySent, tallyReceived, tallyBlockedSends, tallyBlockedReceives, attention, sendConnParamUpdateReq, sendConnParamUpdateRes, nextPending, acceptPending, rejectPending, rejectAllPending, dropPending, create, opened, giveUp, incRef, decRef, disconnect, disconnectByCid, disconnected, nextDisconnect, signal, dispatch, send, startJob, givePortion, cancelJob, receive, own, leaves, callOf}
 use Rattle.edge_runs.specs.Run.{EdgeState, Asked, callIn, edgeOf, entered, Apart, BuffersApart, entries}
 
 -- A state of the definition's runs, its table spelled.
@@ -67,6 +67,10 @@ module _ (s : State) (w : Sized (s .table)) (a : List ℕ) where
   spelled-edge (mps slot) = on-alone w a (asks (λ x. x .mps) slot) refl
   spelled-edge (peerMtu slot) = on-alone w a (asks (λ x. x .peer .mtu) slot) refl
   spelled-edge (peerMps slot) = on-alone w a (asks (λ x. x .peer .mps) slot) refl
+  spelled-edge (tallySent slot) = on-alone w a (asks (λ x. x .tallies .sends .frames) slot) refl
+  spelled-edge (tallyReceived slot) = on-alone w a (asks (λ x. x .tallies .receives .frames) slot) refl
+  spelled-edge (tallyBlockedSends slot) = on-alone w a (asks (λ x. x .tallies .sends .blocked) slot) refl
+  spelled-edge (tallyBlockedReceives slot) = on-alone w a (asks (λ x. x .tallies .receives .blocked) slot) refl
   spelled-edge attention = on-alone w a attends refl
   spelled-edge (sendConnParamUpdateReq v link min max latency timeout) = on-spelled w a _
   spelled-edge (sendConnParamUpdateRes v link result) = on-spelled w a _

@@ -96,7 +96,7 @@ module _ (demand : Demand3AtEntries) (id a b c x y e a′ b′ c′ x′ y′ e�
 
   both : Undistinguished 1 0 (begun 5) (begun 6) es fs
   both =
-      demand 1 0 2 1 29 (replicate 800 5) (replicate 800 6) [] [] (replicate 92 5) (replicate 92 6) (replicate 30 9) es fs (made-well 5) (made-well 6) (apart id a b c x y e)
+      demand 1 0 2 1 29 (replicate 1312 5) (replicate 1312 6) [] [] (replicate 92 5) (replicate 92 6) (replicate 30 9) es fs (made-well 5) (made-well 6) (apart id a b c x y e)
       (both-alike id a b c x y e a′ b′ c′ x′ y′ e′)
 
   -- what the entries leave is equal, by any word for it that what is told bears out; and it is what the definition's run says of the first run
@@ -104,7 +104,7 @@ module _ (demand : Demand3AtEntries) (id a b c x y e a′ b′ c′ x′ y′ e�
   equal g f h = sym (each-told g f h (begun 5) es) ∙ ap (map g) (both .tells) ∙ each-told g f h (begun 6) fs
 
   begins : Start 2 1 29 (replicate 92 5) (replicate 30 9) (begun 5)
-  begins = starting (replicate 800 5) [] (replicate 92 5) 2 1 29 (replicate 30 9) (made-well 5)
+  begins = starting (replicate 1312 5) [] (replicate 92 5) 2 1 29 (replicate 30 9) (made-well 5)
 
   second : {A : Type 0} (g : Told → A) (f : Asked → Edge → A) → ((a : Asked) (x : Edge) → g (toldBy a x) ≡ f a x)
       → each f (begun 6) fs ≡ map g (tellings (replicate 30 9) es (outcomes start (map callIn es)) (handed 1 start (map callIn es)))

@@ -16,11 +16,11 @@ use Rattle.sar_cut.specs.declared.Plan.the-variants as Plan
 use Rattle.sar_cut.specs.Cutting.{payloads, AllWithin, framesOf}
 use Rattle.credit.specs.Account.{creditSum}
 use Rattle.channel.specs.Limits.{handleMost, signalMost, identifierMost, creditsMost, sizeLeast}
-use Rattle.channel.specs.declared.Answer.the-variants.{Frames}
+use Rattle.channel.specs.declared.Answer.the-variants.{Refused, Frames}
 use Rattle.channel.specs.declared.Slot.{Slot}
 use Rattle.channel.specs.declared.Table.{Table}
 use Rattle.definition.specs.Mem.{fills}
-use Rattle.definition.specs.Table.{placeOf, width, fresh, slotAt, isDisconnected, cidOf, nextId, wellFormed}
+use Rattle.definition.specs.Table.{placeOf, width, fresh, slotAt, isDisconnected, cidOf, nextId, wellFormed, blocks}
 use Rattle.definition.specs.Outcome.{Outcome, refuse}
 use Rattle.definition.specs.Calls.{Window, sends, jobs, bare, decide}
 use Rattle.definition.specs.Ending.{itself}
@@ -152,7 +152,10 @@ record Answered (o : Outcome) : Type 0 where
 
 plans : (t : Table) (j : ℕ) (x : Slot) (l : ℕ) (p : Plan) → answerNumber (planned t j x l p .answer) ≡ 0 → Answered (planned t j x l p)
 unfolding planned
-plans t j x l (Plan.Refused r) e = absurd (eqb-false _ 0 (refused-not-0 r) e)
+plans t j x l (Plan.Refused r) e = if-cases (λ (o : Outcome). answerNumber (o .answer) ≡ 0 → Answered o) (blocks r) (λ _ q. none q) (λ _ q. none q) e
+  where
+    none : {o : Outcome} → answerNumber (Refused r) ≡ 0 → Answered o
+    none q = absurd (eqb-false _ 0 (refused-not-0 r) q)
 plans t j x l (Plan.Frames n octets) e = record { link = x .link; count = n; is = refl; first = refl }
 
 send-answered : (s : State) (j : ℕ) (sdu : List ℕ) (w : Window) → answerNumber (outcome s (sends j sdu w) .answer) ≡ 0 → Answered (outcome s (sends j sdu w))

@@ -14,7 +14,7 @@ use Rattle.edge_layout.specs.Layout.{read}
 use Rattle.edge.specs.Edge.{Edge}
 use Rattle.edge_asking.specs.Asking.{makeEdge}
 use Rattle.rules.specs.Run.{Octets}
-use Rattle.edge_runs.specs.Entries.{Entry, registerSpsm, spsm, mtu, mps, peerMtu, peerMps, attention, sendConnParamUpdateReq, sendConnParamUpdateRes, nextPending, acceptPending, rejectPending, rejectAllPending, dropPending, create, opened, giveUp, incRef, decRef, disconnect, disconnectByCid, disconnected, nextDisconnect, signal, dispatch, send, startJob, givePortion, cancelJob, receive, own, leaves, callOf}
+use Rattle.edge_runs.specs.Entries.{Entry, registerSpsm, spsm, mtu, mps, peerMtu, peerMps, tallySent, tallyReceived, tallyBlockedSends, tallyBlockedReceives, attention, sendConnParamUpdateReq, sendConnParamUpdateRes, nextPending, acceptPending, rejectPending, rejectAllPending, dropPending, create, opened, giveUp, incRef, decRef, disconnect, disconnectByCid, disconnected, nextDisconnect, signal, dispatch, send, startJob, givePortion, cancelJob, receive, own, leaves, callOf}
 
 -- What stands between two calls.
 pub record EdgeState : Type 0 where
@@ -65,6 +65,10 @@ InOctets (mtu slot) = Unit {0}
 InOctets (mps slot) = Unit {0}
 InOctets (peerMtu slot) = Unit {0}
 InOctets (peerMps slot) = Unit {0}
+InOctets (tallySent slot) = Unit {0}
+InOctets (tallyReceived slot) = Unit {0}
+InOctets (tallyBlockedSends slot) = Unit {0}
+InOctets (tallyBlockedReceives slot) = Unit {0}
 InOctets attention = Unit {0}
 InOctets (sendConnParamUpdateReq w link min max latency timeout) = Unit {0}
 InOctets (sendConnParamUpdateRes w link result) = Unit {0}

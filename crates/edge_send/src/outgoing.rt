@@ -1,4 +1,4 @@
-// A send on a table's octets where they stand, behind refusal 1: the slot held against N, one row read, `slot_send` done on it, and the peer's credits written.
+// A send on a table's octets where they stand, behind refusal 1: the slot held against N, one row read, `slot_send` done on it, and the peer's credits and what is counted of sends written.
 // What is right stands in specs/Sent.antt of `edge_placed`.
 use channel::Answer;
 use channel::Slot;
@@ -38,6 +38,7 @@ fn row(t: &[u8], i: usize) -> Slot
     let assembly = edge_layout_read::assembly_at(t, i);
     let queue = edge_layout_read::queue_at(t, i);
     let job = edge_layout_read::job_at(t, i);
+    let tallies = edge_layout_read::tallies_at(t, i);
     Slot {
         state,
         link: number(t, i, LINK),
@@ -50,6 +51,7 @@ fn row(t: &[u8], i: usize) -> Slot
         assembly,
         queue,
         job,
+        tallies,
     }
 }
 
@@ -68,6 +70,8 @@ pub fn sent(table: &mut [u8], answer: &mut [u8], out: &mut [u8], slot: u8, sdu: 
     let y = w.slot;
     let a = w.answer;
     edge_layout_write::put_peer_credits(table, slot as usize, y.peer.credits);
+    let counted = y.tallies.sends;
+    edge_layout_write::put_sends(table, slot as usize, counted);
     let number = edge_answer::put_answer(answer, a, w.octets);
     Said {
         number,

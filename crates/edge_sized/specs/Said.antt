@@ -251,7 +251,7 @@ module _ (t : Table) where
 
   startPlanned-worked : (s l size : ℕ) (x : Slot) (p : Plan) → Worked (startPlanned t s x l size p)
   unfolding startPlanned
-  startPlanned-worked s l size x (Plan.Refused r) = leaf refl refl refl
+  startPlanned-worked s l size x (Plan.Refused r) = either _ (leaf refl refl refl) (leaf refl refl refl)
   startPlanned-worked s l size x (Plan.Frames n octets) = either _ (leaf refl refl refl) (record { out = refl; at = refl; tells = omega arith })
 
   starts-worked : (s l out : ℕ) → Worked (startJob t s l out)

@@ -245,12 +245,12 @@ module _ (t : Table) (w : Sized t) where
   unfolding dispatch
   frame-keeps room link cid head count =
       gate-keeps w (Is room) Nothing (Is link) Nothing
-      (else-keeps w _ _ _ itself λ a. else-keeps w _ _ _ itself λ _. else-keeps w _ _ _ itself λ _. else-keeps w _ _ _ itself λ _.
+      (else-keeps w _ _ _ itself λ a. else-keeps w _ _ _ itself λ _. else-keeps w _ _ _ itself λ _. if-keeps w (λ _. change-keeps w _ _ _ itself (cid-slot t cid (not-false _ a)) (old (slotOf cid))) λ _.
       joined-keeps (slotOf cid) count _ (cid-slot t cid (not-false _ a)) (old (slotOf cid)) _)
 
   planned-keeps : (s count : ℕ) → leb (t .n) s ≡ false → (p : Plan) → Kept t (planned t s (slotAt t s) count p)
   unfolding planned
-  planned-keeps s count a (Plan.Refused r) = still-keeps w itself
+  planned-keeps s count a (Plan.Refused r) = if-keeps w (λ _. change-keeps w _ _ s itself a (old s)) (λ _. still-keeps w itself)
   planned-keeps s count a (Plan.Frames n octets) = change-keeps w _ _ s itself a (old s)
 
   sends-keeps : (s count out : ℕ) → Kept t (send t s count out)
@@ -277,7 +277,7 @@ module _ (t : Table) (w : Sized t) where
 
   startPlanned-keeps : (s l size : ℕ) → leb (t .n) s ≡ false → (p : Plan) → Kept t (startPlanned t s (slotAt t s) l size p)
   unfolding startPlanned
-  startPlanned-keeps s l size a (Plan.Refused r) = still-keeps w itself
+  startPlanned-keeps s l size a (Plan.Refused r) = if-keeps w (λ _. change-keeps w _ _ s itself a (old s)) (λ _. still-keeps w itself)
   startPlanned-keeps s l size a (Plan.Frames n octets) = else-keeps w _ _ _ itself λ _. filling-keeps w _ s a (old s)
 
   starts-keeps : (s l out : ℕ) → Kept t (startJob t s l out)

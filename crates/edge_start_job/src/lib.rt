@@ -1,5 +1,5 @@
 // The start of a job that is handed over in portions, on octets. It is defined in specs/Frames.antt of `edge_placed`, by the call's own definition lifted through the two layouts, and works where the
-// octets stand: one row read, `slot_portion` done on its slot, and the peer's credits and the open job's numbers written: the rest of the row stays, and other rows. The exported name is in `entries`.
+// octets stand: one row read, `slot_portion` done on its slot, and the peer's credits, the open job's numbers and what is counted of sends written: the rest of the row stays, and other rows. The exported name is in `entries`.
 use channel::Answer;
 use codes::Refusal;
 ghost use mathlib.Core.Path.{_≡_};
@@ -24,6 +24,8 @@ fn started(table: &mut [u8], answer: &mut [u8], buffer: &mut [u8], slot: u8, sta
     let a = w.answer;
     edge_layout_write::put_peer_credits(table, slot as usize, y.peer.credits);
     edge_layout_write::put_job(table, slot as usize, j);
+    let counted = y.tallies.sends;
+    edge_layout_write::put_sends(table, slot as usize, counted);
     edge_answer::put_answer(answer, a, w.octets)
 }
 

@@ -1,4 +1,4 @@
-// The calls for C and Rust, on numbers and octets: a static library. Each entry reads the table from its 800 octets, makes the call, writes table and
+// The calls for C and Rust, on numbers and octets: a static library. Each entry reads the table from its 1,312 octets, makes the call, writes table and
 // answer back, or for a question the answer alone, and returns 0 or the refusal's number; a frame in, a send, a take, a credit signal and the two runs read and write one row where it stands. It is the
 // function of that name in `edge_asking`, `edge_pending`, `edge_opening`, `edge_closing`, `edge_signals`, `edge_dispatch`, `edge_send`, `edge_receive`, `edge_dispatch_run` or `edge_send_run`, whose definition is
 // the entry's too. It is the call's own, lifted through the two layouts (Edge.antt of `edge`); of a run the calls', one after the other (Run.antt of `edge_run`).
@@ -7,7 +7,7 @@ ghost use mathlib.Core.List.{[]};
 ghost use lib.ListN.{length};
 ghost use Rattle.signal_headers.specs.Headers.{restOf};
 ghost use Rattle.edge.specs.Edge.{edge};
-ghost use Rattle.edge_asking.specs.Asking.{makeEdge, registerSpsmEdge, spsmEdge, mtuEdge, mpsEdge, peerMtuEdge, peerMpsEdge, attentionEdge, sendConnParamUpdateReqEdge, sendConnParamUpdateResEdge};
+ghost use Rattle.edge_asking.specs.Asking.{makeEdge, registerSpsmEdge, spsmEdge, mtuEdge, mpsEdge, peerMtuEdge, peerMpsEdge, tallySentEdge, tallyReceivedEdge, tallyBlockedSendsEdge, tallyBlockedReceivesEdge, attentionEdge, sendConnParamUpdateReqEdge, sendConnParamUpdateResEdge};
 ghost use Rattle.edge_opening.specs.Opening.{createEdge, openedEdge, giveUpEdge};
 ghost use Rattle.edge_pending.specs.Pending.{nextPendingEdge, acceptPendingEdge, rejectPendingEdge, rejectAllPendingEdge, dropPendingEdge};
 ghost use Rattle.edge_closing.specs.Holding.{incRefEdge, decRefEdge};
@@ -79,6 +79,38 @@ pub extern "C" fn l2cap_peer_mps(table: &[u8], answer: &mut [u8], slot: u8) -> u
     ensures { λ r. ⌜ edge r (now (table .entry)) (now (answer .exit)) [] [] [] ≡ peerMpsEdge (now (table .entry)) (now (answer .entry)) slot ⌝ }
 {
     edge_asking::peer_mps(table, answer, slot)
+}
+
+// The frames that a slot has sent, or has set credits aside for.
+#[no_mangle]
+pub extern "C" fn l2cap_tally_sent(table: &[u8], answer: &mut [u8], slot: u8) -> u32
+    ensures { λ r. ⌜ edge r (now (table .entry)) (now (answer .exit)) [] [] [] ≡ tallySentEdge (now (table .entry)) (now (answer .entry)) slot ⌝ }
+{
+    edge_asking::tally_sent(table, answer, slot)
+}
+
+// The frames that came to a slot and used a credit.
+#[no_mangle]
+pub extern "C" fn l2cap_tally_received(table: &[u8], answer: &mut [u8], slot: u8) -> u32
+    ensures { λ r. ⌜ edge r (now (table .entry)) (now (answer .exit)) [] [] [] ≡ tallyReceivedEdge (now (table .entry)) (now (answer .entry)) slot ⌝ }
+{
+    edge_asking::tally_received(table, answer, slot)
+}
+
+// A slot's sends and starts that were refused for want of credits (14).
+#[no_mangle]
+pub extern "C" fn l2cap_tally_blocked_sends(table: &[u8], answer: &mut [u8], slot: u8) -> u32
+    ensures { λ r. ⌜ edge r (now (table .entry)) (now (answer .exit)) [] [] [] ≡ tallyBlockedSendsEdge (now (table .entry)) (now (answer .entry)) slot ⌝ }
+{
+    edge_asking::tally_blocked_sends(table, answer, slot)
+}
+
+// A slot's frames that were refused for want of credits (10).
+#[no_mangle]
+pub extern "C" fn l2cap_tally_blocked_receives(table: &[u8], answer: &mut [u8], slot: u8) -> u32
+    ensures { λ r. ⌜ edge r (now (table .entry)) (now (answer .exit)) [] [] [] ≡ tallyBlockedReceivesEdge (now (table .entry)) (now (answer .entry)) slot ⌝ }
+{
+    edge_asking::tally_blocked_receives(table, answer, slot)
 }
 
 // The slots that call.
@@ -460,8 +492,8 @@ pub extern "C" fn l2cap_signal_rest(pdu: &[u8]) -> usize
 // The version of this edge, the header's L2CAP_CHANNELS_VERSION. The number is in the name too: it goes up when an entry's parameters, the table's layout or the answer's
 // change, so that a header and an archive of different versions are not linked.
 #[no_mangle]
-pub extern "C" fn l2cap_version_3() -> u32
-    ensures { λ r. ⌜ r ≡ 3 ⌝ }
+pub extern "C" fn l2cap_version_4() -> u32
+    ensures { λ r. ⌜ r ≡ 4 ⌝ }
 {
-    3
+    4
 }

@@ -14,7 +14,7 @@ use Rattle.lists.specs.Both.{and-left, and-right}
 use Rattle.channel.specs.Limits.{slotsMost}
 use Rattle.channel.specs.declared.Slot.{Slot}
 use Rattle.channel.specs.declared.Table.{Table}
-use Rattle.definition.specs.Table.{fresh, gap, live, width, roomSize}
+use Rattle.definition.specs.Table.{fresh, gap, slotAt, live, width, roomSize}
 use Rattle.definition.specs.Outcome.{Outcome}
 use Rattle.definition.specs.Asking.{Made, blank, make}
 use Rattle.definition.specs.Calls.{Window, Call, frame, sends, portions, down, plain, jobs, bare, carrier, framesOut, jobOut, decide, Holder, isBy}
@@ -346,3 +346,9 @@ isolation k j n d m room₁ room₂ memory cs ds h₁ h₂ e = (
   at-end k j n d m room₁ room₂ memory h₁ h₂ cs ds e .told,
   λ i. at-end k j n d m room₁ room₂ memory h₁ h₂ (take i cs) (take i ds) (so-far k j i 0 (made n d m room₁ memory) cs ds e) .states,
 )
+
+-- "In demand 3 the tallies are part of the state" (document 02): the tallies of every slot s are equal in both runs, link k's own too, after every number i of calls.
+pub isolation-tallies : (k j n d m : ℕ) (room₁ room₂ memory : List ℕ) (cs ds : List Call) → answerNumber (make n d m room₁ .answer) ≡ 0 → answerNumber (make n d m room₂ .answer) ≡ 0
+    → AlikeRuns k j 0 (made n d m room₁ memory) cs ds
+    → (i s : ℕ) → slotAt (run (made n d m room₁ memory) (take i cs) .table) s .tallies ≡ slotAt (run (made n d m room₂ memory) (take i ds) .table) s .tallies
+isolation-tallies k j n d m room₁ room₂ memory cs ds h₁ h₂ e i s = ap (λ (t : Table). slotAt t s .tallies) (isolation k j n d m room₁ room₂ memory cs ds h₁ h₂ e .2 i .table)

@@ -2,3 +2,4 @@
 pub mod Octets
 pub mod Sets
 pub mod Numbers
+pub mod Limbs

@@ -1,10 +1,13 @@
 // Octets in lent slices: zeroed and moved down here; copied (`octets_copy`), and read and written as numbers of two octets (`octets_numbers`), which are
 // passed on. Every function is total: a place past the end reads as 0 and takes no store, as in the list terms of the contracts.
 pub use octets_copy::copy_to;
+pub use octets_numbers::Limbs;
 pub use octets_numbers::least;
 pub use octets_numbers::left;
+pub use octets_numbers::limbs_of;
 pub use octets_numbers::number;
 pub use octets_numbers::octet;
+pub use octets_numbers::of_limbs;
 pub use octets_numbers::put;
 pub use octets_numbers::put_number;
 ghost use mathlib.Core.Path.{_≡_};

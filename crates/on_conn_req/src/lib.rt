@@ -41,6 +41,7 @@ fn asked(link: u16, id: u8, req: LeCreditConnReq) -> Slot
     let assembly = x.assembly;
     let queue = x.queue;
     let job = x.job;
+    let tallies = x.tallies;
     Slot {
         state: ChannelState::PeerConnecting(id),
         link,
@@ -53,6 +54,7 @@ fn asked(link: u16, id: u8, req: LeCreditConnReq) -> Slot
         assembly,
         queue,
         job,
+        tallies,
     }
 }
 

@@ -8,6 +8,7 @@ use lib.Dec.{eqb}
 use Rattle.lists.specs.Choose.{choose}
 use Rattle.channel_answer.specs.declared.Told.{Told}
 use Rattle.channel_answer.specs.Kinds as Kind
+use Rattle.channel_answer.specs.Tells.{numberTold}
 
 -- The columns of what an answer tells. Only refusal 17 has the number 17; of what a row leaves away, a link goes to whom the octets go.
 unfoldable pub columnsIn : Told → List ℕ
@@ -19,7 +20,7 @@ columnsIn x =
     (choose (eqb (x .kind) Kind.frames) (x .second ∷ [])  -- the number of frames
     (choose (eqb (x .kind) Kind.job) (x .second ∷ x .second ∷ [])  -- "the job's length, twice"
     (choose (eqb (x .kind) Kind.attention) (x .first ∷ x .second ∷ x .third ∷ [])  -- "the set, the number of slots calling, the lowest"
-    (choose (eqb (x .kind) Kind.number) (x .first ∷ [])
+    (choose (eqb (x .kind) Kind.number) (numberTold x ∷ [])  -- all 64 bits
     (choose (eqb (x .kind) Kind.event) (x .first ∷ x .second ∷ x .third ∷ x .fourth ∷ [])  -- "min max latency timeout"
     (choose (eqb (x .kind) Kind.portion) (x .second ∷ x .third ∷ [])  -- "octets taken; 1 where a frame filled, 0 where not"
     [])))))))))

@@ -18,7 +18,7 @@ pub fn write_answer(out: &mut [u8], at: usize, a: Answer, octets: &[u8]) -> usiz
     ensures { λ r. ⌜ Writes (now (out .entry)) at (answerText a (now (octets .entry))) r (now (out .exit)) ⌝ }
 {
     let x = tells(a);
-    let number = write_number(out, at, x.refusal as u16);
+    let number = write_number(out, at, x.refusal as u64);
     let space = write_character(out, number, b' ');
     let next = write_hex(out, space, octets);
     let c = columns_of(x);

@@ -13,7 +13,7 @@ use Rattle.channel.specs.declared.Answer.{Answer}
 use Rattle.channel.specs.declared.Answer.the-variants.{Done}
 use Rattle.channel.specs.declared.OpenJob.{OpenJob}
 use Rattle.channel_answer.specs.Kinds as Kind
-use Rattle.channel_answer.specs.Tells.{tells}
+use Rattle.channel_answer.specs.Tells.{tells, numberTold}
 
 -- `O`: "1 where a hold was taken, 0 where nothing yet"
 unfoldable pub openedText : Answer → List ℕ
@@ -30,8 +30,15 @@ takenText a job signal = choose (eqb (tells a .kind) Kind.job) (jobText a (take 
 unfoldable pub queriesText : (spsm mtu mps peerMtu peerMps : Answer) → List ℕ
 queriesText spsm mtu mps peerMtu peerMps =
     choose (eqb (tells spsm .kind) Kind.number)
-    (moreText spsm [] (tells mtu .first ∷ tells mps .first ∷ tells peerMtu .first ∷ tells peerMps .first ∷ []))
+    (moreText spsm [] (numberTold (tells mtu) ∷ numberTold (tells mps) ∷ numberTold (tells peerMtu) ∷ numberTold (tells peerMps) ∷ []))
     (rowText spsm [])
+
+-- `t`: "sent, received, blocked sends, blocked receives"
+unfoldable pub talliesText : (sent received blockedSends blockedReceives : Answer) → List ℕ
+talliesText sent received blockedSends blockedReceives =
+    choose (eqb (tells sent .kind) Kind.number)
+    (moreText sent [] (numberTold (tells received) ∷ numberTold (tells blockedSends) ∷ numberTold (tells blockedReceives) ∷ []))
+    (rowText sent [])
 
 -- `n`: "the frame being filled as it stands in the buffer: its first 4 + FILLED octets; `-` where FILLED is 0"
 unfoldable pub standing : OpenJob → ℕ

@@ -9,6 +9,7 @@ use channel::OpenJob;
 use channel_answer::DONE;
 use channel_answer::JOB;
 use channel_answer::NUMBER;
+use channel_answer::number_told;
 use channel_answer::tells;
 pub use plain::answered;
 use plain::answered_more;
@@ -21,7 +22,7 @@ use text_hex_write::write_hex;
 use text_write::write_character;
 ghost use mathlib.Core.Path.{_≡_};
 ghost use Rattle.text_write.specs.Rows.{Writes};
-ghost use Rattle.row_call.specs.Printed.{openedText, takenText, queriesText, standing, fillingText};
+ghost use Rattle.row_call.specs.Printed.{openedText, takenText, queriesText, talliesText, standing, fillingText};
 
 // `O`: where nothing is to be told yet, 0 is.
 pub fn opened(row: &mut [u8], a: Answer) -> usize
@@ -67,14 +68,40 @@ pub fn queried(
             row,
             spsm,
             &[
-                tells(mtu).first,
-                tells(mps).first,
-                tells(peer_mtu).first,
-                tells(peer_mps).first,
+                number_told(tells(mtu)),
+                number_told(tells(mps)),
+                number_told(tells(peer_mtu)),
+                number_told(tells(peer_mps)),
             ],
         )
     } else {
         told(row, spsm)
+    }
+}
+
+// `t`: the answers of the four tallies.
+pub fn tallied(
+    row: &mut [u8],
+    sent: Answer,
+    received: Answer,
+    blocked_sends: Answer,
+    blocked_receives: Answer,
+) -> usize
+    ensures { λ r. ⌜ Writes (now (row .entry)) 0 (talliesText sent received «blocked_sends» «blocked_receives») r (now (row .exit)) ⌝ }
+{
+    let x = tells(sent);
+    if x.kind == NUMBER {
+        told_more(
+            row,
+            sent,
+            &[
+                number_told(tells(received)),
+                number_told(tells(blocked_sends)),
+                number_told(tells(blocked_receives)),
+            ],
+        )
+    } else {
+        told(row, sent)
     }
 }
 
@@ -98,6 +125,11 @@ pub fn filling(row: &mut [u8], j: OpenJob, buffer: &[u8]) -> usize
         row,
         Answer::Done,
         first(buffer, n),
-        &[j.length, j.taken, j.filled, j.aside],
+        &[
+            j.length as u64,
+            j.taken as u64,
+            j.filled as u64,
+            j.aside as u64,
+        ],
     )
 }

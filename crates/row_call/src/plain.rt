@@ -43,14 +43,14 @@ pub fn told(row: &mut [u8], a: Answer) -> usize
 }
 
 // The same with numbers behind it.
-pub fn told_more(row: &mut [u8], a: Answer, more: &[u16]) -> usize
+pub fn told_more(row: &mut [u8], a: Answer, more: &[u64]) -> usize
     ensures { λ r. ⌜ Writes (now (row .entry)) 0 (moreText a [] (now (more .entry))) r (now (row .exit)) ⌝ }
 {
     answered_more(row, a, b"", more)
 }
 
 // The row of an answer with octets, and numbers behind it.
-pub fn answered_more(row: &mut [u8], a: Answer, octets: &[u8], more: &[u16]) -> usize
+pub fn answered_more(row: &mut [u8], a: Answer, octets: &[u8], more: &[u64]) -> usize
     ensures { λ r. ⌜ Writes (now (row .entry)) 0 (moreText a (now (octets .entry)) (now (more .entry))) r (now (row .exit)) ⌝ }
 {
     let n = write_answer(row, 0, a, octets);

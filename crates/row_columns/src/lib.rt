@@ -7,7 +7,7 @@ ghost use Rattle.text_write.specs.Rows.{Writes};
 ghost use Rattle.row_columns.specs.Columns.{columnsText};
 
 // Writes a column for each number: a space and the number.
-pub fn write_columns(out: &mut [u8], at: usize, numbers: &[u16]) -> usize
+pub fn write_columns(out: &mut [u8], at: usize, numbers: &[u64]) -> usize
     ensures { λ r. ⌜ Writes (now (out .entry)) at (columnsText (now (numbers .entry))) r (now (out .exit)) ⌝ }
 {
     let mut next = least(at, out.len());

@@ -20,7 +20,12 @@ fn write_sizes(out: &mut [u8], at: usize, t: Table) -> usize
     let numbers = write_columns(
         out,
         answer,
-        &[shown(t.n), shown(t.d), shown(t.m), t.identifier as u16],
+        &[
+            shown(t.n) as u64,
+            shown(t.d) as u64,
+            shown(t.m) as u64,
+            t.identifier as u64,
+        ],
     );
     write_character(out, numbers, b'\n')
 }

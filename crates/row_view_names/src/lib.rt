@@ -14,7 +14,7 @@ fn write_named(out: &mut [u8], at: usize, name: &[u8], n: u16) -> usize
     ensures { λ r. ⌜ Writes (now (out .entry)) at (now (name .entry) ++ numberText n) r (now (out .exit)) ⌝ }
 {
     let next = write_text(out, at, name);
-    write_number(out, next, n)
+    write_number(out, next, n as u64)
 }
 
 pub fn write_state(out: &mut [u8], at: usize, state: ChannelState) -> usize

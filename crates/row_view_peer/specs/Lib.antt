@@ -1,2 +1,4 @@
 -- What the end of a slot's line shows.
 pub mod PeerLine
+-- The lengths of a queue, one by one.
+pub mod Four

@@ -14,9 +14,15 @@ fn write_jobs(out: &mut [u8], at: usize, q: Queue) -> usize
     ensures { λ r. ⌜ Writes (now (out .entry)) at (jobsText q) r (now (out .exit)) ⌝ }
 {
     let lens = q.lens;
+    let wide = [
+        lens[0] as u64,
+        lens[1] as u64,
+        lens[2] as u64,
+        lens[3] as u64,
+    ];
     let waiting = least(q.count as usize, DEPTH);
-    let count = write_columns(out, at, &[q.count as u16]);
-    write_columns(out, count, &lens[..waiting])
+    let count = write_columns(out, at, &[q.count as u64]);
+    write_columns(out, count, &wide[..waiting])
 }
 
 // The peer's side, what is held and what waits.
@@ -26,8 +32,12 @@ pub fn write_peer(out: &mut [u8], at: usize, x: Slot) -> usize
     let p = x.peer;
     let a = x.assembly;
     let q = x.queue;
-    let peer = write_columns(out, at, &[p.cid, p.mps, p.mtu, p.credits]);
-    let numbers = write_columns(out, peer, &[x.hold as u16, a.have, a.want]);
+    let peer = write_columns(
+        out,
+        at,
+        &[p.cid as u64, p.mps as u64, p.mtu as u64, p.credits as u64],
+    );
+    let numbers = write_columns(out, peer, &[x.hold as u64, a.have as u64, a.want as u64]);
     let jobs = write_jobs(out, numbers, q);
     write_character(out, jobs, b'\n')
 }

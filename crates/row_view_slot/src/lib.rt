@@ -17,7 +17,7 @@ fn write_head(out: &mut [u8], at: usize, s: u8, state: ChannelState) -> usize
     ensures { λ r. ⌜ Writes (now (out .entry)) at (headText s state) r (now (out .exit)) ⌝ }
 {
     let mark = write_character(out, at, b'=');
-    let number = write_columns(out, mark, &[s as u16]);
+    let number = write_columns(out, mark, &[s as u64]);
     let space = write_character(out, number, b' ');
     write_state(out, space, state)
 }
@@ -27,12 +27,26 @@ fn write_local(out: &mut [u8], at: usize, s: u8, x: Slot) -> usize
     ensures { λ r. ⌜ Writes (now (out .entry)) at (localText s x) r (now (out .exit)) ⌝ }
 {
     let cid = cid_of(ChannelIndex(s));
-    let numbers = write_columns(out, at, &[x.link, cid.0, x.spsm, x.mps, x.mtu]);
+    let numbers = write_columns(
+        out,
+        at,
+        &[
+            x.link as u64,
+            cid.0 as u64,
+            x.spsm as u64,
+            x.mps as u64,
+            x.mtu as u64,
+        ],
+    );
     let space = write_character(out, numbers, b' ');
     let account = x.account;
     let policy = account.policy;
     let name = write_policy(out, space, policy);
-    write_columns(out, name, &[account.credits, account.received])
+    write_columns(
+        out,
+        name,
+        &[account.credits as u64, account.received as u64],
+    )
 }
 
 // The line of slot s.

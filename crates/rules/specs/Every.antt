@@ -59,8 +59,8 @@ use Rattle.definition.specs.Calls.{Call, frame, sends, portions, down, plain, R
 use Rattle.definition.specs.Tells.{cid-within}
 use Rattle.rules.specs.Run.{SettingFits, Octets, RequestFits, Fits}
 use Rattle.lists.specs.Both.{and-left, and-right, and-both}
-use Rattle.rules.specs.Tests.{begun, begun-live, connected-begun, due-begun, attempt-live, attempt-unbegun, takes-begun, unbegun-off, due-off, connected-offered, least-sizes}
-use Rattle.rules.specs.Step.{same, grant, keep, leave, hand, stay, off, meet, shut, gain, portion, cancel, hold, go, accept, free, allocate, kept, refused, told, rest, passes, Stepped}
+use Rattle.rules.specs.Tests.{begun, begun-live, connected-begun, due-begun, attempt-live, attempt-unbegun, takes-begun, unbegun-off, due-off, connected-offered, least-sizes, unbegun-uncounted, due-uncounted}
+use Rattle.rules.specs.Step.{same, grant, keep, leave, hand, stay, off, meet, shut, gain, portion, cancel, uncounted, reset, parted, blocked-receive, hold, go, accept, free, allocate, kept, refused, told, rest, passes, Stepped}
 use Rattle.rules.specs.Forms.{goes-on, ended, found-passes, stepped-still, stepped-spent, stepped-change, stepped-change-spent, stepped-filling, stepped-sweep, stepped-gate}
 use Rattle.rules.specs.Sound.{Sound}
 use Rattle.rules.specs.Join.{Headed, step-joins, plan-passes, stepped-joined, stepped-planned, stepped-started}
@@ -174,6 +174,7 @@ module _ (t : Table) (k room : ℕ) (l : t .n ≤ length (t .slots)) (well : wel
         queue = refl;
         peer = refl;
         job = refl;
+        tallies = refl;
       })) _ _ refl)))))
 
   reject-pending : (signal s : ℕ) (result : ResultRead) → Stepped t k (rejectRead t room signal s result)
@@ -215,6 +216,7 @@ module _ (t : Table) (k room : ℕ) (l : t .n ≤ length (t .slots)) (well : wel
         peer = omega arith;
         least = λ e. absurd (false≢true e);
         job = refl;
+        tallies = refl;
       })) _ _ refl (told (Signal.LeCreditConnReq (record { spsm = spsm; scid = cidOf (found isFree t); mtu = mtuOf t c; mps = mpsOf t c; credits = creditsOf t c })))))))
 
   opened-steps : (s link : ℕ) (up : Bool) → Stepped t k (opened t room s link up)
@@ -247,12 +249,12 @@ module _ (t : Table) (k room : ℕ) (l : t .n ≤ length (t .slots)) (well : wel
       stepped-gate t k _ _ _ _ well sized
       (λ h. if-cases P _ (λ _. stays refl)
       (λ _. if-cases P _
-      (λ e. stepped-change t k s _ _ h l (go (goes-on (connected-live (slotAt t s) (and-left (isConnected (slotAt t s .state)) (eqb (slotAt t s .hold) 1) e)) refl refl ended) same leave shut) _ _ refl)
+      (λ e. stepped-change t k s _ _ h l (go (goes-on (connected-live (slotAt t s) (and-left (isConnected (slotAt t s .state)) (eqb (slotAt t s .hold) 1) e)) refl refl ended (reset _)) same leave shut) _ _ refl)
       (λ _. stepped-change t k s _ _ h l (hold _) _ _ refl)))
 
   leaves-steps : (s : ℕ) → s < t .n → Stepped t k (disconnecting t s)
   unfolding disconnecting
-  leaves-steps s h = if-cases P _ (λ e. stepped-change t k s _ _ h l (go (goes-on (connected-live (slotAt t s) e) refl refl ended) same leave shut) _ _ refl) (λ _. stays refl)
+  leaves-steps s h = if-cases P _ (λ e. stepped-change t k s _ _ h l (go (goes-on (connected-live (slotAt t s) e) refl refl ended (reset _)) same leave shut) _ _ refl) (λ _. stays refl)
 
   disconnect-steps : (s : ℕ) → Stepped t k (disconnect t room s)
   unfolding disconnect
@@ -276,7 +278,8 @@ module _ (t : Table) (k room : ℕ) (l : t .n ≤ length (t .slots)) (well : wel
       let h = leb-false (t .n) s e in
       let b = due-begun (slotAt t s .state) (found-passes dueSlot t l h) in
       if-cases P _ (λ _. stepped-change t k s _ _ h l (free _) _ _ refl)
-      (λ _. stepped-change-spent t k s _ _ h l (go (goes-on (begun-live (slotAt t s .state) b) refl refl ended) same keep (off (due-off (slotAt t s .state) (found-passes dueSlot t l h)))) _ _ refl (told (Signal.DisconnectionReq (record { dcid = slotAt t s .peer .cid; scid = cidOf s }))))))
+      (λ p. stepped-change-spent t k s _ _ h l (go (goes-on (begun-live (slotAt t s .state) b) refl refl ended
+      (uncounted (λ _. due-uncounted (slotAt t s .state) (found-passes dueSlot t l h) p))) same keep (off (due-off (slotAt t s .state) (found-passes dueSlot t l h)))) _ _ refl (told (Signal.DisconnectionReq (record { dcid = slotAt t s .peer .cid; scid = cidOf s }))))))
 
   -- ---- signals
 
@@ -305,6 +308,7 @@ module _ (t : Table) (k room : ℕ) (l : t .n ≤ length (t .slots)) (well : wel
         peer = few;
         least = λ _. b;
         job = refl;
+        tallies = refl;
       })) _ _ refl)))))
 
   on-conn-res : (link id : ℕ) (r : LeCreditConnResRead) → ResponseGives r → Stepped t k (onConnRes t link id r)
@@ -319,11 +323,12 @@ module _ (t : Table) (k room : ℕ) (l : t .n ≤ length (t .slots)) (well : wel
       let live = attempt-live (slotAt t s .state) c in
       let early = attempt-unbegun (slotAt t s .state) c in
       let closed = unbegun-off (slotAt t s .state) early in
+      let quiet = unbegun-uncounted (slotAt t s .state) early in
       if-cases P _
-      (λ _. stepped-change t k s _ _ h l (go (record { was = live; is = refl; stays = λ b. absurd (false≢true (sym early ∙ b)); mtu = refl; least = ended }) same keep (off closed)) _ _ refl)
+      (λ _. stepped-change t k s _ _ h l (go (record { was = live; is = refl; stays = λ b. absurd (false≢true (sym early ∙ b)); mtu = refl; least = ended; counts = uncounted (λ _. quiet) }) same keep (off closed)) _ _ refl)
       (λ _. if-cases P _
-      (λ _. stepped-change t k s _ _ h l (go (goes-on live refl refl ended) same keep (meet closed few)) _ _ refl)
-      (λ b. stepped-change t k s _ _ h l (go (goes-on live refl refl (λ _ _. b)) same keep (meet closed few)) _ _ refl)))
+      (λ _. stepped-change t k s _ _ h l (go (goes-on live refl refl ended (uncounted (λ _. quiet))) same keep (meet closed few)) _ _ refl)
+      (λ b. stepped-change t k s _ _ h l (go (goes-on live refl refl (λ _ _. b) (uncounted (λ _. quiet))) same keep (meet closed few)) _ _ refl)))
 
   on-credits : (link id : ℕ) (r : LeCreditFlowIndRead) → Stepped t k (onCredits t link id r)
   unfolding onCredits
@@ -335,9 +340,9 @@ module _ (t : Table) (k room : ℕ) (l : t .n ≤ length (t .slots)) (well : wel
       let h = leb-false (t .n) s e in
       let c = connected-slot link (ind .cid) (slotAt t s) (found-passes (connectedTo link (ind .cid)) t l h) in
       if-cases P _
-      (λ _. stepped-change t k s _ _ h l (go (goes-on (connected-live (slotAt t s) c) refl refl ended) same leave shut) _ _ refl)
+      (λ _. stepped-change t k s _ _ h l (go (goes-on (connected-live (slotAt t s) c) refl refl ended (reset _)) same leave shut) _ _ refl)
       (λ f. stepped-change t k s _ _ h l
-      (go (goes-on (connected-live (slotAt t s) c) (connected-begun (slotAt t s .state) c) refl (λ f. f)) same keep (gain (ind .credits) (ltb-false _ _ f))) _ _ refl))
+      (go (goes-on (connected-live (slotAt t s) c) (connected-begun (slotAt t s .state) c) refl (λ f. f) (uncounted (λ f. f))) same keep (gain (ind .credits) (ltb-false _ _ f))) _ _ refl))
 
   on-disconnection-req : (link id : ℕ) (r : DisconnectionReqRead) → Stepped t k (onDisconnectionReq t link id r)
   unfolding onDisconnectionReq
@@ -346,7 +351,7 @@ module _ (t : Table) (k room : ℕ) (l : t .n ≤ length (t .slots)) (well : wel
       if-cases P _ (λ _. stays refl)
       (λ e. if-cases P _ (λ _. stays refl)
       (λ f. stepped-change t k (slotOf (req .dcid)) _ _ (cid-within t (req .dcid) (not-false _ e)) l
-      (go (goes-on (link-slot link (slotAt t (slotOf (req .dcid))) (not-false _ f)) refl refl ended) same leave shut) _ _ refl))
+      (go (goes-on (link-slot link (slotAt t (slotOf (req .dcid))) (not-false _ f)) refl refl ended parted) same leave shut) _ _ refl))
 
   on-disconnection-res : (link id : ℕ) (r : DisconnectionResRead) → Stepped t k (onDisconnectionRes t link id r)
   unfolding onDisconnectionRes
@@ -402,9 +407,9 @@ module _ (t : Table) (k room : ℕ) (l : t .n ≤ length (t .slots)) (well : wel
   taken-steps : (s : ℕ) → s < t .n → begun (slotAt t s .state) ≡ true → 0 < slotAt t s .queue .count → (g : Grant)
       → ((n : ℕ) → g ≡ Grant.Credits n → grantOf (slotAt t s .account) ≡ Grant.Credits n) → Stepped t k (taken t s (slotAt t s) g)
   unfolding taken
-  taken-steps s h b c Grant.Nothing f = with-job _ (stepped-change t k s _ _ h l (go (goes-on (begun-live (slotAt t s .state) b) b refl (λ f. f)) same (hand b c) stay) _ _ refl)
+  taken-steps s h b c Grant.Nothing f = with-job _ (stepped-change t k s _ _ h l (go (goes-on (begun-live (slotAt t s .state) b) b refl (λ f. f) (uncounted (λ f. f))) same (hand b c) stay) _ _ refl)
   taken-steps s h b c (Grant.Credits n) f =
-      with-job _ (stepped-change-spent t k s _ _ h l (go (goes-on (begun-live (slotAt t s .state) b) b refl (λ f. f)) (grant (f n refl)) (hand b c) stay) _ _ refl (told (Signal.LeCreditFlowInd (record { cid = cidOf s; credits = n }))))
+      with-job _ (stepped-change-spent t k s _ _ h l (go (goes-on (begun-live (slotAt t s .state) b) b refl (λ f. f) (uncounted (λ f. f))) (grant (f n refl)) (hand b c) stay) _ _ refl (told (Signal.LeCreditFlowInd (record { cid = cidOf s; credits = n }))))
 
   receive-steps : (signal s size : ℕ) → Stepped t k (receive t room signal s size)
   unfolding receive
@@ -424,14 +429,15 @@ module _ (t : Table) (k room : ℕ) (l : t .n ≤ length (t .slots)) (well : wel
       (λ _. if-cases P _ (λ _. stays refl)
       (λ e. if-cases P _ (λ _. stays refl)
       (λ c. if-cases P _ (λ _. stays refl)
-      (λ _. if-cases P _ (λ _. stays refl)
-      (λ z.
+      (λ _.
       let s = slotOf cid in
       let x = slotAt t s in
       let on = not-false (isCid t cid) e in
       let h = cid-within t cid on in
+      let linked = not-false (isConnected (x .state)) c in
       let ok = sound s h in
-      stepped-joined t k s h l (not-false (isConnected (x .state)) c) (eqb-false (x .account .credits) 0 z) _
+      if-cases P _ (λ _. stepped-change t k s _ _ h l (go (goes-on (connected-live x linked) (connected-begun (x .state) linked) refl (λ f. f) (blocked-receive linked)) same keep stay) _ _ refl)
+      (λ z. stepped-joined t k s h l linked (eqb-false (x .account .credits) 0 z) _
       (step-joins (t .d) (x .assembly) (x .queue .count) k (ok .holding .closed) (x .mtu) (x .mps) (u16At head 0) head (ok .within .want) (headed on)))))))
 
   -- a Connected slot's peer MPS is at least 23
@@ -470,7 +476,7 @@ module _ (t : Table) (k room : ℕ) (l : t .n ≤ length (t .slots)) (well : wel
       let x = slotAt t s in
       let on = not-false (isConnected (x .state)) c in
       stepped-filling t k s _ [] h l
-      (go (goes-on (connected-live x on) (connected-begun (x .state) on) refl (λ f. f)) same keep (portion count on (ltb-true 0 (x .job .aside) (not-false _ o)) (ltb-false _ _ f))) _ _ _ _ refl refl)))))
+      (go (goes-on (connected-live x on) (connected-begun (x .state) on) refl (λ f. f) (uncounted (λ f. f))) same keep (portion count on (ltb-true 0 (x .job .aside) (not-false _ o)) (ltb-false _ _ f))) _ _ _ _ refl refl)))))
 
   cancel-steps : (s : ℕ) → Stepped t k (cancelJob t room s)
   unfolding cancelJob
@@ -480,8 +486,8 @@ module _ (t : Table) (k room : ℕ) (l : t .n ≤ length (t .slots)) (well : wel
       (λ c. if-cases P _ (λ _. stays refl)
       (λ _.
       let on = not-false (isConnected (slotAt t s .state)) c in
-      if-cases P _ (λ _. stepped-change t k s _ _ h l (go (goes-on (connected-live (slotAt t s) on) (connected-begun (slotAt t s .state) on) refl (λ f. f)) same keep cancel) _ _ refl)
-      (λ _. stepped-change t k s _ _ h l (go (goes-on (connected-live (slotAt t s) on) refl refl ended) same leave shut) _ _ refl))))
+      if-cases P _ (λ _. stepped-change t k s _ _ h l (go (goes-on (connected-live (slotAt t s) on) (connected-begun (slotAt t s .state) on) refl (λ f. f) (uncounted (λ f. f))) same keep cancel) _ _ refl)
+      (λ _. stepped-change t k s _ _ h l (go (goes-on (connected-live (slotAt t s) on) refl refl ended (reset _)) same leave shut) _ _ refl))))
 
   -- ---- calls that change no slot
 

@@ -23,7 +23,7 @@ use Rattle.definition.specs.Table.{gap, slotAt, live, found, isDisconnected, fr
 use Rattle.definition.specs.Outcome.{Outcome, still, change, filling, sweep, only, refuse, fails, verdict, passed, gate}
 use Rattle.definition.specs.Tells.{InUse, given-in-use}
 use Rattle.rules.specs.Tests.{begun, begun-live, Least}
-use Rattle.rules.specs.Step.{Goes, Step, hold, free, Steps, rest, next, Numbered, kept, passes, Stepped}
+use Rattle.rules.specs.Step.{Counting, Goes, Step, hold, free, Steps, rest, next, Numbered, kept, passes, Stepped}
 
 -- ---- lists of slots
 
@@ -76,8 +76,8 @@ module _ (t : Table) (k s : ℕ) (y : Slot) (ms : List Move) (h : s < t .n) (l :
       record { answer = ok; n = refl; d = refl; m = refl; long = length-set (t .slots) s y; identifier = kept; slots = rw e at one }
 
 -- a connection that has begun, or begins, goes on
-pub goes-on : {x y : Slot} → isDisconnected (x .state) ≡ false → begun (y .state) ≡ true → y .mtu ≡ x .mtu → (Least x → Least y) → Goes x y
-goes-on {x} {y} w b m f = record { was = w; is = begun-live (y .state) b; stays = λ _. b; mtu = m; least = f }
+pub goes-on : {x y : Slot} → isDisconnected (x .state) ≡ false → begun (y .state) ≡ true → y .mtu ≡ x .mtu → (Least x → Least y) → Counting x (y .state) (y .tallies) → Goes x y
+goes-on {x} {y} w b m f c = record { was = w; is = begun-live (y .state) b; stays = λ _. b; mtu = m; least = f; counts = c }
 
 -- it is neither asked for any more, nor stands
 pub ended : {A B : Type 0} → A → false ≡ true → B

@@ -9,6 +9,7 @@ use lib.ListN.{length}
 use borrow.Author.Tests.{ltb-true, ltb-false, leb-false, eqb-true, eqb-false, eq-eqb, ne-eqb, lt-ltb, le-ltb, lt-leb}
 use Rattle.lists.specs.Choose.{choose-true, choose-false, if-cases}
 use Rattle.codes.specs.Limits.{sizeLeast}
+use Rattle.codes.specs.declared.Refusal.{Refusal}
 use Rattle.credit.specs.Account.{received}
 use Rattle.sar_join.specs.declared.Assembly.{Assembly}
 use Rattle.sar_join.specs.declared.Joined.{Joined}
@@ -22,12 +23,12 @@ use Rattle.channel.specs.declared.Answer.the-variants.{Done, Refused, Frames}
 use Rattle.channel.specs.declared.Slot.{Slot}
 use Rattle.channel.specs.declared.Table.{Table}
 use Rattle.definition.specs.Mem.{job, put}
-use Rattle.definition.specs.Table.{slotAt, isDisconnected, isConnected, withAccount, withAssembly, withQueue}
+use Rattle.definition.specs.Table.{slotAt, isDisconnected, isConnected, withAccount, withAssembly, withQueue, countReceived, blocks}
 use Rattle.definition.specs.Outcome.{Outcome, change}
-use Rattle.definition.specs.Frames.{queued, finishing, frames, joined, planned}
+use Rattle.definition.specs.Frames.{queued, finishing, frames, joined, unsent, planned}
 use Rattle.definition.specs.Portions.{startPlanned}
 use Rattle.rules.specs.Tests.{begun, begun-live, connected-begun}
-use Rattle.rules.specs.Step.{same, use-one, keep, leave, grow, finish, stay, shut, pay, begin, go, passes, Stepped}
+use Rattle.rules.specs.Step.{same, use-one, keep, leave, grow, finish, stay, shut, pay, begin, reset, sent, arrived, blocked-send, go, passes, Stepped}
 use Rattle.rules.specs.Forms.{goes-on, ended, stepped-still, stepped-change, stepped-filling}
 
 -- How a frame comes to a slot: with no length octets where an assembly is open, with both of them otherwise. k is the number of its job octets.
@@ -96,33 +97,38 @@ module _ (t : Table) (k s : ℕ) (h : s < t .n) (l : t .n ≤ length (t .slots))
   was-live = begun-live (slotAt t s .state) has-begun
 
   pub stepped-joined : (slotAt t s .account .credits ≡ 0 → ⊥) → (j : Joined) → Joins (slotAt t s .mtu) (t .d) (slotAt t s .assembly) (slotAt t s .queue .count) k j
-      → Stepped t k (joined t s (withAccount (received (slotAt t s .account) 1) (slotAt t s)) k j)
+      → Stepped t k (joined t s (countReceived (withAccount (received (slotAt t s .account) 1) (slotAt t s))) k j)
   unfolding joined
-  stepped-joined some (Joined.Refused r) f = stepped-change t k s _ _ h l (go (goes-on was-live refl refl ended) (use-one some) leave shut) _ _ f
+  stepped-joined some (Joined.Refused r) f = stepped-change t k s _ _ h l (go (goes-on was-live refl refl ended (reset _)) (use-one some) leave shut) _ _ f
   stepped-joined some (Joined.Assembling a) f =
-      rw (f .3) (stepped-change t k s _ _ h l (go (goes-on was-live has-begun refl (λ f. f)) (use-one some) (grow has-begun (f .0) (f .1) (f .2)) stay) _ _ refl)
+      rw (f .3) (stepped-change t k s _ _ h l (go (goes-on was-live has-begun refl (λ f. f) (arrived on)) (use-one some) (grow has-begun (f .0) (f .1) (f .2)) stay) _ _ refl)
   stepped-joined some (Joined.Finished len) f =
-      stepped-change t k s _ _ h l (go (goes-on was-live has-begun refl (λ f. f)) (use-one some) (finish has-begun (f .0) (f .1) (f .2)) stay) _ _ refl
-  stepped-joined some Joined.Dropped f = stepped-change t k s _ _ h l (go (goes-on was-live has-begun refl (λ f. f)) (use-one some) leave stay) _ _ refl
+      stepped-change t k s _ _ h l (go (goes-on was-live has-begun refl (λ f. f) (arrived on)) (use-one some) (finish has-begun (f .0) (f .1) (f .2)) stay) _ _ refl
+  stepped-joined some Joined.Dropped f = stepped-change t k s _ _ h l (go (goes-on was-live has-begun refl (λ f. f) (arrived on)) (use-one some) leave stay) _ _ refl
+
+  -- what a plan refuses: 14 is counted
+  stepped-unsent : (r : Refusal) → passes (Refused r) ≡ true → Stepped t k (unsent t s (slotAt t s) r)
+  stepped-unsent r f =
+      if-cases (Stepped t k) (blocks r) (λ _. stepped-change t k s _ _ h l (go (goes-on was-live has-begun refl (λ f. f) (blocked-send on)) same keep stay) _ _ f) (λ _. stepped-still t k _ _ f)
 
   pub stepped-planned : (size : ℕ) (p : Plan) → Plans p → Stepped t k (planned t s (slotAt t s) size p)
   unfolding planned
-  stepped-planned size (Plan.Refused r) f = stepped-still t k _ _ f
-  stepped-planned size (Plan.Frames n octets) f = stepped-change t k s _ _ h l (go (goes-on was-live has-begun refl (λ f. f)) same keep (pay n)) _ _ refl
+  stepped-planned size (Plan.Refused r) f = stepped-unsent r f
+  stepped-planned size (Plan.Frames n octets) f = stepped-change t k s _ _ h l (go (goes-on was-live has-begun refl (λ f. f) (sent n on)) same keep (pay n)) _ _ refl
 
   -- a start sets aside what the plan counts
   pub stepped-started : (size room : ℕ) (p : Plan) → Plans p
       → planSend size (slotAt t s .peer .mtu) (slotAt t s .peer .mps) (slotAt t s .peer .credits) (framesLength size (slotAt t s .peer .mps)) ≡ p
       → Stepped t k (startPlanned t s (slotAt t s) size room p)
   unfolding startPlanned
-  stepped-started size room (Plan.Refused r) f e = stepped-still t k _ _ f
+  stepped-started size room (Plan.Refused r) f e = stepped-unsent r f
   stepped-started size room (Plan.Frames n octets) f e =
       let a = plan-allowed size (slotAt t s .peer .mtu) (slotAt t s .peer .mps) (slotAt t s .peer .credits) (framesLength size (slotAt t s .peer .mps)) n octets e in
       let q = a .frames in
       let w = a .wide in
       let p = a .paid in
       if-cases (Stepped t k) _ (λ _. stepped-still t k _ _ refl)
-      (λ _. stepped-filling t k s _ [] h l (go (goes-on was-live has-begun refl (λ f. f)) same keep (begin size n on (omega arith) q (omega arith))) _ _ _ _ refl refl)
+      (λ _. stepped-filling t k s _ [] h l (go (goes-on was-live has-begun refl (λ f. f) (sent n on)) same keep (begin size n on (omega arith) q (omega arith))) _ _ _ _ refl refl)
 
 -- ---- what a frame that fits comes to
 
@@ -164,13 +170,17 @@ pub record Sent (t : Table) (s : ℕ) (x : Slot) (l size n : ℕ) (o : Outcome) 
   pub count : n ≡ frameCount l (x .peer .mps)
   pub out : o .out ≡ frames (x .peer .cid) (x .peer .mps) l n
 
+-- A plan's refusal is the call's, counted or not.
+pub unsent-answers : (t : Table) (s : ℕ) (x : Slot) (r : Refusal) → unsent t s x r .answer ≡ Refused r
+unsent-answers t s x r = if-cases (λ (o : Outcome). o .answer ≡ Refused r) (blocks r) (λ _. refl) (λ _. refl)
+
 pub planned-frames : (t : Table) (s : ℕ) (x : Slot) (l out link n : ℕ) → planned t s x l (planSend l (x .peer .mtu) (x .peer .mps) (x .peer .credits) out) .answer ≡ Frames link n
     → Sent t s x l out n (planned t s x l (planSend l (x .peer .mtu) (x .peer .mps) (x .peer .credits) out))
 unfolding planned
 planned-frames t s x l out link n = by (planSend l (x .peer .mtu) (x .peer .mps) (x .peer .credits) out) refl
   where
     by : (p : Plan) → planSend l (x .peer .mtu) (x .peer .mps) (x .peer .credits) out ≡ p → planned t s x l p .answer ≡ Frames link n → Sent t s x l out n (planned t s x l p)
-    by (Plan.Refused r) e f = let z : _≡_ {A = ℕ} 0 1 = cc in absurd (omega arith)
+    by (Plan.Refused r) e f = let g = unsent-answers t s x r in let z : _≡_ {A = ℕ} 0 1 = cc in absurd (omega arith)
     by (Plan.Frames k octets) e f =
         let a = plan-allowed l (x .peer .mtu) (x .peer .mps) (x .peer .credits) out k octets e in
         let q : k ≡ n = cc in

@@ -2,13 +2,15 @@
 use mathlib.Core.Path.{_≡_, refl, sym, ap, _∙_, subst, subst₂}
 use mathlib.Core.Bool.{Bool, true, false, false≢true}
 use mathlib.Core.List.{List, [], _∷_, _++_}
-use Prim.Native.Nat.{ℕ, zero, suc, _-_, _≤_}
+use Prim.Native.Nat.{ℕ, zero, suc, _+_, _-_, _≤_}
+use native.Mathlib.Nat.{mod-lt}
 use native.Mathlib.Numerals.{add-one}
 use native.Mathlib.Omega.{arith}
 use lib.Dec.{leb}
 use lib.ListN.{take, drop, set, length-set, length-append, length-drop}
 use lib.Seq.{take-nil}
 use borrow.Author.Tests.{le-leb}
+use Rattle.lists.specs.Choose.{choose-true, choose-false}
 use Rattle.lists.specs.Every.{every}
 use Rattle.credit.specs.declared.CreditFlowControl.{CreditFlowControl}
 use Rattle.credit.specs.Account.{creditSum}
@@ -16,18 +18,21 @@ use Rattle.credit_laws.specs.AccountLaws.{received-sum, grant-settles}
 use Rattle.sar_join.specs.declared.Assembly.{Assembly}
 use Rattle.sar_join.specs.Joining.{idle}
 use Rattle.channel.specs.Limits.{creditsMost}
+use Rattle.channel.specs.declared.ChannelState.{ChannelState}
+use Rattle.channel.specs.declared.ChannelState.the-variants.{Disconnected, PeerDisconnecting, Disconnecting}
 use Rattle.channel.specs.declared.OpenJob.{OpenJob}
 use Rattle.channel.specs.declared.Peer.{Peer}
 use Rattle.channel.specs.declared.Queue.{Queue}
 use Rattle.channel.specs.declared.Slot.{Slot}
 use Rattle.channel.specs.declared.Table.{Table}
+use Rattle.channel.specs.declared.Tallies.{Tallies}
 use Rattle.definition.specs.Mem.{Move}
-use Rattle.definition.specs.Table.{placeOf, fresh, isConnected, belowLeast, withHold}
+use Rattle.definition.specs.Table.{placeOf, fresh, isConnected, belowLeast, withHold, noTallies}
 use Rattle.lists.specs.Both.{and-left, and-right, and-both}
-use Rattle.rules.specs.Tests.{begun, begun-live, pending-off, pending-offered, pending-unbegun}
-use Rattle.rules.specs.Step.{Accounting, same, use-one, grant, Jobs, keep, leave, grow, finish, hand, Sending, off, Goes, Step, hold, go, accept, free, allocate, Steps, rest, next}
+use Rattle.rules.specs.Tests.{begun, begun-live, pending-off, pending-offered, pending-unbegun, counting, connected-counting, unbegun-uncounted}
+use Rattle.rules.specs.Step.{Accounting, same, use-one, grant, Jobs, keep, leave, grow, finish, hand, Sending, off, Counting, uncounted, reset, parted, sent, arrived, blocked-send, blocked-receive, Goes, Step, hold, go, accept, free, allocate, Steps, rest, next}
 use Rattle.rules.specs.Aside.{none-owing, sending-owing}
-use Rattle.rules.specs.Sound.{Holding, Within, Owing, Sound, AllSound}
+use Rattle.rules.specs.Sound.{Holding, Within, Owing, Below, Counted, Sound, AllSound}
 
 -- ---- two laws of lists: one more element that passes; one fewer at the front
 
@@ -107,6 +112,39 @@ module _ (t : Table) (k : ℕ) (x : Slot) where
   jobs-quiet (finish b e w g) f h = absurd (false≢true (sym f ∙ b))
   jobs-quiet (hand b c) f h = absurd (false≢true (sym f ∙ b))
 
+-- a Connected slot counts
+no-less : (x : Slot) {A : Type 0} → isConnected (x .state) ≡ true → counting (x .state) ≡ false → A
+no-less x on e = absurd (false≢true (sym e ∙ connected-counting (x .state) on))
+
+-- ---- what is counted: nothing where it is reset, and below 2^64 wherever it is counted
+
+none-below : Below noTallies
+none-below = record { sent = omega arith; blocked-sends = omega arith; received = omega arith; blocked-receives = omega arith }
+
+none-counted : (k : ChannelState) → Counted k noTallies
+none-counted k = record { none = λ _. refl; below = none-below }
+
+pub counts-counted : (x : Slot) {k : ChannelState} {y : Tallies} → Counting x k y → Counted (x .state) (x .tallies) → Counted k y
+counts-counted x (uncounted f) c = record { none = λ e. c .none (f e); below = c .below }
+counts-counted x (reset {announced} y) c = subst (λ (z : Tallies). Counted (Disconnecting announced) z) (sym (choose-true true noTallies y refl)) (none-counted (Disconnecting announced))
+counts-counted x (parted {id}) c =
+    subst (λ (z : Tallies). Counted (PeerDisconnecting id) z) (sym (choose-false false noTallies (x .tallies) refl))
+    (record { none = λ e. absurd (false≢true (sym e)); below = c .below })
+counts-counted x (sent n on) c = record { none = no-less x on; below = record { sent = mod-lt (x .tallies .sends .frames + n) (omega arith); blocked-sends = c .below .blocked-sends; received = c .below .received; blocked-receives = c .below .blocked-receives } }
+counts-counted x (arrived on) c = record { none = no-less x on; below = record { sent = c .below .sent; blocked-sends = c .below .blocked-sends; received = mod-lt (x .tallies .receives .frames + 1) (omega arith); blocked-receives = c .below .blocked-receives } }
+counts-counted x (blocked-send on) c = record { none = no-less x on; below = record { sent = c .below .sent; blocked-sends = mod-lt (x .tallies .sends .blocked + 1) (omega arith); received = c .below .received; blocked-receives = c .below .blocked-receives } }
+counts-counted x (blocked-receive on) c = record { none = no-less x on; below = record { sent = c .below .sent; blocked-sends = c .below .blocked-sends; received = c .below .received; blocked-receives = mod-lt (x .tallies .receives .blocked + 1) (omega arith) } }
+
+-- what counts nothing before the step has counted nothing after it
+pub counts-none : (x : Slot) {k : ChannelState} {y : Tallies} → Counting x k y → counting (x .state) ≡ false → x .tallies ≡ noTallies → y ≡ noTallies
+counts-none x (uncounted f) e n = n
+counts-none x (reset y) e n = choose-true true noTallies y refl
+counts-none x parted e n = choose-false false noTallies (x .tallies) refl ∙ n
+counts-none x (sent m on) e n = no-less x on e
+counts-none x (arrived on) e n = no-less x on e
+counts-none x (blocked-send on) e n = no-less x on e
+counts-none x (blocked-receive on) e n = no-less x on e
+
 not-begun : (x y : Slot) → Goes x y → begun (y .state) ≡ false → begun (x .state) ≡ false
 not-begun x y g f = by (begun (x .state)) refl
   where
@@ -131,13 +169,14 @@ sound-fresh d p h =
       sum = omega arith;
       owing = none-owing false _ (omega arith);
       least = λ e. absurd (false≢true e);
+      counted = none-counted Disconnected;
       free = λ _. refl;
       quiet = λ _. (refl, refl);
     }
 
 pub step-sound : {t : Table} {k : ℕ} {x y : Slot} {ms : List Move} → Step t k x y ms → Sound (t .d) (placeOf t) x → Sound (t .d) (placeOf t) y
 step-sound {x = x} (hold h) s =
-    record { holding = s .holding; mtu = s .mtu; within = s .within; sum = s .sum; owing = s .owing; least = s .least; free = λ e. ap (λ (z : Slot). withHold h z) (s .free e); quiet = s .quiet }
+    record { holding = s .holding; mtu = s .mtu; within = s .within; sum = s .sum; owing = s .owing; least = s .least; counted = s .counted; free = λ e. ap (λ (z : Slot). withHold h z) (s .free e); quiet = s .quiet }
 step-sound {t} {k} {x} {y} (go g a j o) s =
     record {
       holding = jobs-holding t k x j (s .mtu) (s .holding);
@@ -146,6 +185,7 @@ step-sound {t} {k} {x} {y} (go g a j o) s =
       sum = rw (accounting-sum a (s .sum)) (s .sum);
       owing = sending-owing x o (s .owing);
       least = g .least (s .least);
+      counted = counts-counted x (g .counts) (s .counted);
       free = λ e. absurd (false≢true (sym (g .is) ∙ e));
       quiet = λ f. let b = not-begun x y g f in jobs-quiet t k x j b (s .quiet b);
     }
@@ -157,6 +197,7 @@ step-sound {t} {k} {x} {y} (accept c) s =
       sum = c .sum;
       owing = sending-owing x (subst₂ (λ (p : Peer) (j : OpenJob). Sending x (isConnected (y .state)) p j) (sym (c .peer)) (sym (c .job)) (off (pending-off (x .state) (c .was)))) (s .owing);
       least = λ _. subst (λ (p : Peer). belowLeast p ≡ false) (sym (c .peer)) (s .least (pending-offered (x .state) (c .was)));
+      counted = subst (λ (z : Tallies). Counted (y .state) z) (sym (c .tallies ∙ s .counted .none (unbegun-uncounted (x .state) (pending-unbegun (x .state) (c .was))))) (none-counted (y .state));
       free = λ e. absurd (false≢true (sym (begun-live (y .state) (c .is)) ∙ e));
       quiet = λ f. absurd (false≢true (sym f ∙ c .is));
     }
@@ -169,6 +210,7 @@ step-sound {t} {y = y} (allocate c) s =
       sum = c .sum;
       owing = subst (λ (j : OpenJob). Owing (isConnected (y .state)) (y .peer) j) (sym (c .job)) (none-owing (isConnected (y .state)) (y .peer) (c .peer));
       least = c .least;
+      counted = subst (λ (z : Tallies). Counted (y .state) z) (sym (c .tallies)) (none-counted (y .state));
       free = λ e. absurd (false≢true (sym (c .is) ∙ e));
       quiet = λ _. (c .assembly, ap (λ (q : Queue). q .count) (c .queue));
     }

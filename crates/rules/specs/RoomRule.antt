@@ -19,19 +19,19 @@ use Rattle.channel.specs.declared.Queue.{Queue}
 use Rattle.channel.specs.declared.Slot.{Slot}
 use Rattle.channel.specs.declared.Table.{Table}
 use Rattle.definition.specs.Mem.{Move, move, moves, parts}
-use Rattle.definition.specs.Table.{placeOf, width, roomSize, gap, fresh, slotAt, live, isDisconnected, noJob, sizesFit}
+use Rattle.definition.specs.Table.{placeOf, width, roomSize, gap, fresh, slotAt, live, isDisconnected, noJob, noTallies, sizesFit}
 use Rattle.definition.specs.Asking.{Made, make, blank}
 use Rattle.definition.specs.Calls.{Call, jobs}
 use Rattle.definition.specs.Run.{State, after}
 use Rattle.definition.specs.Lengths.{length-moves}
 use Rattle.rules.specs.Run.{Fits, Reached, start}
 use Rattle.rules.specs.Run as Run
-use Rattle.rules.specs.Tests.{begun, pending-live, unbegun-off}
+use Rattle.rules.specs.Tests.{begun, pending-live, unbegun-off, unbegun-uncounted}
 use Rattle.rules.specs.Step.{Step, hold, go, accept, free, allocate, Steps, rest, next}
 use Rattle.rules.specs.Forms.{live-at, live-length}
 use Rattle.rules.specs.Sound.{Sound, AllSound}
 use Rattle.rules.specs.Aside.{sending-none}
-use Rattle.rules.specs.Keep.{jobs-quiet}
+use Rattle.rules.specs.Keep.{jobs-quiet, counts-none}
 use Rattle.rules.specs.Good.{Good, sizes-read, within, slot-sound, call-steps, same-sizes, reached-good}
 use Rattle.rules.specs.Rules.{call-change}
 use Rattle.rules.specs.Places.{jobIn, Clean, no-job, clean-jobs}
@@ -134,17 +134,18 @@ room-rule {s} r i k j h f g e =
     part-clean (width t) (placeOf t) (live t) (s .room) i (rw (live-length t (within good)) h) (reached-clean r) k j
     (omega (arith, mul-le-mul-right (placeOf t) f, suc-mul (t .d) (placeOf t), suc-mul k (placeOf t))) g (rw (live-at t i h) e)
 
--- ---- E. no assembly, no waiting job, no job handed over in portions, and the whole part of the room zero
+-- ---- E. no assembly, no waiting job, no job handed over in portions, nothing counted, and the whole part of the room zero
 
 pub record Empty (s : State) (i : ℕ) : Type 0 where
   pub assembly : slotAt (s .table) i .assembly ≡ idle
   pub jobs : slotAt (s .table) i .queue .count ≡ 0
   pub portions : slotAt (s .table) i .job ≡ noJob
+  pub tallies : slotAt (s .table) i .tallies ≡ noTallies
   pub room : (o : ℕ) → o < width (s .table) → getD (s .room) (i * width (s .table) + o) 0 ≡ 0
 
 empty-part : {s : State} → Reached s → (i : ℕ) → i < s .table .n → slotAt (s .table) i .assembly ≡ idle → slotAt (s .table) i .queue .count ≡ 0
-    → slotAt (s .table) i .job ≡ noJob → Empty s i
-empty-part {s} r i h a q b = record { assembly = a; jobs = q; portions = b; room = zero-at }
+    → slotAt (s .table) i .job ≡ noJob → slotAt (s .table) i .tallies ≡ noTallies → Empty s i
+empty-part {s} r i h a q b c = record { assembly = a; jobs = q; portions = b; tallies = c; room = zero-at }
   where
     p : ℕ
     p = placeOf (s .table)
@@ -164,7 +165,7 @@ pub unbegun-empty : {s : State} → Reached s → (i : ℕ) → i < s .table .n 
 unbegun-empty {s} r i h f =
     let x = slot-sound (reached-good r) i h in
     let z = x .quiet f in
-    empty-part r i h (z .0) (z .1) (x .owing .shut (unbegun-off (slotAt (s .table) i .state) f))
+    empty-part r i h (z .0) (z .1) (x .owing .shut (unbegun-off (slotAt (s .table) i .state) f)) (x .counted .none (unbegun-uncounted (slotAt (s .table) i .state) f))
 
 pub free-fresh : {s : State} → Reached s → (i : ℕ) → i < s .table .n → isDisconnected (slotAt (s .table) i .state) ≡ true → slotAt (s .table) i ≡ fresh (slotAt (s .table) i .hold)
 free-fresh r i h f = slot-sound (reached-good r) i h .free f
@@ -179,19 +180,21 @@ newcomer (free h) e f = absurd (false≢true (sym f))
 newcomer (allocate c) e f = (c .unheld, c .unbegun)
 
 beginner : {t : Table} {k : ℕ} {x y : Slot} {ms : List Move} → Step t k x y ms → begun (x .state) ≡ false → begun (y .state) ≡ true
-    → (x .assembly ≡ idle) × (x .queue .count ≡ 0) → x .job ≡ noJob → (y .assembly ≡ idle) × (y .queue .count ≡ 0) × (y .job ≡ noJob)
-beginner (hold h) e f q b = (q .0, q .1, b)
-beginner {t} {k} {x} (go g a j o) e f q b = let z = jobs-quiet t k x j e q in (z .0, z .1, sending-none x o (unbegun-off (x .state) e) b)
-beginner (accept c) e f q b = (c .assembly ∙ q .0, ap (λ (z : Queue). z .count) (c .queue) ∙ q .1, c .job ∙ b)
-beginner (free h) e f q b = (refl, refl, refl)
-beginner (allocate c) e f q b = (c .assembly, ap (λ (z : Queue). z .count) (c .queue), c .job)
+    → (x .assembly ≡ idle) × (x .queue .count ≡ 0) → x .job ≡ noJob → x .tallies ≡ noTallies → (y .assembly ≡ idle) × (y .queue .count ≡ 0) × (y .job ≡ noJob) × (y .tallies ≡ noTallies)
+beginner (hold h) e f q b n = (q .0, q .1, b, n)
+beginner {t} {k} {x} (go g a j o) e f q b n =
+    let z = jobs-quiet t k x j e q in
+    (z .0, z .1, sending-none x o (unbegun-off (x .state) e) b, counts-none x (g .counts) (unbegun-uncounted (x .state) e) n)
+beginner (accept c) e f q b n = (c .assembly ∙ q .0, ap (λ (z : Queue). z .count) (c .queue) ∙ q .1, c .job ∙ b, c .tallies ∙ n)
+beginner (free h) e f q b n = (refl, refl, refl, refl)
+beginner (allocate c) e f q b n = (c .assembly, ap (λ (z : Queue). z .count) (c .queue), c .job, c .tallies)
 
 module _ {s : State} (r : Reached s) (a : Call) (f : Fits a) (i : ℕ) (h : i < s .table .n) where
   still-in : i < after s a .table .n
   still-in = subst (λ (n : ℕ). i < n) (sym (same-sizes s a (reached-good r) f .n)) h
 
   -- The client's accident, excluded: a free slot that a call gives to a new connection (create, connect request) was as it was made,
-  -- holds and all, and starts with no assembly, no waiting job, no open job and its whole part of the room zero.
+  -- holds and all, and starts with no assembly, no waiting job, no open job, nothing counted and its whole part of the room zero.
   pub new-connection : isDisconnected (slotAt (s .table) i .state) ≡ true → isDisconnected (slotAt (after s a .table) i .state) ≡ false
       → (slotAt (s .table) i ≡ fresh 0) × Empty (after s a) i
   new-connection e e′ =
@@ -203,5 +206,6 @@ module _ {s : State} (r : Reached s) (a : Call) (f : Fits a) (i : ℕ) (h : i < 
   connection-begins e e′ =
       let g = reached-good r in
       let x = slot-sound g i h in
-      let q = beginner (call-change s a g f i h .step) e e′ (x .quiet e) (x .owing .shut (unbegun-off (slotAt (s .table) i .state) e)) in
-      empty-part (Run.next a r f) i still-in (q .0) (q .1) (q .2)
+      let q = beginner (call-change s a g f i h .step) e e′ (x .quiet e) (x .owing .shut (unbegun-off (slotAt (s .table) i .state) e))
+      (x .counted .none (unbegun-uncounted (slotAt (s .table) i .state) e)) in
+      empty-part (Run.next a r f) i still-in (q .0) (q .1) (q .2) (q .3)

@@ -1,6 +1,6 @@
 -- The rules of every run from a made table that speak of the table: refusal 1 never comes (A), identifiers are 1 to 255 (B), credits
 -- held plus received stay what they were when the connection began (C); a job handed over in portions stands only in a Connected slot, with
--- a credit set aside for each frame to come (G); a peer's MTU and MPS are at least 23, so that refusal 20 never comes (H). They follow from what every reached state has (Good.antt).
+-- a credit set aside for each frame to come (G); a peer's MTU and MPS are at least 23, so that refusal 20 never comes (H); tallies stand only in a slot that is Connected or that its peer has left (J). They follow from what every reached state has (Good.antt).
 use mathlib.Core.Path.{_≡_, refl, sym, ap, _∙_, subst, subst₂}
 use mathlib.Core.Bool.{Bool, true, false, _&&_, not, false≢true}
 use mathlib.Core.List.{List, [], _∷_}
@@ -28,7 +28,7 @@ use Rattle.channel.specs.declared.Slot.{Slot}
 use Rattle.channel.specs.declared.Table.{Table}
 use Rattle.definition.specs.Numbers.{answerNumber}
 use Rattle.definition.specs.Mem.{given, Move}
-use Rattle.definition.specs.Table.{gap, slotAt, found, isFree, isDisconnected, isPeerConnecting, isConnected, isOpen, noJob, withJob, identifierOf, index, cidOf, nextId, spent, wellFormed}
+use Rattle.definition.specs.Table.{gap, slotAt, found, isFree, isDisconnected, isPeerConnecting, isConnected, isOpen, noJob, noTallies, withJob, identifierOf, index, cidOf, nextId, spent, wellFormed}
 use Rattle.definition.specs.Outcome.{Outcome, refuse}
 use Rattle.definition.specs.Calls.{Call, jobs}
 use Rattle.definition.specs.Run.{State, outcome, after, run}
@@ -42,8 +42,8 @@ use Rattle.rules.specs.Step as Step
 use Rattle.rules.specs.Forms.{live-at, gate-cases}
 use Rattle.rules.specs.Aside.{portion-aside}
 use Rattle.rules.specs.Keep.{accounting-sum}
-use Rattle.rules.specs.Tests.{offered, least-sizes}
-use Rattle.rules.specs.Sound.{Within}
+use Rattle.rules.specs.Tests.{offered, least-sizes, counting}
+use Rattle.rules.specs.Sound.{Within, Below}
 use Rattle.rules.specs.Good.{Good, within, slot-sound, good-formed, call-steps, same-sizes, next-id, reached-good}
 
 -- ---- A. "the table never becomes one that refusal 1 refuses"
@@ -275,3 +275,21 @@ never-20 {s} r a f =
 -- What waits in a slot, and what arrives there, is no longer than its MTU.
 pub within-mtu : {s : State} → Reached s → (i : ℕ) → i < s .table .n → Within (slotAt (s .table) i .mtu) (slotAt (s .table) i .assembly) (slotAt (s .table) i .queue)
 within-mtu r i h = slot-sound (reached-good r) i h .within
+
+-- ---- J. "also whenever the slot is freed: S .. lets the next owner inherit them" (document 02): the tallies
+
+-- What neither is Connected nor was left by its peer has counted nothing.
+pub no-tallies-elsewhere : {s : State} → Reached s → (i : ℕ) → i < s .table .n → counting (slotAt (s .table) i .state) ≡ false → slotAt (s .table) i .tallies ≡ noTallies
+no-tallies-elsewhere r i h e = slot-sound (reached-good r) i h .counted .none e
+
+-- So a free slot's tallies are 0, and no owner inherits any: our attempt and the peer's begin with none.
+pub free-uncounted : {s : State} → Reached s → (i : ℕ) → i < s .table .n → slotAt (s .table) i .state ≡ Disconnected → slotAt (s .table) i .tallies ≡ noTallies
+free-uncounted r i h e = no-tallies-elsewhere r i h (ap (λ (k : ChannelState). counting k) e)
+
+pub owner-uncounted : {s : State} → Reached s → (i : ℕ) → i < s .table .n → (id : ℕ)
+    → (slotAt (s .table) i .state ≡ Connecting id → slotAt (s .table) i .tallies ≡ noTallies) × (slotAt (s .table) i .state ≡ PeerConnecting id → slotAt (s .table) i .tallies ≡ noTallies)
+owner-uncounted r i h id = ((λ e. no-tallies-elsewhere r i h (ap (λ (k : ChannelState). counting k) e)), (λ e. no-tallies-elsewhere r i h (ap (λ (k : ChannelState). counting k) e)))
+
+-- "at 64 bits": every tally is below 2^64
+pub tallies-below : {s : State} → Reached s → (i : ℕ) → i < s .table .n → Below (slotAt (s .table) i .tallies)
+tallies-below r i h = slot-sound (reached-good r) i h .counted .below

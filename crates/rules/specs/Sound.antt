@@ -2,7 +2,7 @@
 use mathlib.Core.Path.{_≡_}
 use mathlib.Core.Bool.{Bool, true, false}
 use mathlib.Core.List.{List, [], _∷_}
-use Prim.Native.Nat.{ℕ, _+_, _-_, _≤_, _<_}
+use Prim.Native.Nat.{ℕ, _+_, _-_, _^_, _≤_, _<_}
 use lib.Dec.{leb}
 use lib.ListN.{length, take}
 use Rattle.lists.specs.Every.{every}
@@ -11,13 +11,15 @@ use Rattle.sar_join.specs.declared.Assembly.{Assembly}
 use Rattle.sar_join.specs.Joining.{idle}
 use Rattle.sar_cut.specs.Cutting.{ceil}
 use Rattle.channel.specs.Limits.{depthMost, creditsMost}
+use Rattle.channel.specs.declared.ChannelState.{ChannelState}
 use Rattle.channel.specs.declared.OpenJob.{OpenJob}
 use Rattle.channel.specs.declared.Peer.{Peer}
 use Rattle.channel.specs.declared.Queue.{Queue}
 use Rattle.channel.specs.declared.Slot.{Slot}
-use Rattle.definition.specs.Table.{fresh, isDisconnected, isConnected, noJob}
+use Rattle.channel.specs.declared.Tallies.{Tallies}
+use Rattle.definition.specs.Table.{fresh, isDisconnected, isConnected, noJob, noTallies}
 use Rattle.definition.specs.Portions.{givenOut}
-use Rattle.rules.specs.Tests.{begun, Least}
+use Rattle.rules.specs.Tests.{begun, Least, counting}
 
 -- An assembly and a queue of at most d jobs, in places of p octets.
 pub record Holding (d p : ℕ) (a : Assembly) (q : Queue) : Type 0 where
@@ -48,6 +50,18 @@ pub record Within (most : ℕ) (a : Assembly) (q : Queue) : Type 0 where
   pub lens : every (λ n. leb n most) (take (q .count) (q .lens)) ≡ true
   pub want : a .want ≤ most
 
+-- "at 64 bits": four numbers below 2^64.
+pub record Below (y : Tallies) : Type 0 where
+  pub sent : y .sends .frames < 2 ^ 64
+  pub blocked-sends : y .sends .blocked < 2 ^ 64
+  pub received : y .receives .frames < 2 ^ 64
+  pub blocked-receives : y .receives .blocked < 2 ^ 64
+
+-- What a slot in this state has counted: nothing, where it neither is Connected nor was left by its peer.
+pub record Counted (k : ChannelState) (y : Tallies) : Type 0 where
+  pub none : counting k ≡ false → y ≡ noTallies
+  pub below : Below y
+
 pub record Sound (d p : ℕ) (x : Slot) : Type 0 where
   pub holding : Holding d p (x .assembly) (x .queue)
   pub mtu : x .mtu ≤ p
@@ -57,6 +71,7 @@ pub record Sound (d p : ℕ) (x : Slot) : Type 0 where
   pub owing : Owing (isConnected (x .state)) (x .peer) (x .job)
   -- the peer of a connection that is asked for, or that stands, is not below the least
   pub least : Least x
+  pub counted : Counted (x .state) (x .tallies)
   -- a Disconnected slot is as it was made, but for its holds
   pub free : isDisconnected (x .state) ≡ true → x ≡ fresh (x .hold)
   -- before a connection has begun there is no assembly and no job

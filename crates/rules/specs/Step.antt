@@ -16,19 +16,22 @@ use Rattle.signal_write.specs.Writer.{encodeOf}
 use Rattle.signal_forms.specs.declared.Signal.{Signal}
 use Rattle.channel.specs.Limits.{creditsMost}
 use Rattle.channel.specs.declared.Answer.{Answer}
+use Rattle.channel.specs.declared.ChannelState.{ChannelState}
+use Rattle.channel.specs.declared.ChannelState.the-variants.{PeerDisconnecting, Disconnecting}
 use Rattle.channel.specs.declared.OpenJob.{OpenJob}
 use Rattle.channel.specs.declared.Peer.{Peer}
 use Rattle.channel.specs.declared.Queue.{Queue}
 use Rattle.channel.specs.declared.Slot.{Slot}
 use Rattle.channel.specs.declared.Table.{Table}
+use Rattle.channel.specs.declared.Tallies.{Tallies}
 use Rattle.definition.specs.Mem.{Fill, given, zeros, job, Move, put, wipe}
-use Rattle.definition.specs.Table.{placeOf, fresh, live, isDisconnected, isPeerConnecting, isConnected, withHold, noJob, nextId, spent}
+use Rattle.definition.specs.Table.{placeOf, fresh, live, isDisconnected, isPeerConnecting, isConnected, withHold, noJob, noTallies, countSent, countReceived, countBlockedSend, countBlockedReceive, talliesLeft, nextId, spent}
 use Rattle.definition.specs.Outcome.{Outcome}
 use Rattle.definition.specs.Numbers.{answerNumber}
 use Rattle.definition.specs.Frames.{queued, finishing, shifted, movingUp}
 use Rattle.definition.specs.Portions.{filledBy}
 use Rattle.definition.specs.Portions as Portions
-use Rattle.rules.specs.Tests.{begun, Least}
+use Rattle.rules.specs.Tests.{begun, Least, counting}
 
 -- ---- the credit account: untouched, one credit used by a frame, or a grant of what the policy says
 
@@ -67,6 +70,19 @@ pub data Sending (x : Slot) : Bool → Peer → OpenJob → Type 0 where
       → Sending x (isConnected (x .state)) (x .peer) (filledBy (x .peer .mps) (x .job) count)
   cancel : Sending x (isConnected (x .state)) (withCredits (x .peer .credits + x .job .aside) (x .peer)) noJob
 
+-- ---- what is counted, of a slot that comes to be in a state
+
+pub data Counting (x : Slot) : ChannelState → Tallies → Type 0 where
+  -- nothing; and what counted still does, or never did
+  uncounted : {k : ChannelState} → (counting k ≡ false → counting (x .state) ≡ false) → Counting x k (x .tallies)
+  -- our side leaves: reset; the peer leaves: not
+  reset : {announced : Bool} (y : Tallies) → Counting x (Disconnecting announced) (talliesLeft (Disconnecting announced) y)
+  parted : {id : ℕ} → Counting x (PeerDisconnecting id) (talliesLeft (PeerDisconnecting id) (x .tallies))
+  sent : (n : ℕ) → isConnected (x .state) ≡ true → Counting x (x .state) (countSent n x .tallies)
+  arrived : isConnected (x .state) ≡ true → Counting x (x .state) (countReceived x .tallies)
+  blocked-send : isConnected (x .state) ≡ true → Counting x (x .state) (countBlockedSend x .tallies)
+  blocked-receive : isConnected (x .state) ≡ true → Counting x (x .state) (countBlockedReceive x .tallies)
+
 -- ---- one slot: x becomes y
 
 -- The connection goes on: not freed, our MTU the same, and once begun it stays so; its peer is not below the least, if it was not before.
@@ -76,6 +92,7 @@ pub record Goes (x y : Slot) : Type 0 where
   pub stays : begun (x .state) ≡ true → begun (y .state) ≡ true
   pub mtu : y .mtu ≡ x .mtu
   pub least : Least x → Least y
+  pub counts : Counting x (y .state) (y .tallies)
 
 -- A pending connection is accepted, with our numbers and a new account.
 pub record Accepts (t : Table) (x y : Slot) : Type 0 where
@@ -87,6 +104,7 @@ pub record Accepts (t : Table) (x y : Slot) : Type 0 where
   pub queue : y .queue ≡ x .queue
   pub peer : y .peer ≡ x .peer
   pub job : y .job ≡ x .job
+  pub tallies : y .tallies ≡ x .tallies
 
 -- A free slot is given to a new connection.
 pub record Allocates (t : Table) (x y : Slot) : Type 0 where
@@ -101,6 +119,7 @@ pub record Allocates (t : Table) (x y : Slot) : Type 0 where
   pub peer : y .peer .credits ≤ creditsMost
   pub least : Least y
   pub job : y .job ≡ noJob
+  pub tallies : y .tallies ≡ noTallies
 
 pub data Step (t : Table) (k : ℕ) (x : Slot) : Slot → List Move → Type 0 where
   hold : (h : ℕ) → Step t k x (withHold h x) []

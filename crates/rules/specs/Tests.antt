@@ -10,7 +10,7 @@ use Rattle.channel.specs.declared.ChannelState.{ChannelState}
 use Rattle.channel.specs.declared.ChannelState.the-variants.{Disconnected, Connecting, PeerConnecting, Connected, ConnectFailed, PeerDisconnecting, Disconnecting}
 use Rattle.channel.specs.declared.Peer.{Peer}
 use Rattle.channel.specs.declared.Slot.{Slot}
-use Rattle.definition.specs.Table.{isDisconnected, isConnecting, isPeerConnecting, isConnected, isConnectFailed, isDue, belowLeast}
+use Rattle.definition.specs.Table.{isDisconnected, isConnecting, isPeerConnecting, isConnected, isConnectFailed, isPeerDisconnecting, isDue, belowLeast}
 
 pub or-left : (a b : Bool) → (a || b) ≡ false → a ≡ false
 or-left true b e = e
@@ -171,3 +171,30 @@ below-sizes p e = by (ltb (p .mtu) sizeLeast) refl
     by : (b : Bool) → ltb (p .mtu) sizeLeast ≡ b → min (p .mtu) (p .mps) < sizeLeast
     by true f = omega (arith, ltb-true (p .mtu) sizeLeast f)
     by false f = let g : ltb (p .mps) sizeLeast ≡ true = rw f at e in omega (arith, ltb-true (p .mps) sizeLeast g)
+
+-- ---- "S .. lets the next owner inherit them": where a channel's tallies stand (document 02)
+
+-- a slot that is Connected, or that its peer has left: what it counted is not yet reset
+abbrev pub counting : ChannelState → Bool
+counting k = isConnected k || isPeerDisconnecting k
+
+pub connected-counting : (k : ChannelState) → isConnected k ≡ true → counting k ≡ true
+connected-counting k e = rw e refl
+
+pub unbegun-uncounted : (k : ChannelState) → begun k ≡ false → counting k ≡ false
+unbegun-uncounted Disconnected e = refl
+unbegun-uncounted (Connecting i) e = refl
+unbegun-uncounted (PeerConnecting i) e = refl
+unbegun-uncounted Connected e = absurd (false≢true (sym e))
+unbegun-uncounted (ConnectFailed c) e = refl
+unbegun-uncounted (PeerDisconnecting i) e = absurd (false≢true (sym e))
+unbegun-uncounted (Disconnecting a) e = refl
+
+pub due-uncounted : (k : ChannelState) → isDue k ≡ true → isPeerDisconnecting k ≡ false → counting k ≡ false
+due-uncounted Disconnected e f = refl
+due-uncounted (Connecting i) e f = refl
+due-uncounted (PeerConnecting i) e f = refl
+due-uncounted Connected e f = absurd (false≢true e)
+due-uncounted (ConnectFailed c) e f = refl
+due-uncounted (PeerDisconnecting i) e f = absurd (false≢true (sym f))
+due-uncounted (Disconnecting a) e f = refl

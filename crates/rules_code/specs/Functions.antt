@@ -24,7 +24,7 @@ use Rattle.definition.specs.Closing.{incRef, decRef, disconnect, disconnectByCi
 use Rattle.definition.specs.Signals.{signalled}
 use Rattle.definition.specs.Frames.{send, receive}
 use Rattle.definition.specs.Portions.{startJob, givePortion, cancelJob}
-use Rattle.definition.specs.Asking.{registerSpsm, attention, spsm, mtu, mps, peerMtu, peerMps, sendConnParamUpdateReq, sendConnParamUpdateRes}
+use Rattle.definition.specs.Asking.{registerSpsm, attention, spsm, mtu, mps, peerMtu, peerMps, tallySent, tallyReceived, tallyBlockedSends, tallyBlockedReceives, sendConnParamUpdateReq, sendConnParamUpdateRes}
 use Rattle.definition.specs.Calls.{Window, frame, sends, portions, down, plain, Request, register, signals, pends, rejectsAll, accepts, rejects, drops, creates, opens, gives, holds, releases, leaves, leavesCid, announces, takes, starts, cancels, attends, asks, sendsSignal, writes, jobs, bare, frameIn, serve, decide}
 use Rattle.definition.specs.Ending.{itself, end, endOf, servedOf, gave, end-given, roomAfter}
 use Rattle.definition.specs.Run.{State, lent, nowhere}
@@ -103,6 +103,22 @@ module _ (s : State) (r : Served) where
   pub peer-mps-called : (slot : ℕ) → r ≡ servedOf (peerMps (s .table) slot) → Called s (plain (asks (λ x. x .peer .mps) slot) nowhere nowhere) r (left r (s .room) (s .memory))
   unfolding serve
   peer-mps-called slot h = asked s (asks (λ x. x .peer .mps) slot) r refl h
+
+  pub tally-sent-called : (slot : ℕ) → r ≡ servedOf (tallySent (s .table) slot) → Called s (plain (asks (λ x. x .tallies .sends .frames) slot) nowhere nowhere) r (left r (s .room) (s .memory))
+  unfolding serve
+  tally-sent-called slot h = asked s (asks (λ x. x .tallies .sends .frames) slot) r refl h
+
+  pub tally-received-called : (slot : ℕ) → r ≡ servedOf (tallyReceived (s .table) slot) → Called s (plain (asks (λ x. x .tallies .receives .frames) slot) nowhere nowhere) r (left r (s .room) (s .memory))
+  unfolding serve
+  tally-received-called slot h = asked s (asks (λ x. x .tallies .receives .frames) slot) r refl h
+
+  pub tally-blocked-sends-called : (slot : ℕ) → r ≡ servedOf (tallyBlockedSends (s .table) slot) → Called s (plain (asks (λ x. x .tallies .sends .blocked) slot) nowhere nowhere) r (left r (s .room) (s .memory))
+  unfolding serve
+  tally-blocked-sends-called slot h = asked s (asks (λ x. x .tallies .sends .blocked) slot) r refl h
+
+  pub tally-blocked-receives-called : (slot : ℕ) → r ≡ servedOf (tallyBlockedReceives (s .table) slot) → Called s (plain (asks (λ x. x .tallies .receives .blocked) slot) nowhere nowhere) r (left r (s .room) (s .memory))
+  unfolding serve
+  tally-blocked-receives-called slot h = asked s (asks (λ x. x .tallies .receives .blocked) slot) r refl h
 
   pub attention-called : r ≡ servedOf (attention (s .table)) → Called s (plain attends nowhere nowhere) r (left r (s .room) (s .memory))
   unfolding serve

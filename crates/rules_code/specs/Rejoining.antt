@@ -20,7 +20,7 @@ use Rattle.channel.specs.declared.Served.{Served}
 use Rattle.channel.specs.declared.Slot.{Slot}
 use Rattle.channel.specs.declared.Table.{Table}
 use Rattle.definition.specs.Mem.{fills, written}
-use Rattle.definition.specs.Table.{slotAt}
+use Rattle.definition.specs.Table.{slotAt, blocks}
 use Rattle.definition.specs.Outcome.{Outcome}
 use Rattle.definition.specs.Frames.{planned, send}
 use Rattle.definition.specs.Calls.{Window, Call, sends, jobs, bare, decide}
@@ -53,7 +53,7 @@ answered p e = ap (λ (x : Served). x .answer) (sym (called-served p)) ∙ e
 -- a send writes from its output's start on
 planned-at : (t : Table) (j : ℕ) (x : Slot) (l : ℕ) (q : Plan) → planned t j x l q .at ≡ 0
 unfolding planned
-planned-at t j x l (Plan.Refused r) = refl
+planned-at t j x l (Plan.Refused r) = if-cases (λ (o : Outcome). o .at ≡ 0) (blocks r) (λ _. refl) (λ _. refl)
 planned-at t j x l (Plan.Frames n octets) = refl
 
 sends-at : (s : State) (j : ℕ) (sdu : List ℕ) (w : Window) → outcome s (sends j sdu w) .at ≡ 0
@@ -79,7 +79,7 @@ code-sends {s} j sdu w link n p e =
 -- ---- the frames, as they come to the code
 
 -- From state s to state s′ the code is called with these payloads, in this order, as frames for slot i on its link; and with other calls, that
--- leave the slot unchanged.
+-- leave the slot unchanged, but for its tallies.
 pub data CodeArrives (i link : ℕ) : List (List ℕ) → State → State → Type 0 where
   all : {s : State} → CodeArrives i link [] s s
   between : {ps : List (List ℕ)} {s u s′ : State} {c : Call} {r : Served} → Called s c r u → Fits c → Unchanged s u i → CodeArrives i link ps u s′ → CodeArrives i link ps s s′

@@ -10,18 +10,19 @@ use Rattle.credit.specs.Account.{creditSum}
 use Rattle.sar_cut.specs.Cutting.{ceil}
 use Rattle.channel.specs.Limits.{creditsMost, identifierMost, sizeLeast}
 use Rattle.channel.specs.declared.Answer.the-variants.{Done, Portion}
+use Rattle.channel.specs.declared.ChannelState.the-variants.{Disconnected, Connecting, PeerConnecting}
 use Rattle.channel.specs.declared.Served.{Served}
-use Rattle.definition.specs.Table.{placeOf, width, fresh, slotAt, isDisconnected, isConnected, isOpen, noJob, nextId, wellFormed}
+use Rattle.definition.specs.Table.{placeOf, width, fresh, slotAt, isDisconnected, isConnected, isOpen, noJob, noTallies, nextId, wellFormed}
 use Rattle.definition.specs.Portions.{givenOut}
 use Rattle.definition.specs.Calls.{Window, Call, portions, jobs, bare, decide}
 use Rattle.definition.specs.Numbers.{answerNumber}
 use Rattle.definition.specs.Run.{State, lent, outcome, after}
 use Rattle.rules.specs.Run.{Fits, AllFit, Reached, start, run-reached}
-use Rattle.rules.specs.Tests.{begun, offered}
+use Rattle.rules.specs.Tests.{begun, offered, counting}
 use Rattle.rules.specs.Step.{Numbered}
 use Rattle.rules.specs.Places.{jobIn}
-use Rattle.rules.specs.Rules.{well-formed, never-1-nor-2, credit-sum, peer-credit-sum, no-job-elsewhere, no-job-unpaid, credits-set-aside, identifiers, identifier-used, lasts, Lasts, credits-last, Uses, portion-credits, peer-least, never-20, within-mtu}
-use Rattle.rules.specs.Sound.{Within}
+use Rattle.rules.specs.Rules.{well-formed, never-1-nor-2, credit-sum, peer-credit-sum, no-job-elsewhere, no-job-unpaid, credits-set-aside, identifiers, identifier-used, lasts, Lasts, credits-last, Uses, portion-credits, peer-least, never-20, within-mtu, no-tallies-elsewhere, free-uncounted, owner-uncounted, tallies-below}
+use Rattle.rules.specs.Sound.{Within, Below}
 use Rattle.rules.specs.Good.{reached-good}
 use Rattle.rules.specs.RoomRule.{room-rule, Empty, unbegun-empty, free-fresh, new-connection, connection-begins}
 use Rattle.rules_code.specs.Called.{Called, called-after, called-served}
@@ -71,6 +72,20 @@ module _ {s : State} (g : CodeReached s) where
   -- what waits in a slot, and what arrives there, is no longer than its MTU (document 02)
   pub code-within-mtu : (i : ℕ) → i < s .table .n → Within (slotAt (s .table) i .mtu) (slotAt (s .table) i .assembly) (slotAt (s .table) i .queue)
   code-within-mtu = within-mtu (code-reached g)
+
+  -- what neither is Connected nor was left by its peer has counted nothing; so a free slot's tallies are 0, and no owner inherits any; and each is below 2^64 (document 02)
+  pub code-no-tallies-elsewhere : (i : ℕ) → i < s .table .n → counting (slotAt (s .table) i .state) ≡ false → slotAt (s .table) i .tallies ≡ noTallies
+  code-no-tallies-elsewhere = no-tallies-elsewhere (code-reached g)
+
+  pub code-free-uncounted : (i : ℕ) → i < s .table .n → slotAt (s .table) i .state ≡ Disconnected → slotAt (s .table) i .tallies ≡ noTallies
+  code-free-uncounted = free-uncounted (code-reached g)
+
+  pub code-owner-uncounted : (i : ℕ) → i < s .table .n → (id : ℕ)
+      → (slotAt (s .table) i .state ≡ Connecting id → slotAt (s .table) i .tallies ≡ noTallies) × (slotAt (s .table) i .state ≡ PeerConnecting id → slotAt (s .table) i .tallies ≡ noTallies)
+  code-owner-uncounted = owner-uncounted (code-reached g)
+
+  pub code-tallies-below : (i : ℕ) → i < s .table .n → Below (slotAt (s .table) i .tallies)
+  code-tallies-below = tallies-below (code-reached g)
 
   -- "Identifiers run 1 to 255"
   pub code-identifiers : (1 ≤ nextId (s .table)) × (nextId (s .table) ≤ identifierMost)

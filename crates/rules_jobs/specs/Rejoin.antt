@@ -26,7 +26,7 @@ use Rattle.channel.specs.declared.Slot.{Slot}
 use Rattle.channel.specs.declared.Table.{Table}
 use Rattle.channel.specs.declared.Verdict.the-variants.{Pass}
 use Rattle.definition.specs.Mem.{Move, put, job, fill, move, moves, parts}
-use Rattle.definition.specs.Table.{placeOf, width, roomSize, gap, slotAt, isConnected, withAccount, withAssembly, withQueue, cidOf, isCid, slotOf, wellFormed}
+use Rattle.definition.specs.Table.{placeOf, width, roomSize, gap, slotAt, isConnected, withAccount, withAssembly, withQueue, countReceived, cidOf, isCid, slotOf, wellFormed}
 use Rattle.definition.specs.Outcome.{Outcome, change, only, verdict}
 use Rattle.definition.specs.Calls.{Call, jobs, bare, decide, joining}
 use Rattle.definition.specs.Calls as Calls
@@ -37,6 +37,7 @@ use Rattle.rules.specs.Run.{Fits, Reached, next}
 use Rattle.rules.specs.Sound.{Sound}
 use Rattle.rules.specs.Join.{Reaches, reaches-first, reaches-next, joined-part, joined-whole}
 use Rattle.rules.specs.Good.{Good, sizes-read, within, slot-sound, good-formed, same-sizes, reached-good}
+use Rattle.rules_portions.specs.Statement.{uncounted}
 use Rattle.rules_jobs.specs.Waiting.{jobOf, Waits, finish-alone, finish-joined, grown-there, grown-jobs}
 
 -- ---- a slot's part of the room, and the jobs that wait in it
@@ -118,7 +119,7 @@ verdict-passes t room link well size l =
 abbrev Step-of : Table → (i : ℕ) → List ℕ → (k : ℕ) → Outcome
 Step-of t i head k =
     let x = slotAt t i in
-    joined t i (withAccount (received (x .account) 1) x) k (joinStep (x .mtu) (x .mps) (t .d) (x .assembly) (x .queue .count) (length head + k) (u16At head 0))
+    joined t i (countReceived (withAccount (received (x .account) 1) x)) k (joinStep (x .mtu) (x .mps) (t .d) (x .assembly) (x .queue .count) (length head + k) (u16At head 0))
 
 -- The receiver as document 01 asks it: Connected, on this link, with n credits and a free queue place.
 pub record Receiver (s : State) (i link n : ℕ) : Type 0 where
@@ -159,9 +160,9 @@ module _ (s : State) (g : Good (s .table) (s .room)) (i link : ℕ) (ps : List (
   abbrev x : Slot
   x = slotAt t i
 
-  -- the slot once its credit is used
+  -- the slot once its credit is used, and it is counted
   abbrev x′ : Slot
-  x′ = withAccount (received (x .account) 1) x
+  x′ = countReceived (withAccount (received (x .account) 1) x)
 
   ok : Sound (t .d) (placeOf t) x
   ok = slot-sound g i (r .used)
@@ -326,12 +327,12 @@ pub data Rest : List ℕ → List (List ℕ) → Type 0 where
   last : (p : List ℕ) → Rest p (p ∷ [])
   more : (p : List ℕ) {rest : List ℕ} {ps : List (List ℕ)} → 0 < length rest → Rest rest ps → Rest (p ++ rest) (p ∷ ps)
 
--- A call between two frames that leaves that slot, and its part of the room, unchanged.
+-- A call between two frames that leaves that slot, and its part of the room, unchanged; but for what is counted of it, as by a send that is refused by 14 between them.
 pub record Unchanged (s s′ : State) (i : ℕ) : Type 0 where
-  pub slot : slotAt (s′ .table) i ≡ slotAt (s .table) i
+  pub slot : uncounted (slotAt (s′ .table) i) ≡ uncounted (slotAt (s .table) i)
   pub room : partOf s′ i ≡ partOf s i
 
--- From state s to state s′ these payloads come, in this order, to slot i on its link; and other calls, that leave the slot unchanged.
+-- From state s to state s′ these payloads come, in this order, to slot i on its link; and other calls, that leave the slot unchanged (but for its tallies).
 pub data Arrives (i link : ℕ) : List (List ℕ) → State → State → Type 0 where
   all : {s : State} → Arrives i link [] s s
   between : {ps : List (List ℕ)} {s s′ : State} (a : Call) → Fits a → Unchanged s (after s a) i → Arrives i link ps (after s a) s′ → Arrives i link ps s s′
@@ -341,7 +342,7 @@ pub data Arrives (i link : ℕ) : List (List ℕ) → State → State → Type 0
 
 module _ (s : State) (g : Good (s .table) (s .room)) (a : Call) (f : Fits a) (i : ℕ) (u : Unchanged s (after s a) i) where
   job-kept : (k : ℕ) → jobAt (after s a) i k ≡ jobAt s i k
-  job-kept k = job-after s a g f i (slotAt (s .table) i) (partOf s i) (u .slot) (u .room) k
+  job-kept k = job-after s a g f i (slotAt (after s a .table) i) (partOf s i) refl (u .room) k ∙ ap (λ (v : Slot). jobOf (placeOf (s .table)) (v .queue) (partOf s i) k) (u .slot)
 
   receiver-kept : {link n : ℕ} → Receiver s i link n → Receiver (after s a) i link n
   receiver-kept {link} {n} r =

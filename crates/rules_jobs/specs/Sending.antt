@@ -94,7 +94,7 @@ sends-frames s j sdu w link n =
 
 -- A send was answered 0 with n frames, anywhere. The receiver, in a run of its own, is Connected and idle with n credits, a free queue place,
 -- MTU ≥ L and an MPS that no frame's payload passes; the frames' payloads come in order on their own link, and other calls between them leave that slot
--- unchanged. Then the job waits there, whole, behind those that waited before, which are unchanged.
+-- unchanged, but for its tallies. Then the job waits there, whole, behind those that waited before, which are unchanged.
 pub exact-rejoining : (sender : State) (j : ℕ) (sdu : List ℕ) (w : Window) (link′ n : ℕ) → outcome sender (sends j sdu w) .answer ≡ Frames link′ n
     → {s s′ : State} (i link : ℕ) → link ≤ handleMost → Reached s → Receiver s i link n → slotAt (s .table) i .assembly .want ≡ 0 → length sdu ≤ slotAt (s .table) i .mtu
     → AllWithin (slotAt (s .table) i .mps) (payloads (slotAt (sender .table) j .peer .mps) sdu)

@@ -25,10 +25,10 @@ use Rattle.channel.specs.declared.Table.{Table}
 use Rattle.channel.specs.declared.Verdict.{Verdict}
 use Rattle.channel.specs.declared.Verdict.the-variants.{Pass, Stop}
 use Rattle.definition.specs.Mem.{Fill, given, fills, written}
-use Rattle.definition.specs.Table.{gap, slotAt, isConnected, isOpen, withPeerCredits, withJob}
+use Rattle.definition.specs.Table.{gap, slotAt, isConnected, isOpen, withPeerCredits, withJob, countSent, blocks}
 use Rattle.definition.specs.Outcome.{Outcome, filling, change, leaving, refuse, verdict, passed, gate}
 use Rattle.definition.specs.Ending.{itself}
-use Rattle.definition.specs.Frames.{firstHeader, frames, planned, sentOn, send}
+use Rattle.definition.specs.Frames.{firstHeader, frames, unsent, planned, sentOn, send}
 use Rattle.definition.specs.Portions.{givenOut, longest, bufferSize, begun, startPlanned, startOn, startJob, taking, fullWith, portioned, portionOn, givePortion, returned, cancelJob}
 use Rattle.definition.specs.Calls.{Window, Call, jobs}
 use Rattle.definition.specs.Run.{State, lent, nowhere, outWindow, jobWindow, memoryLeft, outcome, after}
@@ -124,13 +124,19 @@ portion-is t i count size a going big fits =
 
 -- ---- start and send
 
+-- what its plan refuses, counted or not, is no frames
+not-sent : {A : Type 0} (t : Table) (i : ℕ) (x : Slot) (r : Refusal) (link n : ℕ) → unsent t i x r .answer ≡ Frames link n → A
+not-sent {A} t i x r link n =
+    if-cases (λ (o : Outcome). o .answer ≡ Frames link n → A) (blocks r)
+    (λ _ e. let z : _≡_ {A = ℕ} 0 1 = cc in absurd (omega arith)) (λ _ e. let z : _≡_ {A = ℕ} 0 1 = cc in absurd (omega arith))
+
 pub record Starts (t : Table) (i l size link n : ℕ) (o : Outcome) : Type 0 where
   pub admits : Admits t i
   pub shut : isOpen (slotAt t i .job) ≡ false
   pub allowed : Allowed l (slotAt t i .peer .mtu) (slotAt t i .peer .mps) (slotAt t i .peer .credits) (framesLength l (slotAt t i .peer .mps)) n (framesLength l (slotAt t i .peer .mps))
   pub own : link ≡ slotAt t i .link
   pub big : bufferSize (slotAt t i .peer .mps) l ≤ size
-  pub is : o ≡ filling t i (withJob (begun l n) (withPeerCredits (slotAt t i .peer .credits - n) (slotAt t i))) (Frames (slotAt t i .link) n) 0
+  pub is : o ≡ filling t i (withJob (begun l n) (countSent n (withPeerCredits (slotAt t i .peer .credits - n) (slotAt t i)))) (Frames (slotAt t i .link) n) 0
       (given (firstHeader (slotAt t i .peer .cid) (longest (slotAt t i .peer .mps) l) l) ∷ []) 0
 
 pub start-starts : (t : Table) (i l size link n : ℕ) → startJob t i l size .answer ≡ Frames link n → Starts t i l size link n (startJob t i l size)
@@ -150,7 +156,7 @@ start-starts t i l size link n =
     x = slotAt t i
 
     plan : Admits t i → isOpen (x .job) ≡ false → (p : Plan) → planSend l (x .peer .mtu) (x .peer .mps) (x .peer .credits) (framesLength l (x .peer .mps)) ≡ p → P (startPlanned t i x l size p)
-    plan a shut (Plan.Refused r) e = never
+    plan a shut (Plan.Refused r) e = λ f. not-sent t i x r link n f
     plan a shut (Plan.Frames m octets) e =
         if-cases P _ (λ _. never)
         (λ big f.
@@ -162,7 +168,7 @@ start-starts t i l size link n =
           allowed = record { fits = q .fits; short = q .short; wide = q .wide; paid = q .paid; holds = q .holds; frames = sym same ∙ q .frames; long = refl };
           own = cc;
           big = ltb-false size _ big;
-          is = ap (λ (k : ℕ). filling t i (withJob (begun l k) (withPeerCredits (x .peer .credits - k) x)) (Frames (x .link) k) 0 (given (firstHeader (x .peer .cid) (longest (x .peer .mps) l) l) ∷ []) 0) same;
+          is = ap (λ (k : ℕ). filling t i (withJob (begun l k) (countSent k (withPeerCredits (x .peer .credits - k) x))) (Frames (x .link) k) 0 (given (firstHeader (x .peer .cid) (longest (x .peer .mps) l) l) ∷ []) 0) same;
         })
 
 -- and the other way
@@ -184,7 +190,7 @@ pub record Sends (t : Table) (i l size link n : ℕ) (o : Outcome) : Type 0 wher
   pub shut : isOpen (slotAt t i .job) ≡ false
   pub allowed : Allowed l (slotAt t i .peer .mtu) (slotAt t i .peer .mps) (slotAt t i .peer .credits) size n (framesLength l (slotAt t i .peer .mps))
   pub own : link ≡ slotAt t i .link
-  pub is : o ≡ change t i (withPeerCredits (slotAt t i .peer .credits - n) (slotAt t i)) [] (Frames (slotAt t i .link) n) (frames (slotAt t i .peer .cid) (slotAt t i .peer .mps) l n)
+  pub is : o ≡ change t i (countSent n (withPeerCredits (slotAt t i .peer .credits - n) (slotAt t i))) [] (Frames (slotAt t i .link) n) (frames (slotAt t i .peer .cid) (slotAt t i .peer .mps) l n)
 
 pub send-sends : (t : Table) (i l size link n : ℕ) → send t i l size .answer ≡ Frames link n → Sends t i l size link n (send t i l size)
 unfolding send planned
@@ -203,7 +209,7 @@ send-sends t i l size link n =
     x = slotAt t i
 
     plan : Admits t i → isOpen (x .job) ≡ false → (p : Plan) → planSend l (x .peer .mtu) (x .peer .mps) (x .peer .credits) size ≡ p → P (planned t i x l p)
-    plan a shut (Plan.Refused r) e f = never f
+    plan a shut (Plan.Refused r) e f = not-sent t i x r link n f
     plan a shut (Plan.Frames m octets) e f =
         let q = plan-allowed l (x .peer .mtu) (x .peer .mps) (x .peer .credits) size m octets e in
         let same : m ≡ n = cc in
@@ -212,7 +218,7 @@ send-sends t i l size link n =
           shut = shut;
           allowed = record { fits = q .fits; short = q .short; wide = q .wide; paid = q .paid; holds = q .holds; frames = sym same ∙ q .frames; long = refl };
           own = cc;
-          is = ap (λ (k : ℕ). change t i (withPeerCredits (x .peer .credits - k) x) [] (Frames (x .link) k) (frames (x .peer .cid) (x .peer .mps) l k)) same;
+          is = ap (λ (k : ℕ). change t i (countSent k (withPeerCredits (x .peer .credits - k) x)) [] (Frames (x .link) k) (frames (x .peer .cid) (x .peer .mps) l k)) same;
         }
 
 pub send-is : (t : Table) (i l size n : ℕ) → Admits t i → isOpen (slotAt t i .job) ≡ false

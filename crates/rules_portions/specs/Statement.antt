@@ -17,7 +17,7 @@ use Rattle.channel.specs.declared.Given.the-variants.{Nothing, Is}
 use Rattle.channel.specs.declared.Slot.{Slot}
 use Rattle.channel.specs.declared.Table.{Table}
 use Rattle.channel.specs.declared.Verdict.the-variants.{Pass}
-use Rattle.definition.specs.Slots.{withPeerCredits, withJob, noJob, left}
+use Rattle.definition.specs.Slots.{withPeerCredits, withJob, withTallies, noJob, noTallies, countSent, left}
 use Rattle.definition.specs.Table.{slotAt, isConnected, isOpen}
 use Rattle.definition.specs.Outcome.{verdict}
 use Rattle.definition.specs.Portions.{bufferSize, begun}
@@ -69,10 +69,19 @@ pub data Delivery (i : ℕ) (sdu : List ℕ) : (s : State) (b : List ℕ) (s′ 
       → Delivery i sdu (after u (portionOf u i sdu w c)) (bufferLeft u i sdu w c) s′ b′ fs
       → Delivery i sdu s b s′ b′ (choose full (take (outcome u (portionOf u i sdu w c) .octets) (bufferLeft u i sdu w c) ∷ []) [] ++ fs)
 
--- No other call changed the slot between.
+-- A slot, but for what is counted of it.
+abbrev pub uncounted : Slot → Slot
+uncounted x = withTallies noTallies x
+
+-- No other call changed the slot between, but for its tallies: a frame that is refused by 10 may come. (What the calls of a job add to the tallies: crate rules_tallies.)
 unfoldable pub Alone : {i : ℕ} {sdu : List ℕ} {s s′ : State} {b b′ : List ℕ} {fs : List (List ℕ)} → Delivery i sdu s b s′ b′ fs → Type 0
 Alone rest = Unit {0}
-Alone {i} {sdu} {s} (portion {u = u} w c link taken full h a d) = (slotIn u i ≡ slotIn s i) × Alone d
+Alone {i} {sdu} {s} (portion {u = u} w c link taken full h a d) = (uncounted (slotIn u i) ≡ uncounted (slotIn s i)) × Alone d
+
+-- Nor did another call count there: at each portion its tallies are what the job's call before it left.
+unfoldable pub Silent : {i : ℕ} {sdu : List ℕ} {s s′ : State} {b b′ : List ℕ} {fs : List (List ℕ)} → Delivery i sdu s b s′ b′ fs → Type 0
+Silent rest = Unit {0}
+Silent {i} {sdu} {s} (portion {u = u} w c link taken full h a d) = (slotIn u i .tallies ≡ slotIn s i .tallies) × Silent d
 
 -- how many portions there were, and how many of an octet or more
 unfoldable pub calls : {i : ℕ} {sdu : List ℕ} {s s′ : State} {b b′ : List ℕ} {fs : List (List ℕ)} → Delivery i sdu s b s′ b′ fs → ℕ
@@ -101,14 +110,14 @@ pub record Goes (u : State) (i : ℕ) (sdu : List ℕ) (w : Window) (c : ℕ) : 
 -- ---- what is said of a start
 
 -- A START ANSWERS AS A SEND: the same n, with any buffer that is long enough; and a send as the start, with any output that suffices. Of the slot a start changes
--- the peer's credits, n fewer, and the job.
+-- the peer's credits, n fewer, the job, and the frames sent, n more: it is then as the send leaves it, but for the job.
 pub record AsSend (s : State) (i : ℕ) (sdu : List ℕ) : Type 0 where
   pub starts : (w v : Window) (link n : ℕ) → outcome s (sends i sdu v) .answer ≡ Frames link n → bufferSize (slotIn s i .peer .mps) (length sdu) ≤ length (lent w (s .memory))
       → outcome s (starting i (length sdu) w) .answer ≡ Frames link n
   pub sends : (w v : Window) (link n : ℕ) → outcome s (starting i (length sdu) w) .answer ≡ Frames link n → framesLength (length sdu) (slotIn s i .peer .mps) ≤ length (lent v (s .memory))
       → outcome s (sends i sdu v) .answer ≡ Frames link n
   pub slot : (w : Window) (link n : ℕ) → outcome s (starting i (length sdu) w) .answer ≡ Frames link n
-      → slotIn (after s (starting i (length sdu) w)) i ≡ withJob (begun (length sdu) n) (withPeerCredits (slotIn s i .peer .credits - n) (slotIn s i))
+      → slotIn (after s (starting i (length sdu) w)) i ≡ withJob (begun (length sdu) n) (countSent n (withPeerCredits (slotIn s i .peer .credits - n) (slotIn s i)))
 
 -- ---- what is said of portions. A job of n frames was started on slot i, as it stood in s; d are portions of it.
 
@@ -127,26 +136,33 @@ module _ (s : State) (i : ℕ) (sdu : List ℕ) (n : ℕ) {s₁ s′ : State} {b
     pub whole : isOpen (jobIn s′ i) ≡ false → joined fs ≡ framesOf (slotIn s i .peer .cid) (slotIn s i .peer .mps) sdu
     pub octets : isOpen (jobIn s′ i) ≡ false → (v : Window) (link : ℕ) → outcome s (sends i sdu v) .answer ≡ Frames link n
         → joined fs ≡ take (outcome s (sends i sdu v) .octets) (lent v (after s (sends i sdu v) .memory))
-    -- and with no other call on it the slot is then as that send leaves it (no job was open before: all its numbers were 0)
+    -- and with no other call on it the slot is then, but for its tallies, as that send leaves it (no job was open before: all its numbers were 0)
     pub slot : isOpen (jobIn s′ i) ≡ false → Alone d → jobIn s i ≡ noJob → (v : Window) (link : ℕ) → outcome s (sends i sdu v) .answer ≡ Frames link n
-        → slotIn s′ i ≡ slotIn (after s (sends i sdu v)) i
+        → uncounted (slotIn s′ i) ≡ uncounted (slotIn (after s (sends i sdu v)) i)
 
   -- ITS OWN OCTETS: frame k is a header and the k-th stretch of the job's length and octets. So whatever the buffer and the memory had before, no octet of another
   -- job or link is in it. This needs the caller's part; demand 3 on memory (crate isolation) doesn't, as an octet that a call doesn't write keeps its mark.
   abbrev pub OwnOctets : Type 0
   OwnOctets = (k : ℕ) → k < length fs → getD fs k [] ≡ frame (slotIn s i .peer .cid) (part (le16 (length sdu) ++ sdu) (k * slotIn s i .peer .mps) (slotIn s i .peer .mps))
 
-  -- CREDITS. With no other call on the slot, portions change its job alone: what is left of the peer's credits, what is set aside and the frames given out are
+  -- THE TALLIES. Portions count nothing: a start has counted what the send counts. So where no other call counts on the slot either, its tallies stay; and with no other call on it at all
+  -- the slot of a closed job is as the send leaves it, tallies too.
+  pub record Tallied : Type 0 where
+    pub stay : Silent d → slotIn s′ i .tallies ≡ slotIn s₁ i .tallies
+    pub slot : isOpen (jobIn s′ i) ≡ false → Alone d → Silent d → jobIn s i ≡ noJob → (v : Window) (link : ℕ) → outcome s (sends i sdu v) .answer ≡ Frames link n
+        → slotIn s′ i ≡ slotIn (after s (sends i sdu v)) i
+
+  -- CREDITS. With no other call on the slot, portions change, but for its tallies, its job alone: what is left of the peer's credits, what is set aside and the frames given out are
   -- together the credits before the start.
   pub record Credits : Type 0 where
-    pub slot : Alone d → slotIn s′ i ≡ withJob (jobIn s′ i) (withPeerCredits (slotIn s i .peer .credits - n) (slotIn s i))
+    pub slot : Alone d → uncounted (slotIn s′ i) ≡ uncounted (withJob (jobIn s′ i) (withPeerCredits (slotIn s i .peer .credits - n) (slotIn s i)))
     pub sum : Alone d → slotIn s′ i .peer .credits + jobIn s′ i .aside + length fs ≡ slotIn s i .peer .credits
 
   -- A CANCEL that is answered 0, in u, where the job is as d left it
   pub record Cancelled (u : State) : Type 0 where
-    -- before the first frame: exactly n credits come back, and with no other call on the slot it is the slot before the start
+    -- before the first frame: exactly n credits come back, and nothing that was counted is taken back; with no other call on the slot it is, but for its tallies, the slot before the start
     pub before : fs ≡ [] → slotIn (after u (cancelling i)) i ≡ withJob noJob (withPeerCredits (slotIn u i .peer .credits + n) (slotIn u i))
-    pub undone : fs ≡ [] → Alone d → slotIn u i ≡ slotIn s′ i → jobIn s i ≡ noJob → slotIn (after u (cancelling i)) i ≡ slotIn s i
+    pub undone : fs ≡ [] → Alone d → uncounted (slotIn u i) ≡ uncounted (slotIn s′ i) → jobIn s i ≡ noJob → uncounted (slotIn (after u (cancelling i)) i) ≡ uncounted (slotIn s i)
     -- later: it leaves Connected, and none comes back
     pub later : 0 < length fs → slotIn (after u (cancelling i)) i ≡ left (Disconnecting false) (slotIn u i)
 

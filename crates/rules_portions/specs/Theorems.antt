@@ -19,15 +19,16 @@ use Rattle.channel.specs.declared.Answer.the-variants.{Done, Frames, Portion}
 use Rattle.channel.specs.declared.ChannelState.the-variants.{Disconnecting}
 use Rattle.channel.specs.declared.OpenJob.{OpenJob}
 use Rattle.channel.specs.declared.Slot.{Slot}
+use Rattle.channel.specs.declared.Tallies.{Tallies}
 use Rattle.definition.specs.Mem.{given, fill, fills}
-use Rattle.definition.specs.Slots.{noJob, withJob, withPeerCredits, left}
+use Rattle.definition.specs.Slots.{noJob, withJob, withTallies, withPeerCredits, countSent, left}
 use Rattle.definition.specs.Table.{gap, slotAt, isOpen}
 use Rattle.definition.specs.Outcome.{Outcome}
 use Rattle.definition.specs.Frames.{firstHeader, frames}
 use Rattle.definition.specs.Portions.{givenOut, longest, bufferSize, begun, taking, fullWith, returned}
 use Rattle.definition.specs.Calls.{Window, sends, jobs, bare, serve, decide}
 use Rattle.definition.specs.Run.{State, lent, outcome, after}
-use Rattle.rules_portions.specs.Statement.{slotIn, jobIn, starting, cancelling, portionOf, HandedOn, Delivery, rest, portion, Alone, calls, somes, Admits, Goes, AsSend, framesFrom, SameFrames, OwnOctets, Credits, Cancelled, Ends}
+use Rattle.rules_portions.specs.Statement.{slotIn, jobIn, starting, cancelling, portionOf, HandedOn, uncounted, Delivery, rest, portion, Alone, Silent, calls, somes, Admits, Goes, AsSend, framesFrom, SameFrames, OwnOctets, Tallied, Credits, Cancelled, Ends}
 use Rattle.rules_portions.specs.Filling.{Filling, Standing, filling, closed, begun-filling, out-whole, taken-less, takes-some, taken-then, empty-full, empty-one}
 use Rattle.rules_portions.specs.Answered.{Leaves, filling-leaves, slot-there, portion-takes, portion-is, Starts, start-starts, start-is, send-sends, send-is, Cancels, cancel-cancels}
 use Rattle.rules_portions.specs.Delivered.{Ready, handed, slot-after, is-filling, given-out, next, Delivered, delivered}
@@ -54,11 +55,18 @@ frames-at cid mps sdu j (suc c) (suc k) h = frames-at cid mps sdu (suc j) c k (o
 
 -- ---- the slot, with no other call on it
 
-alone : (i : ℕ) (sdu : List ℕ) {s s′ : State} {b b′ : List ℕ} {fs : List (List ℕ)} (d : Delivery i sdu s b s′ b′ fs) → Alone d → slotIn s′ i ≡ withJob (jobIn s′ i) (slotIn s i)
+alone : (i : ℕ) (sdu : List ℕ) {s s′ : State} {b b′ : List ℕ} {fs : List (List ℕ)} (d : Delivery i sdu s b s′ b′ fs) → Alone d
+    → uncounted (slotIn s′ i) ≡ uncounted (withJob (jobIn s′ i) (slotIn s i))
 unfolding Alone
 alone i sdu rest al = refl
-alone i sdu {s′ = s′} (portion {u = u} w c link taken full h a d) (e, al) =
-    alone i sdu d al ∙ ap (withJob (jobIn s′ i)) (slot-after i sdu u w c link taken full a) ∙ ap (withJob (jobIn s′ i)) e
+alone i sdu {s} {s′} (portion {u = u} w c link taken full h a d) al =
+    alone i sdu d (al .1) ∙ ap (λ (y : Slot). uncounted (withJob (jobIn s′ i) y)) (slot-after i sdu u w c link taken full a) ∙ ap (withJob (jobIn s′ i)) (al .0)
+
+-- portions count nothing
+silent : (i : ℕ) (sdu : List ℕ) {s s′ : State} {b b′ : List ℕ} {fs : List (List ℕ)} (d : Delivery i sdu s b s′ b′ fs) → Silent d → slotIn s′ i .tallies ≡ slotIn s i .tallies
+unfolding Silent
+silent i sdu rest q = refl
+silent i sdu (portion {u = u} w c link taken full h a d) q = silent i sdu d (q .1) ∙ ap (λ (y : Slot). y .tallies) (slot-after i sdu u w c link taken full a) ∙ q .0
 
 later : (k m : ℕ) → 0 < k → 2 ≤ m → k * m ≡ 0 → ⊥
 later zero m h w e = not-suc-le-zero h
@@ -143,18 +151,18 @@ sent-octets s i sdu v link n e =
     let count = z .allowed .frames in
     let all = framesOf cid mps sdu in
     let len : length all ≡ framesLength (length sdu) mps = cut mps cid sdu (omega arith) .octets in
-    let l = filling-leaves s (sends i sdu v) i (withPeerCredits (x .peer .credits - n) x) _ 0 (frames cid mps (length sdu) n) _ refl (slot-there (s .table) i (z .admits .on)) (z .is) in
+    let l = filling-leaves s (sends i sdu v) i (countSent n (withPeerCredits (x .peer .credits - n) x)) _ 0 (frames cid mps (length sdu) n) _ refl (slot-there (s .table) i (z .admits .on)) (z .is) in
     let o : outcome s (sends i sdu v) .octets ≡ length all = ap (λ (o : Outcome). o .octets) (z .is) ∙ frames-sizes cid mps sdu (omega arith) n count ∙ sym len in
     let m : lent v (after s (sends i sdu v) .memory) ≡ sets b 0 all = l .buffer ∙ ap (sets b 0) (frames-octets cid mps sdu (s .room) (omega arith) n count) in
     ap₂ take o m ∙ part-same 0 b 0 all (let q = z .allowed .holds in omega arith)
 
 sent-slot : (s : State) (i : ℕ) (sdu : List ℕ) (v : Window) (link n : ℕ) → outcome s (sends i sdu v) .answer ≡ Frames link n
-    → slotIn (after s (sends i sdu v)) i ≡ withPeerCredits (slotIn s i .peer .credits - n) (slotIn s i)
+    → slotIn (after s (sends i sdu v)) i ≡ countSent n (withPeerCredits (slotIn s i .peer .credits - n) (slotIn s i))
 unfolding decide bare jobs after
 sent-slot s i sdu v link n e =
     let z = send-sends (s .table) i (length sdu) (length (lent v (s .memory))) link n e in
     ap (λ (o : Outcome). slotAt (o .table) i) (z .is)
-    ∙ getD-set-same (s .table .slots) i (withPeerCredits (slotIn s i .peer .credits - n) (slotIn s i)) gap (slot-there (s .table) i (z .admits .on))
+    ∙ getD-set-same (s .table .slots) i (countSent n (withPeerCredits (slotIn s i .peer .credits - n) (slotIn s i))) gap (slot-there (s .table) i (z .admits .on))
 
 -- ---- a start and a send of the same job
 
@@ -202,11 +210,11 @@ module _ (s : State) (i : ℕ) (sdu : List ℕ) (w : Window) (link n : ℕ) wher
     paid : n ≤ x .peer .credits
     paid = let p = starts .allowed .paid in let c = count in omega arith
 
-    leaves : Leaves s (starting i (length sdu) w) i (withJob (begun (length sdu) n) (withPeerCredits (x .peer .credits - n) x)) 0
+    leaves : Leaves s (starting i (length sdu) w) i (withJob (begun (length sdu) n) (countSent n (withPeerCredits (x .peer .credits - n) x))) 0
         (given (firstHeader (x .peer .cid) (longest (x .peer .mps) (length sdu)) (length sdu)) ∷ [])
     leaves = filling-leaves s (starting i (length sdu) w) i _ _ _ _ _ refl (slot-there (s .table) i (starts .admits .on)) (starts .is)
 
-    started : slotIn s₁ i ≡ withJob (begun (length sdu) n) (withPeerCredits (x .peer .credits - n) x)
+    started : slotIn s₁ i ≡ withJob (begun (length sdu) n) (countSent n (withPeerCredits (x .peer .credits - n) x))
     started = leaves .slot
 
     ready : Ready i sdu 0 s₁ b₁
@@ -257,8 +265,8 @@ module _ (s : State) (i : ℕ) (sdu : List ℕ) (w : Window) (link n : ℕ) wher
           go (filling f) = f .paid ∙ sym count
           go (closed e c) = ap (λ (j : OpenJob). j .aside + length fs) e ∙ zero-add (length fs) ∙ c ∙ sym count
 
-      slot-alone : Alone d → slotIn s′ i ≡ withJob (jobIn s′ i) (withPeerCredits (x .peer .credits - n) x)
-      slot-alone al = alone i sdu d al ∙ ap (withJob (jobIn s′ i)) started
+      slot-alone : Alone d → uncounted (slotIn s′ i) ≡ uncounted (withJob (jobIn s′ i) (withPeerCredits (x .peer .credits - n) x))
+      slot-alone al = alone i sdu d al ∙ ap (λ (y : Slot). uncounted (withJob (jobIn s′ i) y)) started
 
       whole : isOpen (jobIn s′ i) ≡ false → joined fs ≡ framesOf (x .peer .cid) (x .peer .mps) sdu
       whole o =
@@ -275,7 +283,18 @@ module _ (s : State) (i : ℕ) (sdu : List ℕ) (w : Window) (link n : ℕ) wher
             octets = λ o v k e. whole o ∙ sym (sent-octets s i sdu v k n e);
             slot = λ o al none v k e.
                 let (shut, _) = shut-standing o in
-                slot-alone al ∙ ap (λ (j : OpenJob). withJob j (withPeerCredits (x .peer .credits - n) x)) (shut ∙ sym none) ∙ sym (sent-slot s i sdu v k n e);
+                slot-alone al ∙ ap (λ (j : OpenJob). uncounted (withJob j (withPeerCredits (x .peer .credits - n) x))) (shut ∙ sym none) ∙ ap (λ (y : Slot). uncounted y) (sym (sent-slot s i sdu v k n e));
+          }
+
+      -- THE TALLIES
+      pub tallied : Tallied s i sdu n d
+      tallied =
+          record {
+            stay = silent i sdu d;
+            slot = λ o al q none v k e.
+                ap₂ (λ (y : Tallies) (z : Slot). withTallies y z)
+                (silent i sdu d q ∙ ap (λ (y : Slot). y .tallies) started ∙ ap (λ (y : Slot). y .tallies) (sym (sent-slot s i sdu v k n e)))
+                (same-frames .slot o al none v k e);
           }
 
       -- ITS OWN OCTETS
@@ -322,13 +341,13 @@ module _ (s : State) (i : ℕ) (sdu : List ℕ) (w : Window) (link n : ℕ) wher
             ∙ getD-set-same (u .table .slots) i (returned (slotIn u i)) gap there
             ∙ ap (λ (k : ℕ). withJob noJob (withPeerCredits (slotIn u i .peer .credits + k) (slotIn u i))) a
 
-        cancel-undone : fs ≡ [] → Alone d → slotIn u i ≡ slotIn s′ i → x .job ≡ noJob → slotIn (after u (cancelling i)) i ≡ x
+        cancel-undone : fs ≡ [] → Alone d → uncounted (slotIn u i) ≡ uncounted (slotIn s′ i) → x .job ≡ noJob → uncounted (slotIn (after u (cancelling i)) i) ≡ uncounted x
         cancel-undone e al same none =
             let p = paid in
             let back : x .peer .credits - n + n ≡ x .peer .credits = omega arith in
-            cancel-before e
+            ap (λ (y : Slot). uncounted y) (cancel-before e)
             ∙ ap (λ (y : Slot). withJob noJob (withPeerCredits (y .peer .credits + n) y)) (same ∙ slot-alone al)
-            ∙ ap₂ (λ (j : OpenJob) (k : ℕ). withJob j (withPeerCredits k x)) (sym none) back
+            ∙ ap₂ (λ (j : OpenJob) (k : ℕ). uncounted (withJob j (withPeerCredits k x))) (sym none) back
 
         cancel-later : 0 < length fs → slotIn (after u (cancelling i)) i ≡ left (Disconnecting false) (slotIn u i)
         unfolding after

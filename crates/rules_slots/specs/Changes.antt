@@ -112,7 +112,7 @@ module _ (t : Table) (fit : Fit t) (Reg : Type 0) where
 
     planned-alone : (sdu : List ℕ) (w : Window) (x : Slot) (l : ℕ) → s < t .n → (p : Plan) → Alone (MayChange t (sends s sdu w)) (planned t s x l p)
     unfolding planned
-    planned-alone sdu w x l h (Plan.Refused r) = still-keeps as-is
+    planned-alone sdu w x l h (Plan.Refused r) = if-keeps (λ _. change-keeps s _ _ as-is (h, refl)) λ _. still-keeps as-is
     planned-alone sdu w x l h (Plan.Frames n octets) = change-keeps s _ _ as-is (h, refl)
 
     sends-alone : (sdu : List ℕ) (w : Window) (l out : ℕ) → Alone (MayChange t (sends s sdu w)) (send t s l out)
@@ -121,7 +121,7 @@ module _ (t : Table) (fit : Fit t) (Reg : Type 0) where
 
     started-alone : (x : Slot) (l size : ℕ) → s < t .n → (p : Plan) → Alone (Asking t (starts s l)) (startPlanned t s x l size p)
     unfolding startPlanned
-    started-alone x l size h (Plan.Refused r) = still-keeps as-is
+    started-alone x l size h (Plan.Refused r) = if-keeps (λ _. change-keeps s _ _ as-is (h, refl)) λ _. still-keeps as-is
     started-alone x l size h (Plan.Frames n octets) = else-keeps _ _ _ as-is λ _. filling-keeps s _ (h, refl)
 
     starts-alone : (l size : ℕ) → Alone (Asking t (starts s l)) (startJob t s l size)
@@ -183,9 +183,10 @@ module _ (t : Table) (fit : Fit t) (Reg : Type 0) where
   unfolding dispatch
   frame-alone room l cid payload head count =
       gate-keeps (Is room) Nothing (Is l) Nothing
-      (else-keeps _ _ _ as-is λ a. else-keeps _ _ _ as-is λ b. else-keeps _ _ _ as-is λ d. else-keeps _ _ _ as-is λ _.
-      joined-alone _ (slotOf cid) _ count
-      (cid-within t cid (not-false _ a), (cid-names t cid (not-false _ a), open-says l (slotAt t (slotOf cid)) (not-false _ b) (not-false _ d))) _)
+      (else-keeps _ _ _ as-is λ a. else-keeps _ _ _ as-is λ b. else-keeps _ _ _ as-is λ d.
+      let q : (slotOf cid < t .n) × MayChange t (frame l cid payload) (slotOf cid) =
+      (cid-within t cid (not-false _ a), (cid-names t cid (not-false _ a), open-says l (slotAt t (slotOf cid)) (not-false _ b) (not-false _ d))) in
+      if-keeps (λ _. change-keeps (slotOf cid) _ _ as-is q) λ _. joined-alone _ (slotOf cid) _ count q _)
 
   -- ---- calls that name a link, or search
 

@@ -170,7 +170,7 @@ module _ {R : ℕ → Slot → Slot → Type 0} {t : Table} {ys : List Slot} {qs
 
     planned-both : (x : Slot) (l : ℕ) → s < t .n → (p : Plan) → Both R (t .n) (planned t s x l p) (planned u s x l p)
     unfolding planned
-    planned-both x l h (Plan.Refused r) = still-both
+    planned-both x l h (Plan.Refused r) = if-both (λ _. change-both s _ _ h) λ _. still-both
     planned-both x l h (Plan.Frames n octets) = change-both s _ _ h
 
     sends-both : (l out : ℕ) → Both R (t .n) (send t s l out) (send u s l out)
@@ -179,7 +179,7 @@ module _ {R : ℕ → Slot → Slot → Type 0} {t : Table} {ys : List Slot} {qs
 
     started-both : (x : Slot) (l size : ℕ) → s < t .n → (p : Plan) → Both R (t .n) (startPlanned t s x l size p) (startPlanned u s x l size p)
     unfolding startPlanned
-    started-both x l size h (Plan.Refused r) = still-both
+    started-both x l size h (Plan.Refused r) = if-both (λ _. change-both s _ _ h) λ _. still-both
     started-both x l size h (Plan.Frames n octets) = if-both (λ _. still-both) λ _. filling-both s _ h
 
     starts-both : (l size : ℕ) → Both R (t .n) (startJob t s l size) (startJob u s l size)
@@ -221,7 +221,7 @@ module _ {R : ℕ → Slot → Slot → Type 0} {t : Table} {ys : List Slot} {qs
         gate-both (Is room) Nothing (Is l) Nothing λ _.
         if-both (λ _. still-both) λ k.
         let h : s < t .n = rw (← q) (cid-within t cid (not-false _ k)) in
-        rw (q, e) (if-both (λ _. still-both) λ _. if-both (λ _. still-both) λ _. if-both (λ _. still-both) λ _. joined-both _ count h _)
+        rw (q, e) (if-both (λ _. still-both) λ _. if-both (λ _. still-both) λ _. if-both (λ _. change-both s _ _ h) λ _. joined-both _ count h _)
 
     -- an assembly is open in both, or in neither: the same octets are job octets
     joining-same : (cid : ℕ) → slotOf cid ≡ s → joining u cid ≡ joining t cid

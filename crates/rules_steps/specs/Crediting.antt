@@ -6,7 +6,7 @@ use mathlib.Core.Bool.{false, false≢true}
 use Prim.Native.Nat.{ℕ, zero, suc, _+_, _-_, _≤_, min}
 use native.Mathlib.Omega.{arith}
 use borrow.Author.Tests.{ltb-true, ltb-false, eqb-true, eqb-false, not-false}
-use Rattle.lists.specs.Choose.{if-cases}
+use Rattle.lists.specs.Choose.{choose, if-cases}
 use Rattle.credit.specs.declared.CreditFlowControl.{CreditFlowControl}
 use Rattle.credit.specs.declared.Grant.{Grant}
 use Rattle.credit.specs.declared.Grant.the-variants as Grant
@@ -15,11 +15,13 @@ use Rattle.sar_cut.specs.declared.Plan.{Plan}
 use Rattle.sar_cut.specs.declared.Plan.the-variants as Plan
 use Rattle.sar_cut.specs.Cutting.{frameCount, framesLength, planSend}
 use Rattle.sar_cut.specs.CutLaws.{count-holds, plan-allowed}
-use Rattle.channel.specs.declared.ChannelState.the-variants.{Connected}
+use Rattle.sar_join.specs.Joining.{idle}
+use Rattle.channel.specs.declared.Answer.the-variants.{Done}
+use Rattle.channel.specs.declared.ChannelState.the-variants.{Connected, Disconnecting}
 use Rattle.channel.specs.declared.Slot.{Slot}
 use Rattle.channel.specs.declared.Table.{Table}
-use Rattle.definition.specs.Table.{slotAt, isConnected, isOpen}
-use Rattle.definition.specs.Outcome.{Outcome}
+use Rattle.definition.specs.Table.{slotAt, putSlot, inState, withAssembly, withJob, withTallies, noJob, noTallies, blocks, isConnected, isOpen}
+use Rattle.definition.specs.Outcome.{Outcome, leaving}
 use Rattle.definition.specs.Frames.{laterFrames, frames, send, planned, receive, oldest, taken, grantIn}
 use Rattle.definition.specs.Portions.{startPlanned, startJob, cancelJob}
 use Rattle.definition.specs.Calls.{bare, decide, serve}
@@ -57,7 +59,7 @@ module _ (t : Table) (s l out : ℕ) where
 
   planned-sends : x .state ≡ Connected → isOpen (x .job) ≡ false → (p : Plan) → planSend l (x .peer .mtu) (x .peer .mps) (x .peer .credits) out ≡ p → N (planned t s x l p)
   unfolding planned
-  planned-sends on shut (Plan.Refused r) e = Credits.Sends.refused
+  planned-sends on shut (Plan.Refused r) e = if-cases N (blocks r) (λ b. Credits.Sends.blocked on (eqb-true _ 14 b)) (λ b. Credits.Sends.refused (eqb-false _ 14 b))
   planned-sends on shut (Plan.Frames n octets) e =
       let a = plan-allowed l (x .peer .mtu) (x .peer .mps) (x .peer .credits) out n octets e in
       let some : 1 ≤ frameCount l (x .peer .mps) = count-holds l (x .peer .mps) (let w = a .wide in omega arith) .some in
@@ -65,8 +67,8 @@ module _ (t : Table) (s l out : ℕ) where
 
   send-sends : N (send t s l out)
   unfolding send
-  send-sends = gate-refusals N t _ _ _ _ (λ r h. Credits.Sends.refused) (λ _. if-cases N _ (λ _. Credits.Sends.refused)
-      (λ e. if-cases N _ (λ _. Credits.Sends.refused) (λ f. planned-sends (connected-is (x .state) (not-false _ e)) f _ refl)))
+  send-sends = gate-refusals N t _ _ _ _ (λ r h. Credits.Sends.refused (λ e. omega arith)) (λ _. if-cases N _ (λ _. Credits.Sends.refused (λ e. omega arith))
+      (λ e. if-cases N _ (λ _. Credits.Sends.refused (λ e. omega arith)) (λ f. planned-sends (connected-is (x .state) (not-false _ e)) f _ refl)))
 
 pub every-send : EverySend
 unfolding decide bare
@@ -85,20 +87,25 @@ module _ (t : Table) (s : ℕ) where
     planned-starts : z .state ≡ Connected → isOpen (z .job) ≡ false → (p : Plan) → planSend l (z .peer .mtu) (z .peer .mps) (z .peer .credits) (framesLength l (z .peer .mps)) ≡ p
         → B (startPlanned t s z l size p)
     unfolding startPlanned
-    planned-starts on shut (Plan.Refused r) e = Credits.Starts.refused
+    planned-starts on shut (Plan.Refused r) e = if-cases B (blocks r) (λ b. Credits.Starts.blocked on (eqb-true _ 14 b)) (λ b. Credits.Starts.refused (eqb-false _ 14 b))
     planned-starts on shut (Plan.Frames n octets) e =
         let a = plan-allowed l (z .peer .mtu) (z .peer .mps) (z .peer .credits) (framesLength l (z .peer .mps)) n octets e in
-        if-cases B _ (λ _. Credits.Starts.refused) (λ _. started on shut (a .frames) (let f = a .frames in let c = a .paid in omega arith))
+        if-cases B _ (λ _. Credits.Starts.refused (λ e. omega arith)) (λ _. started on shut (a .frames) (let f = a .frames in let c = a .paid in omega arith))
 
     start-starts : B (startJob t s l size)
     unfolding startJob
     start-starts =
-        gate-refusals B t _ _ _ _ (λ r h. Credits.Starts.refused)
-        (λ _. if-cases B _ (λ _. Credits.Starts.refused)
-        (λ e. if-cases B _ (λ _. Credits.Starts.refused) (λ f. planned-starts (connected-is (z .state) (not-false _ e)) f _ refl)))
+        gate-refusals B t _ _ _ _ (λ r h. Credits.Starts.refused (λ e. omega arith))
+        (λ _. if-cases B _ (λ _. Credits.Starts.refused (λ e. omega arith))
+        (λ e. if-cases B _ (λ _. Credits.Starts.refused (λ e. omega arith)) (λ f. planned-starts (connected-is (z .state) (not-false _ e)) f _ refl)))
 
   abbrev C : Outcome → Type 0
   C o = CancelsAs t s o
+
+  -- leaving Connected resets the tallies
+  left-leaves : Credits.Cancels t s Done (putSlot t s (withTallies noTallies (withJob noJob (withAssembly idle (inState (Disconnecting false) z))))) → C (leaving t s z (Disconnecting false) Done)
+  unfolding choose
+  left-leaves h = h
 
   cancel-cancels : (room : ℕ) → C (cancelJob t room s)
   unfolding cancelJob
@@ -106,7 +113,7 @@ module _ (t : Table) (s : ℕ) where
       gate-refusals C t _ _ _ _ (λ r h. Credits.Cancels.refused)
       (λ _. if-cases C _ (λ _. Credits.Cancels.refused)
       (λ e. if-cases C _ (λ _. Credits.Cancels.refused)
-      (λ f. if-cases C _ (λ g. returns (connected-is (z .state) (not-false _ e)) (not-false _ f) (eqb-true _ _ g)) (λ g. leaves (connected-is (z .state) (not-false _ e)) (not-false _ f) (eqb-false _ _ g)))))
+      (λ f. if-cases C _ (λ g. returns (connected-is (z .state) (not-false _ e)) (not-false _ f) (eqb-true _ _ g)) (λ g. left-leaves (leaves (connected-is (z .state) (not-false _ e)) (not-false _ f) (eqb-false _ _ g))))))
 
 pub every-start : EveryStart
 unfolding decide bare serve

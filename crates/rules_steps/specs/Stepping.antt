@@ -61,7 +61,7 @@ use Rattle.channel.specs.declared.L2capChannelConfig.{L2capChannelConfig}
 use Rattle.channel.specs.declared.OpenJob.{OpenJob}
 use Rattle.channel.specs.declared.Slot.{Slot}
 use Rattle.channel.specs.declared.Table.{Table}
-use Rattle.definition.specs.Table.{gap, freed, slotAt, found, isDisconnected, isConnecting, isPeerConnecting, isConnected, isDisconnecting, failureOf, isFree, ofLink, pendingOf, unheldPendingOf, attemptOf, attemptBy, connectedTo, dueSlot, index, cidOf, isCid, slotOf, usesPeer, isRegistered, nextId, withAccount, isOpen, noJob}
+use Rattle.definition.specs.Table.{gap, freed, slotAt, found, isDisconnected, isConnecting, isPeerConnecting, isConnected, isDisconnecting, failureOf, isFree, ofLink, pendingOf, unheldPendingOf, attemptOf, attemptBy, connectedTo, dueSlot, index, cidOf, isCid, slotOf, usesPeer, isRegistered, nextId, withAccount, countReceived, blocks, isOpen, noJob}
 use Rattle.definition.specs.Outcome.{Outcome}
 use Rattle.definition.specs.Pending.{nextPending, rejectAllPending, acceptPending, rejectPending, notCode, rejectRead, dropPending}
 use Rattle.definition.specs.Opening.{create, opened, giveUp}
@@ -643,7 +643,10 @@ module _ (t : Table) (fit : Fit t) (v w : Window) where
       → planSend len (slotAt t s .peer .mtu) (slotAt t s .peer .mps) (slotAt t s .peer .credits) (framesLength len (slotAt t s .peer .mps)) ≡ p
       → S (starts s len) (startPlanned t s (slotAt t s) len size p)
   unfolding startPlanned
-  started-steps s len size h on shut (Plan.Refused r) e = λ i u. stay (and-off _ (refused-not-0 r))
+  started-steps s len size h on shut (Plan.Refused r) e =
+      if-cases (S (starts s len)) (blocks r)
+      (λ _. one t fit (plain (starts s len) v w) (Refused r) s _ h (stay (and-off _ (refused-not-0 r))) (λ i _. stay (and-off _ (refused-not-0 r))))
+      (λ _ i u. stay (and-off _ (refused-not-0 r)))
   started-steps s len size h on shut (Plan.Frames n octets) e =
       let x = slotAt t s in
       let a = plan-allowed len (x .peer .mtu) (x .peer .mps) (x .peer .credits) (framesLength len (x .peer .mps)) n octets e in
@@ -748,9 +751,9 @@ module _ (t : Table) (fit : Fit t) (link : ℕ) (payload : List ℕ) where
     abbrev x : Slot
     x = slotAt t s
 
-    -- the slot with one credit used; what is seen of it is the same
+    -- the slot with one credit used, and counted; what is seen of it is the same
     abbrev used : Slot
-    used = withAccount (received (x .account) 1) x
+    used = countReceived (withAccount (received (x .account) 1) x)
 
     abbrev C : Call
     C = frame link (cidOf s) payload
@@ -775,10 +778,10 @@ module _ (t : Table) (fit : Fit t) (link : ℕ) (payload : List ℕ) where
       (λ _. if-cases P _ (λ _ i l. stay-frame refl)
       (λ e. if-cases P _ (λ _ i l. stay-frame refl)
       (λ f. if-cases P _ (λ _ i l. stay-frame refl)
-      (λ g. if-cases P _ (λ _ i l. stay-frame refl)
+      (λ g. if-cases P _ (λ _. one t fit (frame link cid payload) (Refused Refusal.OutOfMemory) s _ (cid-within t cid (not-false _ e)) (stay-frame refl) (λ i _. stay-frame refl))
       (λ _.
       let j : Joined = joinStep (y .mtu) (y .mps) (t .d) (y .assembly) (y .queue .count) (length head + count) (u16At head 0) in
-      subst (λ (c : ℕ). Steps t (frame link c payload) (joined t s (withAccount (received (y .account) 1) y) count j)) (cid-back t cid (not-false _ e))
+      subst (λ (c : ℕ). Steps t (frame link c payload) (joined t s (countReceived (withAccount (received (y .account) 1) y)) count j)) (cid-back t cid (not-false _ e))
       (joined-steps s (cid-within t cid (not-false _ e)) (connected-is (y .state) (not-false _ f)) (eqb-true _ _ (not-false _ g)) count j
       (step-overruns (y .mtu) (y .mps) (t .d) (y .assembly) (y .queue .count) (length head + count) (u16At head 0))))))))
 
@@ -791,7 +794,10 @@ module _ (t : Table) (fit : Fit t) (s : ℕ) (sdu : List ℕ) (w : Window) where
   planned-steps : (l out : ℕ) → s < t .n → slotAt t s .state ≡ Connected → (p : Plan) → planSend l (slotAt t s .peer .mtu) (slotAt t s .peer .mps) (slotAt t s .peer .credits) out ≡ p
       → Steps t D (planned t s (slotAt t s) l p)
   unfolding planned
-  planned-steps l out h on (Plan.Refused r) e = λ i u. stay-send (and-off _ (refused-not-0 r))
+  planned-steps l out h on (Plan.Refused r) e =
+      if-cases (Steps t D) (blocks r)
+      (λ _. one t fit D (Refused r) s _ h (stay-send (and-off _ (refused-not-0 r))) (λ i _. stay-send (and-off _ (refused-not-0 r))))
+      (λ _ i u. stay-send (and-off _ (refused-not-0 r)))
   planned-steps l out h on (Plan.Frames n octets) e =
       let x = slotAt t s in
       let a = plan-allowed l (x .peer .mtu) (x .peer .mps) (x .peer .credits) out n octets e in

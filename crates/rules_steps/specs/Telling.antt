@@ -48,7 +48,7 @@ use Rattle.channel.specs.declared.L2capChannelConfig.{L2capChannelConfig}
 use Rattle.channel.specs.declared.Slot.{Slot}
 use Rattle.channel.specs.declared.Table.{Table}
 use Rattle.definition.specs.Mem.{given}
-use Rattle.definition.specs.Table.{slotAt, found, isPeerConnecting, isConnected, pendingOf, unheldPendingOf, dueSlot}
+use Rattle.definition.specs.Table.{slotAt, found, blocks, isPeerConnecting, isConnected, pendingOf, unheldPendingOf, dueSlot}
 use Rattle.definition.specs.Outcome.{Outcome}
 use Rattle.definition.specs.Pending.{nextPending, rejectAllPending, acceptPending, rejectPending, notCode, rejectRead, dropPending}
 use Rattle.definition.specs.Opening.{create, opened, giveUp}
@@ -290,7 +290,7 @@ module _ (t : Table) (fit : Fit t) (v w : Window) where
 
   started-tells : (s l size : ℕ) (p : Plan) → P (starts s l) (startPlanned t s (slotAt t s) l size p)
   unfolding startPlanned
-  started-tells s l size (Plan.Refused r) = keeps (silent refl)
+  started-tells s l size (Plan.Refused r) = if-cases (P (starts s l)) (blocks r) (λ _. keeps (silent refl)) (λ _. keeps (silent refl))
   started-tells s l size (Plan.Frames n octets) = if-cases (P (starts s l)) _ (λ _. keeps (silent refl)) (λ _. keeps begin-out)
 
   start-tells : (s l size : ℕ) → P (starts s l) (startJob t s l size)
@@ -377,7 +377,7 @@ module _ (t : Table) (s : ℕ) (sdu : List ℕ) (w : Window) where
 
   planned-tells : (x : Slot) (l : ℕ) (p : Plan) → N (planned t s x l p)
   unfolding planned
-  planned-tells x l (Plan.Refused r) = keeps frames-out
+  planned-tells x l (Plan.Refused r) = if-cases N (blocks r) (λ _. keeps frames-out) (λ _. keeps frames-out)
   planned-tells x l (Plan.Frames n octets) = keeps frames-out
 
   send-tells : (l out : ℕ) → N (send t s l out)

@@ -11,7 +11,7 @@ use Rattle.row_view.specs.View.{viewText}
 use Rattle.run_play.specs.Plays.{Play, play, spelledOf}
 use Rattle.run_plain.specs.Played.{openingOf, closingOf, openedOf}
 use Rattle.run_frames.specs.PlayedFrames.{frameOf, sendOf, takeOf}
-use Rattle.run_queries.specs.PlayedQueries.{queriesOf}
+use Rattle.run_queries.specs.PlayedQueries.{queriesOf, talliesOf}
 use Rattle.run_table.specs.PlayedTable.{partOf}
 
 -- `line` has the command's words; `octets` and `frames` are lent, for the octets of a word or a job, and for frames.
@@ -31,6 +31,7 @@ module _ (t : Table) (room line octets frames : List ℕ) where
   playOf (Command.Send slot job) = sendOf t room frames slot (spelledOf (length octets) line job)
   playOf (Command.Receive slot size) = takeOf t room (take (min size (length octets)) octets) slot
   playOf (Command.Queries slot) = told (queriesOf t slot)
+  playOf (Command.Tallies slot) = told (talliesOf t slot)
   playOf Command.View = told (viewText t)
   playOf (Command.Room slot) = told (partOf t slot room)
   playOf (Command.Portions c) = told []

@@ -56,6 +56,13 @@ pub fn play(
                 octets: n,
             }
         }
+        Command::Tallies(slot) => {
+            let n = run_queries::tallied(t, slot, row);
+            Played {
+                table: t,
+                octets: n,
+            }
+        }
         Command::View => {
             let n = row_view::write_view(row, 0, t);
             Played {

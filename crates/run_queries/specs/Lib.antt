@@ -1,2 +1,2 @@
--- The row of `U`.
+-- The rows of `U` and `t`.
 pub mod PlayedQueries

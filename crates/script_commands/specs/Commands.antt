@@ -38,10 +38,11 @@ withNumber c n =
     (choose (eqb c (code "E")) (Command.Closing (Closing.DisconnectByCid n))  -- cid
     (choose (eqb c (code "W")) (Command.Closing (Closing.Disconnected n))  -- link
     (choose (eqb c (code "U")) (Command.Queries n)  -- slot
+    (choose (eqb c (code "t")) (Command.Tallies n)  -- slot
     (choose (eqb c (code "M")) (Command.Room n)  -- slot
     (choose (eqb c (code "x")) (Command.Portions (Portions.CancelJob n))  -- slot
     (choose (eqb c (code "n")) (Command.Portions (Portions.ShowJob n))  -- slot
-    Command.Bad))))))))))))
+    Command.Bad)))))))))))))
 
 unfoldable pub twoWords : (c : ℕ) (a : List ℕ) → Command
 twoWords c a = choose (isNumber a) (withNumber c (numberOf a)) Command.Bad

@@ -136,6 +136,8 @@ pub enum Command {
     },
     // U
     Queries(u16),
+    // t
+    Tallies(u16),
     // V
     View,
     // M
@@ -199,6 +201,9 @@ fn with_number(c: u8, n: u16) -> Command
     }
     if c == b'U' {
         return Command::Queries(n);
+    }
+    if c == b't' {
+        return Command::Tallies(n);
     }
     if c == b'M' {
         return Command::Room(n);

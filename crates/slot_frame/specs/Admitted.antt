@@ -21,12 +21,12 @@ use Rattle.channel.specs.declared.Answer.the-variants.{Done, Refused}
 use Rattle.channel.specs.declared.Slot.{Slot}
 use Rattle.channel.specs.declared.Table.{Table}
 use Rattle.definition.specs.Mem.{sizes}
-use Rattle.definition.specs.Table.{slotAt, isCid, slotOf, placeOf, isConnected, withAccount}
-use Rattle.definition.specs.Outcome.{Outcome, refuse, done}
+use Rattle.definition.specs.Table.{slotAt, isCid, slotOf, placeOf, isConnected, withAccount, countReceived, countBlockedReceive}
+use Rattle.definition.specs.Outcome.{Outcome, change, refuse, done}
 use Rattle.definition.specs.Frames.{joined, admitted}
 use Rattle.definition.specs.Calls.{frame, headOf, jobs}
 use Rattle.definition.specs.Ending.{end, endOf, servedOf, end-still}
-use Rattle.slot_work.specs.Work.{Work, kept, inTable, end-kept}
+use Rattle.slot_work.specs.Work.{Work, kept, becomes, inTable, end-kept}
 use Rattle.slot_frame.specs.FrameIn.{joinedTo, joinOf, frameOf}
 
 -- ---- a frame to a slot with the assembly a
@@ -94,15 +94,15 @@ joined-in t s x count (Joined.Assembling a) = refl
 joined-in t s x count (Joined.Finished len) = refl
 joined-in t s x count Joined.Dropped = refl
 
--- the slot's tests are the table's, in the same order; a slot that stays leaves its table
+-- the slot's tests are the table's, in the same order; a slot that stays leaves its table, and one without credit its tally alone
 module _ (t : Table) (s : ℕ) (js room : List ℕ) where
   tests : (b c e : Bool) (w : Work) (o : Outcome) → endOf t js room [] [] (inTable t s w) ≡ endOf t js room [] [] o
-      → endOf t js room [] [] (inTable t s (choose b (kept (slotAt t s) Done) (choose c (kept (slotAt t s) (Refused NotFound)) (choose e (kept (slotAt t s) (Refused OutOfMemory)) w))))
-      ≡ endOf t js room [] [] (choose b (done t) (choose c (refuse t NotFound) (choose e (refuse t OutOfMemory) o)))
+      → endOf t js room [] [] (inTable t s (choose b (kept (slotAt t s) Done) (choose c (kept (slotAt t s) (Refused NotFound)) (choose e (becomes (countBlockedReceive (slotAt t s)) [] (Refused OutOfMemory)) w))))
+      ≡ endOf t js room [] [] (choose b (done t) (choose c (refuse t NotFound) (choose e (change t s (countBlockedReceive (slotAt t s)) [] (Refused OutOfMemory) []) o)))
   unfolding choose
   tests true c e w o h = end-kept t s Done js room [] []
   tests false true e w o h = end-kept t s (Refused NotFound) js room [] []
-  tests false false true w o h = end-kept t s (Refused OutOfMemory) js room [] []
+  tests false false true w o h = refl
   tests false false false w o h = h
 
 -- The definition's `admitted`, behind the test of the CID, is the slot's work, put into the table and the room.
@@ -115,7 +115,7 @@ frame-admitted t link cid p room named =
     let x = slotAt t s in
     let a = x .assembly in
     let js = jobOctets a p in
-    let y = withAccount (received (x .account) 1) x in
+    let y = countReceived (withAccount (received (x .account) 1) x) in
     let step = joinStep (x .mtu) (x .mps) (t .d) a (x .queue .count) (length p) (u16At p 0) in
     rw (jobs-are t link cid p a named refl, head-is t link cid p a named refl, step-of (x .mtu) (x .mps) (t .d) a (x .queue .count) p (isIdle a) refl, passes (isCid t cid) named (refuse t InvalidChannelId))
     (tests t s js room (not (isConnected (x .state))) (not (eqb (x .link) link)) (eqb (x .account .credits) 0) (joinOf (t .d) (placeOf t) y p) (joined t s y (length js) step)

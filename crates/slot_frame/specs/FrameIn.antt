@@ -14,7 +14,7 @@ use Rattle.sar_join.specs.Joining.{idle, jobOctets, joinStep}
 use Rattle.channel.specs.declared.Answer.the-variants.{Done, Refused}
 use Rattle.channel.specs.declared.ChannelState.the-variants.{Disconnecting}
 use Rattle.channel.specs.declared.Slot.{Slot}
-use Rattle.definition.specs.Table.{if_then_else_, isConnected, withAccount, withAssembly, withQueue, left}
+use Rattle.definition.specs.Table.{if_then_else_, isConnected, withAccount, withAssembly, withQueue, countReceived, countBlockedReceive, left}
 use Rattle.definition.specs.Outcome.{unassembled}
 use Rattle.definition.specs.Frames.{queued, joinMoves}
 use Rattle.slot_work.specs.Work.{Work, kept, becomes}
@@ -31,10 +31,10 @@ abbrev pub joinOf : (d place : ℕ) → Slot → (payload : List ℕ) → Work
 joinOf d place x payload =
     joinedTo place x (length (jobOctets (x .assembly) payload)) (joinStep (x .mtu) (x .mps) d (x .assembly) (x .queue .count) (length payload) (u16At payload 0))
 
--- "not Connected: dropped, answer 0; another link's slot 8; no credit 10; one credit used"
+-- "not Connected: dropped, answer 0; another link's slot 8; no credit 10; one credit used"; a frame without credit is counted, and so is one whose credit is used (document 02)
 unfoldable pub frameOf : (d place : ℕ) → Slot → (link : ℕ) (payload : List ℕ) → Work
 frameOf d place x link payload =
     if not (isConnected (x .state)) then kept x Done
     else if not (eqb (x .link) link) then kept x (Refused NotFound)
-    else if eqb (x .account .credits) 0 then kept x (Refused OutOfMemory)
-    else joinOf d place (withAccount (received (x .account) 1) x) payload
+    else if eqb (x .account .credits) 0 then becomes (countBlockedReceive x) [] (Refused OutOfMemory)
+    else joinOf d place (countReceived (withAccount (received (x .account) 1) x)) payload

@@ -42,10 +42,12 @@ pub fn frame_in(
         return slot_work::became(x, Answer::Refused(Refusal::NotFound), 0);
     }
     if no_credit {
-        return slot_work::became(x, Answer::Refused(Refusal::OutOfMemory), 0);
+        let y = table_slot::count_blocked_receive(x);
+        return slot_work::became(y, Answer::Refused(Refusal::OutOfMemory), 0);
     }
     let y = table_slot::with_account(x, credit_in_place::received_through(account, 1));
-    joining::join(y, d, place, part, payload)
+    let z = table_slot::count_received(y);
+    joining::join(z, d, place, part, payload)
 }
 
 // The same where slot s has its part in the room.

@@ -1,4 +1,4 @@
--- What a start and a portion leave alone: of a slot a start changes the peer's credits and the job, a portion the job; and what they give out is within the buffer.
+-- What a start and a portion leave alone: of a slot a start changes the peer's credits, what is counted of sends and the job, a portion the job; and what they give out is within the buffer.
 use mathlib.Core.Path.{_≡_, refl}
 use mathlib.Core.Bool.{Bool, true, false, not}
 use Prim.Native.Nat.{ℕ, _+_, _-_, _≤_}
@@ -10,8 +10,9 @@ use Rattle.sar_cut.specs.declared.Plan.{Plan}
 use Rattle.sar_cut.specs.declared.Plan.the-variants as Plan
 use Rattle.sar_cut.specs.Cutting.{framesLength, planSend}
 use Rattle.channel.specs.declared.Slot.{Slot}
-use Rattle.definition.specs.Table.{isConnected, isOpen, withPeerCredits, withJob}
+use Rattle.definition.specs.Table.{isConnected, isOpen, withJob, blocks}
 use Rattle.definition.specs.Portions.{bufferSize, fullWith}
+use Rattle.slot_work.specs.Work.{sendingAs}
 use Rattle.slot_portion.specs.Filled.{Filled}
 use Rattle.slot_portion.specs.Starting.{startPlannedOf, startOf}
 use Rattle.slot_portion.specs.Giving.{portionedOf, portionOf}
@@ -19,14 +20,14 @@ use Rattle.slot_portion.specs.Giving.{portionedOf, portionOf}
 -- ---- a start
 
 abbrev begunAlone : Slot → Filled → Type 0
-begunAlone x w = w .slot ≡ withJob (w .slot .job) (withPeerCredits (w .slot .peer .credits) x)
+begunAlone x w = w .slot ≡ withJob (w .slot .job) (sendingAs (w .slot) x)
 
 planned-alone : (x : Slot) (l size : ℕ) (p : Plan) → begunAlone x (startPlannedOf x l size p)
 unfolding startPlannedOf
-planned-alone x l size (Plan.Refused r) = refl
+planned-alone x l size (Plan.Refused r) = if-cases (λ y. y ≡ withJob (y .job) (sendingAs y x)) (blocks r) (λ _. refl) (λ _. refl)
 planned-alone x l size (Plan.Frames n octets) = if-cases (begunAlone x) (ltb size (bufferSize (x .peer .mps) l)) (λ _. refl) (λ _. refl)
 
-pub start-alone : (x : Slot) (l size : ℕ) → startOf x l size .slot ≡ withJob (startOf x l size .slot .job) (withPeerCredits (startOf x l size .slot .peer .credits) x)
+pub start-alone : (x : Slot) (l size : ℕ) → startOf x l size .slot ≡ withJob (startOf x l size .slot .job) (sendingAs (startOf x l size .slot) x)
 unfolding startOf
 start-alone x l size =
     if-cases (begunAlone x) (not (isConnected (x .state))) (λ _. refl)

@@ -1,6 +1,7 @@
 -- What a start or a portion makes of one slot, with what is written to the job's frame buffer as data (Mem.antt of `definition`); and what that comes to
 -- once the slot is put into its table: the definition's form `filling`.
-use mathlib.Core.Path.{_≡_, ap}
+use mathlib.Core.Path.{_≡_, refl, ap}
+use mathlib.Core.Bool.{Bool, true, false}
 use mathlib.Core.List.{List, []}
 use Prim.Native.Nat.{ℕ}
 use Rattle.codes.specs.declared.Refusal.{Refusal}
@@ -10,9 +11,11 @@ use Rattle.channel.specs.declared.Served.{Served}
 use Rattle.channel.specs.declared.Slot.{Slot}
 use Rattle.channel.specs.declared.Table.{Table}
 use Rattle.definition.specs.Mem.{Fill, sizes, parts, written}
-use Rattle.definition.specs.Table.{width, slotAt, putSlot}
+use Rattle.definition.specs.Table.{width, slotAt, putSlot, blocks, blockedBy}
 use Rattle.definition.specs.Outcome.{Outcome, refuse, filling}
 use Rattle.definition.specs.Ending.{itself, end, endOf, gave, parts-none, written-none}
+use Rattle.definition.specs.Frames.{unsent}
+use Rattle.lists.specs.Choose.{choose}
 use Rattle.slot_work.specs.declared.Worked.{Worked}
 use Rattle.slot_work.specs.Work.{worked, put-same}
 
@@ -23,7 +26,7 @@ pub record Filled : Type 0 where
   pub out : List Fill
   pub octets : ℕ  -- how many octets are given out at its start
 
--- A refusal leaves the slot, and writes nothing.
+-- A refusal; x is the slot as it leaves it. Nothing is written.
 abbrev pub stays : Slot → Refusal → Filled
 stays x r = record { answer = Refused r; slot = x; at = 0; out = []; octets = 0 }
 
@@ -48,6 +51,16 @@ pub refused-in : (t : Table) (s : ℕ) (jobs room buffer job : List ℕ) (r : Re
     → endOf t jobs room buffer job (refuse t r) ≡ endOf t jobs room buffer job (inTable t s (stays (slotAt t s) r))
 unfolding endOf parts sizes
 refused-in t s jobs room buffer job r = rw (put-same t s, parts-none jobs (width t) s room)
+
+-- one that is blocked changes its tally
+pub unsent-in : (t : Table) (s : ℕ) (jobs room buffer job : List ℕ) (r : Refusal)
+    → endOf t jobs room buffer job (unsent t s (slotAt t s) r) ≡ endOf t jobs room buffer job (inTable t s (stays (blockedBy r (slotAt t s)) r))
+unfolding choose sizes
+unsent-in t s jobs room buffer job r = go (blocks r) refl
+  where
+    go : (b : Bool) → blocks r ≡ b → endOf t jobs room buffer job (unsent t s (slotAt t s) r) ≡ endOf t jobs room buffer job (inTable t s (stays (blockedBy r (slotAt t s)) r))
+    go true e = rw e
+    go false e = rw e (refused-in t s jobs room buffer job r)
 
 -- by which a call's proof reads it: the slot put into the table, and what is written to the buffer
 pub fills-in : (t : Table) (s : ℕ) (w : Filled) (jobs buffer : List ℕ) {r : Worked} {v : Served} {buffer′ : List ℕ}

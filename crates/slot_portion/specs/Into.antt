@@ -13,7 +13,7 @@ use Rattle.definition.specs.Ending.{endOf}
 use Rattle.definition.specs.Portions.{givenOut, bufferSize, startPlanned, startOn, portionOn, cancelOn}
 use Rattle.slot_work.specs.Work.{end-kept}
 use Rattle.slot_work.specs.Work as Work
-use Rattle.slot_portion.specs.Filled.{inTable, refused-in}
+use Rattle.slot_portion.specs.Filled.{inTable, refused-in, unsent-in}
 use Rattle.slot_portion.specs.Starting.{startPlannedOf, startOf}
 use Rattle.slot_portion.specs.Giving.{portionedOf, portionOf}
 use Rattle.slot_portion.specs.Cancelling.{cancelOf}
@@ -23,7 +23,7 @@ module _ (t : Table) (s : ℕ) (jobs room buffer job : List ℕ) where
   planned-into : (l size : ℕ) (p : Plan)
       → endOf t jobs room buffer job (startPlanned t s (slotAt t s) l size p) ≡ endOf t jobs room buffer job (inTable t s (startPlannedOf (slotAt t s) l size p))
   unfolding startPlanned startPlannedOf choose
-  planned-into l size (Plan.Refused r) = refused-in t s jobs room buffer job r
+  planned-into l size (Plan.Refused r) = unsent-in t s jobs room buffer job r
   planned-into l size (Plan.Frames n octets) = go (ltb size (bufferSize (slotAt t s .peer .mps) l)) refl
     where
       go : (b : Bool) → ltb size (bufferSize (slotAt t s .peer .mps) l) ≡ b

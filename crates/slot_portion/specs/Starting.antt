@@ -18,18 +18,18 @@ use Rattle.sar_cut.specs.CutLaws.{split, count-small, plan-above-mtu, plan-too-
 use Rattle.channel.specs.declared.Answer.the-variants.{Frames}
 use Rattle.channel.specs.declared.Slot.{Slot}
 use Rattle.definition.specs.Mem.{given}
-use Rattle.definition.specs.Table.{if_then_else_, isConnected, isOpen, withPeerCredits, withJob}
+use Rattle.definition.specs.Table.{if_then_else_, isConnected, isOpen, withPeerCredits, withJob, countSent, blockedBy}
 use Rattle.definition.specs.Frames.{firstHeader}
 use Rattle.definition.specs.Portions.{longest, bufferSize, begun}
 use Rattle.slot_portion.specs.Filled.{Filled, stays}
 
 unfoldable pub startPlannedOf : Slot → (l size : ℕ) → Plan → Filled
-startPlannedOf x l size (Plan.Refused r) = stays x r
+startPlannedOf x l size (Plan.Refused r) = stays (blockedBy r x) r
 startPlannedOf x l size (Plan.Frames n octets) =
     if ltb size (bufferSize (x .peer .mps) l) then stays x NoRoom
     else record {
       answer = Frames (x .link) n;
-      slot = withJob (begun l n) (withPeerCredits (x .peer .credits - n) x);
+      slot = withJob (begun l n) (countSent n (withPeerCredits (x .peer .credits - n) x));
       at = 0;
       out = given (firstHeader (x .peer .cid) (longest (x .peer .mps) l) l) ∷ [];
       octets = 0;

@@ -1,4 +1,4 @@
-// A job begun on a slot: its credits are set aside, and of its first frame the header and the two octets of its length stand in the lent buffer.
+// A job begun on a slot: its credits are set aside, its frames counted as sent, and of its first frame the header and the two octets of its length stand in the lent buffer.
 ghost use mathlib.Core.Path.{_≡_};
 ghost use mathlib.Core.List.{[]};
 ghost use lib.ListN.{length};
@@ -41,7 +41,7 @@ pub fn start_from(x: Slot, stated: usize, buffer: &mut [u8]) -> Worked
         return slot_work::became(x, Answer::Refused(Refusal::JobOpen), 0);
     }
     match sar_cut::plan_send(stated, x.peer.mtu, mps, credits, ENOUGH) {
-        Plan::Refused(r) => slot_work::became(x, Answer::Refused(r), 0),
+        Plan::Refused(r) => slot_work::became(table_slot::blocked_by(x, r), Answer::Refused(r), 0),
         Plan::Frames { n, octets: _ } => {
             let l = stated as u16;
             let payload = crate::sizes::longest(mps, l);
@@ -57,7 +57,7 @@ pub fn start_from(x: Slot, stated: usize, buffer: &mut [u8]) -> Worked
                 aside: used,
             };
             let y = table_slot::with_peer_credits(x, credits - used);
-            let z = table_slot::with_job(y, begun);
+            let z = table_slot::with_job(table_slot::count_sent(y, n as u64), begun);
             Worked {
                 answer: Answer::Frames {
                     link: x.link,

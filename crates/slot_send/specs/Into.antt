@@ -1,4 +1,4 @@
--- A send's work on one slot, put into the table, is what the definition's send leaves; and of the slot it changes the peer's credits alone.
+-- A send's work on one slot, put into the table, is what the definition's send leaves; and of the slot it changes the peer's credits and what is counted of sends alone.
 use mathlib.Core.Path.{_≡_, refl, sym, ap, _∙_}
 use mathlib.Core.Bool.{Bool, true, false, not}
 use mathlib.Core.List.{List, []}
@@ -14,11 +14,11 @@ use Rattle.codes.specs.declared.Refusal.{Refusal}
 use Rattle.channel.specs.declared.Answer.the-variants.{Refused}
 use Rattle.channel.specs.declared.Slot.{Slot}
 use Rattle.channel.specs.declared.Table.{Table}
-use Rattle.definition.specs.Table.{slotAt, putSlot, isConnected, withPeerCredits, isOpen}
+use Rattle.definition.specs.Table.{slotAt, putSlot, isConnected, countBlockedSend, blocks, blockedBy, isOpen}
 use Rattle.definition.specs.Outcome.{refuse}
-use Rattle.definition.specs.Ending.{End, end, endOf, gave, end-still}
-use Rattle.definition.specs.Frames.{planned, sentOn}
-use Rattle.slot_work.specs.Work.{put-same}
+use Rattle.definition.specs.Ending.{End, end, endOf, gave, end-still, end-slot}
+use Rattle.definition.specs.Frames.{unsent, planned, sentOn}
+use Rattle.slot_work.specs.Work.{put-same, sendingAs, blocked-sends}
 use Rattle.slot_send.specs.Sending.{Work, work, worked, plannedFrom, sentFrom}
 use Rattle.slot_send.specs.Sent.{sends}
 
@@ -30,10 +30,19 @@ module _ (t : Table) (s : ℕ) (sdu out : List ℕ) where
   refused-into : (r : Refusal) → endOf t sdu [] out [] (refuse t r) ≡ into t s (work (worked (Refused r) (slotAt t s) 0) out)
   refused-into r = end-still t t (Refused r) sdu [] out [] ∙ ap (λ (u : Table). end (gave (Refused r) u 0) [] out []) (sym (put-same t s))
 
+  -- one that is blocked changes its tally
+  unsent-into : (r : Refusal) → endOf t sdu [] out [] (unsent t s (slotAt t s) r) ≡ into t s (work (worked (Refused r) (blockedBy r (slotAt t s)) 0) out)
+  unfolding choose
+  unsent-into r = go (blocks r) refl
+    where
+      go : (b : Bool) → blocks r ≡ b → endOf t sdu [] out [] (unsent t s (slotAt t s) r) ≡ into t s (work (worked (Refused r) (blockedBy r (slotAt t s)) 0) out)
+      go true e = rw e (end-slot t t s (countBlockedSend (slotAt t s)) (Refused r) sdu [] out [])
+      go false e = rw e (refused-into r)
+
   planned-into : (p : Plan) → planSend (length sdu) (slotAt t s .peer .mtu) (slotAt t s .peer .mps) (slotAt t s .peer .credits) (length out) ≡ p
       → endOf t sdu [] out [] (planned t s (slotAt t s) (length sdu) p) ≡ into t s (plannedFrom (slotAt t s) sdu out p)
   unfolding planned plannedFrom
-  planned-into (Plan.Refused r) e = refused-into r
+  planned-into (Plan.Refused r) e = unsent-into r
   planned-into (Plan.Frames n octets) e =
       let x = slotAt t s in
       sym (sends t s x sdu out (plan-allowed (length sdu) (x .peer .mtu) (x .peer .mps) (x .peer .credits) (length out) n octets e) refl refl)
@@ -48,20 +57,20 @@ module _ (t : Table) (s : ℕ) (sdu out : List ℕ) where
       go false true e f = rw (e, f) (refused-into _)
       go false false e f = rw (e, f) (planned-into _ refl)
 
--- of a slot a send changes the peer's credits alone
-planned-credits : (x : Slot) (sdu out : List ℕ) (p : Plan) → plannedFrom x sdu out p .gave .slot ≡ withPeerCredits (plannedFrom x sdu out p .gave .slot .peer .credits) x
+-- of a slot a send changes the peer's credits and what is counted of sends alone
+planned-sends : (x : Slot) (sdu out : List ℕ) (p : Plan) → plannedFrom x sdu out p .gave .slot ≡ sendingAs (plannedFrom x sdu out p .gave .slot) x
 unfolding plannedFrom
-planned-credits x sdu out (Plan.Refused r) = refl
-planned-credits x sdu out (Plan.Frames n octets) = refl
+planned-sends x sdu out (Plan.Refused r) = blocked-sends r x
+planned-sends x sdu out (Plan.Frames n octets) = refl
 
-pub credits-alone : (x : Slot) (sdu out : List ℕ) → sentFrom x sdu out .gave .slot ≡ withPeerCredits (sentFrom x sdu out .gave .slot .peer .credits) x
+pub sends-alone : (x : Slot) (sdu out : List ℕ) → sentFrom x sdu out .gave .slot ≡ sendingAs (sentFrom x sdu out .gave .slot) x
 unfolding sentFrom choose
-credits-alone x sdu out = go (not (isConnected (x .state))) (isOpen (x .job)) refl refl
+sends-alone x sdu out = go (not (isConnected (x .state))) (isOpen (x .job)) refl refl
   where
-    go : (b o : Bool) → not (isConnected (x .state)) ≡ b → isOpen (x .job) ≡ o → sentFrom x sdu out .gave .slot ≡ withPeerCredits (sentFrom x sdu out .gave .slot .peer .credits) x
+    go : (b o : Bool) → not (isConnected (x .state)) ≡ b → isOpen (x .job) ≡ o → sentFrom x sdu out .gave .slot ≡ sendingAs (sentFrom x sdu out .gave .slot) x
     go true o e f = rw e
     go false true e f = rw (e, f)
-    go false false e f = rw (e, f) (planned-credits x sdu out (planSend (length sdu) (x .peer .mtu) (x .peer .mps) (x .peer .credits) (length out)))
+    go false false e f = rw (e, f) (planned-sends x sdu out (planSend (length sdu) (x .peer .mtu) (x .peer .mps) (x .peer .credits) (length out)))
 
 -- its frames are no more octets than the output has
 planned-within : (x : Slot) (sdu out : List ℕ) (p : Plan) → planSend (length sdu) (x .peer .mtu) (x .peer .mps) (x .peer .credits) (length out) ≡ p → plannedFrom x sdu out p .gave .octets ≤ length out

@@ -10,7 +10,7 @@ use Rattle.sar_cut.specs.declared.Plan.the-variants as Plan
 use Rattle.sar_cut.specs.Cutting.{framesOf, planSend}
 use Rattle.channel.specs.declared.Answer.the-variants.{Refused, Frames}
 use Rattle.channel.specs.declared.Slot.{Slot}
-use Rattle.definition.specs.Table.{if_then_else_, isConnected, withPeerCredits, isOpen}
+use Rattle.definition.specs.Table.{if_then_else_, isConnected, withPeerCredits, countSent, blockedBy, isOpen}
 use Rattle.slot_work.specs.declared.Worked.{Worked}
 pub use Rattle.slot_work.specs.Work.{worked}
 
@@ -23,9 +23,9 @@ abbrev pub work : Worked → (out : List ℕ) → Work
 work w out = record { gave = w; out = out }
 
 unfoldable pub plannedFrom : Slot → (sdu out : List ℕ) → Plan → Work
-plannedFrom x sdu out (Plan.Refused r) = work (worked (Refused r) x 0) out
+plannedFrom x sdu out (Plan.Refused r) = work (worked (Refused r) (blockedBy r x) 0) out
 plannedFrom x sdu out (Plan.Frames n octets) =
-    work (worked (Frames (x .link) n) (withPeerCredits (x .peer .credits - n) x) octets) (sets out 0 (framesOf (x .peer .cid) (x .peer .mps) sdu))
+    work (worked (Frames (x .link) n) (countSent n (withPeerCredits (x .peer .credits - n) x)) octets) (sets out 0 (framesOf (x .peer .cid) (x .peer .mps) sdu))
 
 unfoldable pub sentFrom : Slot → (sdu out : List ℕ) → Work
 sentFrom x sdu out =

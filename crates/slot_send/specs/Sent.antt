@@ -14,7 +14,7 @@ use Rattle.channel.specs.declared.Served.{Served}
 use Rattle.channel.specs.declared.Slot.{Slot}
 use Rattle.channel.specs.declared.Table.{Table}
 use Rattle.definition.specs.Mem.{written}
-use Rattle.definition.specs.Table.{width, putSlot, withPeerCredits}
+use Rattle.definition.specs.Table.{width, putSlot, withPeerCredits, countSent}
 use Rattle.definition.specs.Ending.{end, endOf, gave, parts-none, written-none}
 use Rattle.definition.specs.Frames.{planned}
 use Rattle.rules_portions.specs.Sent.{frames-octets, frames-sizes}
@@ -22,7 +22,7 @@ use Rattle.rules_portions.specs.Sent.{frames-octets, frames-sizes}
 -- what is planned and done, from what the plan's tests allow
 pub sends : (t : Table) (s : ℕ) (x : Slot) (sdu out : List ℕ) {n octets : ℕ} {r : Served} {out′ : List ℕ}
     → Allowed (length sdu) (x .peer .mtu) (x .peer .mps) (x .peer .credits) (length out) n octets
-    → r ≡ gave (Frames (x .link) n) (putSlot t s (withPeerCredits (x .peer .credits - n) x)) octets
+    → r ≡ gave (Frames (x .link) n) (putSlot t s (countSent n (withPeerCredits (x .peer .credits - n) x))) octets
     → out′ ≡ sets out 0 (framesOf (x .peer .cid) (x .peer .mps) sdu)
     → end r [] out′ [] ≡ endOf t sdu [] out [] (planned t s x (length sdu) (Plan.Frames n octets))
 unfolding endOf planned written

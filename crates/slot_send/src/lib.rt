@@ -1,4 +1,4 @@
-// A send's work on one slot by value: the job's frames cut into the output, and the peer's credits fall by their number. `call_send` does it on a table, `edge_send` on a table's octets.
+// A send's work on one slot by value: the job's frames cut into the output, the peer's credits fall by their number, and the tally of frames sent grows by it. `call_send` does it on a table, `edge_send` on a table's octets.
 // It is defined in specs/Sending.antt; that it is what the definition's call does to that slot stands in specs/Into.antt.
 use channel::Answer;
 use channel::Slot;
@@ -9,7 +9,7 @@ ghost use mathlib.Core.Path.{_≡_};
 ghost use Rattle.channel.specs.declared.Answer.the-variants.{Refused};
 ghost use Rattle.slot_send.specs.Sending.{worked, work, sentFrom};
 
-// A refusal leaves the slot.
+// A refusal; x is the slot as it leaves it.
 fn refused(x: Slot, r: Refusal) -> Worked
     ensures { λ w. ⌜ w ≡ worked (Refused r) x 0 ⌝ }
 {
@@ -30,10 +30,11 @@ pub fn send_from(x: Slot, sdu: &[u8], out: &mut [u8]) -> Worked
         return refused(x, Refusal::JobOpen);
     }
     match sar_frames::send_job(out, x.peer.cid, x.peer.mtu, x.peer.mps, credits, sdu) {
-        Plan::Refused(r) => refused(x, r),
+        Plan::Refused(r) => refused(table_slot::blocked_by(x, r), r),
         Plan::Frames { n, octets } => {
             let used = n as u16;
-            let slot = table_slot::with_peer_credits(x, credits - used);
+            let y = table_slot::with_peer_credits(x, credits - used);
+            let slot = table_slot::count_sent(y, n as u64);
             Worked {
                 answer: Answer::Frames {
                     link: x.link,

@@ -1,15 +1,17 @@
 -- What a call makes of one slot, with the moves in its part of the room as data (Mem.antt of `definition`); and what that comes to once the slot is put into
 -- its table: the definition's form `change`.
-use mathlib.Core.Path.{_≡_, ap}
+use mathlib.Core.Path.{_≡_, refl, ap}
 use mathlib.Core.List.{List, []}
 use Prim.Native.Nat.{ℕ}
 use lib.Seq.{set-getD}
+use Rattle.lists.specs.Choose.{if-cases}
+use Rattle.codes.specs.declared.Refusal.{Refusal}
 use Rattle.channel.specs.declared.Answer.{Answer}
 use Rattle.channel.specs.declared.Served.{Served}
 use Rattle.channel.specs.declared.Slot.{Slot}
 use Rattle.channel.specs.declared.Table.{Table}
 use Rattle.definition.specs.Mem.{Fill, Move, sizes, parts, written}
-use Rattle.definition.specs.Table.{width, gap, slotAt, withSlots, putSlot}
+use Rattle.definition.specs.Table.{width, gap, slotAt, withSlots, putSlot, withPeerCredits, withSends, blocks, blockedBy}
 use Rattle.definition.specs.Outcome.{Outcome, still, only, change}
 use Rattle.definition.specs.Ending.{itself, end, endOf, gave, parts-none, written-none}
 use Rattle.slot_work.specs.declared.Worked.{Worked}
@@ -38,6 +40,16 @@ workedOf w = worked (w .answer) (w .slot) (sizes (w .out))
 -- The same in a table: slot s becomes what was made of it.
 abbrev pub inTable : Table → (slot : ℕ) → Work → Outcome
 inTable t s w = change t s (w .slot) (w .moves) (w .answer) (w .out)
+
+-- ---- what a send and a start change: the peer's credits, and what is counted of sends
+
+-- slot x with these as y has them
+abbrev pub sendingAs : (y x : Slot) → Slot
+sendingAs y x = withSends (y .tallies .sends) (withPeerCredits (y .peer .credits) x)
+
+-- a plan's refusal changes no more
+pub blocked-sends : (r : Refusal) (x : Slot) → blockedBy r x ≡ sendingAs (blockedBy r x) x
+blocked-sends r x = if-cases (λ y. y ≡ sendingAs y x) (blocks r) (λ _. refl) (λ _. refl)
 
 -- ---- a slot that stays
 

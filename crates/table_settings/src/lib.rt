@@ -71,6 +71,7 @@ pub fn accepted(x: Slot, mps: u16, mtu: u16, account: CreditFlowControl) -> Slot
     let assembly = x.assembly;
     let queue = x.queue;
     let job = x.job;
+    let tallies = x.tallies;
     Slot {
         state: ChannelState::Connected,
         link: x.link,
@@ -83,6 +84,7 @@ pub fn accepted(x: Slot, mps: u16, mtu: u16, account: CreditFlowControl) -> Slot
         assembly,
         queue,
         job,
+        tallies,
     }
 }
 
@@ -117,6 +119,7 @@ pub fn attempted(
     let assembly = x.assembly;
     let queue = x.queue;
     let job = x.job;
+    let tallies = x.tallies;
     Slot {
         state: ChannelState::Connecting(id),
         link,
@@ -129,6 +132,7 @@ pub fn attempted(
         assembly,
         queue,
         job,
+        tallies,
     }
 }
 

@@ -14,7 +14,7 @@ use Rattle.lists.specs.Choose.{choose}
 use Rattle.lists.specs.Every.{every, Kept, kept-none, kept-more, kept-fails, kept-all}
 use Rattle.text_decimal.specs.declared.NumberRead.the-variants as NumberRead
 use Rattle.text_decimal.specs.NumberText.{digits, numberText}
-use Rattle.text_decimal.specs.NumberTextLaws.{tenth}
+use Rattle.text_decimal.specs.NumberTextLaws.{tenth, digits-few}
 use Rattle.text_decimal.specs.Decimal.{isDigit, spelt, numberRead}
 
 -- ---- the digits of a number below 10 ^ k, of which there are at most k, spell it
@@ -73,7 +73,8 @@ unfolding numberRead choose
 number-back n h =
     let s = digits-spelling 4 n (omega arith) in
     let e = digits-spelt 4 n (omega arith) in
-    rw (le-ltb (length (numberText n)) 1 (s .some), le-ltb 5 (length (numberText n)) (s .few), s .all, e, le-ltb 65535 n h)
+    let five : numberText n ≡ digits 5 n = sym (digits-few 15 4 n (omega arith)) in
+    rw (five, le-ltb (length (digits 5 n)) 1 (s .some), le-ltb 5 (length (digits 5 n)) (s .few), s .all, e, le-ltb 65535 n h)
 
 -- ---- reading: i digits are passed and spell n, from which the rest goes on
 

@@ -10,6 +10,6 @@ unfoldable pub digits : ℕ → ℕ → List ℕ
 digits zero n = []
 digits (suc k) n = choose (ltb n 10) ((code "0" + n) ∷ []) (digits k (n / 10) ++ (code "0" + n % 10) ∷ [])
 
--- a number of 16 bits has at most five
+-- a number of 64 bits has at most twenty
 abbrev pub numberText : ℕ → List ℕ
-numberText n = digits 5 n
+numberText n = digits 20 n

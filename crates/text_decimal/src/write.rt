@@ -4,7 +4,7 @@ ghost use Rattle.text_write.specs.Rows.{Writes};
 ghost use Rattle.text_decimal.specs.NumberText.{numberText};
 
 // Writes a number at `at` with no zero in front, and gives the place behind it.
-pub fn write_number(out: &mut [u8], at: usize, n: u16) -> usize
+pub fn write_number(out: &mut [u8], at: usize, n: u64) -> usize
     ensures { λ r. ⌜ Writes (now (out .entry)) at (numberText n) r (now (out .exit)) ⌝ }
 {
     if n < 10 {

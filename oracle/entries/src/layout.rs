@@ -1,14 +1,14 @@
 //! The table's octets (crates/edge_layout/specs/Layout.antt): 16 of sizes and the identifier, 32 of SPSMs, then a column of 16 for each octet of a
 //! slot's row. A table has one spelling, so that two tables are equal where their octets are.
 
-use language::{JobView, Policy, SlotView, Stale, State, View};
+use language::{JobView, Policy, SlotView, Stale, State, Tallies, View};
 
-pub const TABLE_OCTETS: usize = 800;
+pub const TABLE_OCTETS: usize = 1_312;
 
 const HEAD: usize = 48;
 const SLOTS: usize = 16;
-const COLUMNS: usize = 47;
-const NUMBER: u8 = 2;
+const COLUMNS: usize = 79;
+const NUMBER: u8 = 3;
 
 /// What a closed job's columns say.
 const NO_JOB: JobView = JobView { length: 0, taken: 0, filled: 0, aside: 0 };
@@ -69,6 +69,10 @@ fn row(slot: &SlotView) -> [u8; COLUMNS] {
         (45, open.aside),
     ];
     numbers.iter().for_each(|(column, number)| row[*column..*column + 2].copy_from_slice(&number.to_le_bytes()));
+    // What a send counts, then what a frame does.
+    let Tallies { sent, received, blocked_sends, blocked_receives } = slot.tallies;
+    let tallies = [(47, sent), (55, blocked_sends), (63, received), (71, blocked_receives)];
+    tallies.iter().for_each(|(column, number)| row[*column..*column + 8].copy_from_slice(&number.to_le_bytes()));
     row
 }
 
@@ -88,6 +92,7 @@ pub fn read(octets: &[u8; TABLE_OCTETS]) -> View {
 fn slot_of(octets: &[u8; TABLE_OCTETS], slot: usize) -> SlotView {
     let octet = |column: usize| octets[HEAD + SLOTS * column + slot];
     let number = |column: usize| u16::from_le_bytes([octet(column), octet(column + 1)]);
+    let tally = |column: usize| u64::from_le_bytes(std::array::from_fn(|place| octet(column + place)));
     let waiting = usize::from(octet(30).min(4));
     SlotView {
         state: match (octet(0), octet(1)) {
@@ -116,5 +121,7 @@ fn slot_of(octets: &[u8; TABLE_OCTETS], slot: usize) -> SlotView {
         jobs: (0..waiting).map(|job| number(31 + 2 * job)).collect(),
         job: Some(JobView { length: number(39), taken: number(41), filled: number(43), aside: number(45) }).filter(|job| *job != NO_JOB),
         stale: Stale::Nothing,
+        tallies: Tallies { sent: tally(47), received: tally(63), blocked_sends: tally(55), blocked_receives: tally(71) },
+        inherited: Tallies::default(),
     }
 }

@@ -24,6 +24,9 @@ const USAGE: &str = "usage:
   entries twin [options]    demand 3: the entries against themselves, with other job octets in one life of one link
   entries play              reads a script and prints its rows, as `chanrun` does";
 
+/// Where tallies start that are to wrap.
+const NEAR_THE_END: u64 = u64::MAX - 2;
+
 /// `chanrun` over the entries, for scripts that begin with a table.
 fn play() -> ExitCode {
     let script = std::io::read_to_string(std::io::stdin());
@@ -55,8 +58,12 @@ fn main() -> ExitCode {
     match what.as_str() {
         "run" => compare(&mut Entries::new(None), &words.extent),
         "faults" => {
-            let faulty = faults::all().map(|fault| (fault.title, Entries::new(Some(fault))));
-            faults(Entries::new(None), faulty, &words.extent)
+            let faulty = |fault: &'static faults::Fault| (fault.title, Entries::new(Some(fault)));
+            let near_the_end = Extent { counted: NEAR_THE_END, ..words.extent };
+            let plain = [(Entries::new(None), words.extent), (Entries::new(None), near_the_end)];
+            let all = faults::all().map(|fault| (faulty(fault), words.extent));
+            let wrapping = faults::wrapping().map(|fault| (faulty(fault), near_the_end));
+            faults(plain, all.chain(wrapping).map(|((title, port), extent)| (title, port, extent)))
         }
         "twin" => twin(&mut Entries::new(None), &words.extent),
         "play" => play(),

@@ -3,7 +3,7 @@
 use crate::archive;
 use crate::layout::{read, spell, TABLE_OCTETS};
 use crate::lent::Lent;
-use language::{Call, Config, Policy, Sight, View, BUFFER, SLOTS};
+use language::{Call, Config, Policy, Sight, SlotView, View, BUFFER, SLOTS};
 
 const ANSWER_OCTETS: usize = 16;
 const SIGNAL_OCTETS: usize = 18;
@@ -12,8 +12,8 @@ const OUT_OCTETS: usize = 76_935;
 /// A setting above 65,535 is the default.
 const DEFAULT: u32 = u32::MAX;
 
-/// One call of an entry. A line of the language is one of them but for two: `S` is one for each signal, with what is left of its PDU, and `U`
-/// asks five questions.
+/// One call of an entry. A line of the language is one of them but for three: `S` is one for each signal, with what is left of its PDU, `U`
+/// asks five questions and `t` four.
 #[derive(Clone, Copy)]
 pub struct Asked<'a> {
     pub call: &'a Call,
@@ -113,6 +113,10 @@ impl Memory {
                 let questions = [archive::spsm, archive::mtu, archive::mps, archive::peer_mtu, archive::peer_mps];
                 questions[asked.question](table, answer, slot)
             }
+            Call::Tallies { .. } => {
+                use archive::{tally_blocked_receives, tally_blocked_sends, tally_received, tally_sent};
+                [tally_sent, tally_received, tally_blocked_sends, tally_blocked_receives][asked.question](table, answer, slot)
+            }
             Call::ParameterRequest { link, min, max, latency, timeout } => {
                 archive::send_conn_param_update_req(table, answer, signal, *link, *min, *max, *latency, *timeout)
             }
@@ -146,7 +150,7 @@ impl Memory {
         if *self.table() != table {
             let (must, does) = (lines(&sight.view), lines(&self.view()));
             let line = must.into_iter().zip(does).find(|(must, does)| must != does);
-            return line.or_else(|| octet("table", &table, self.table()));
+            return line.or_else(|| counted(&sight.view, &self.view())).or_else(|| octet("table", &table, self.table()));
         }
         if !(self.table.untouched_behind() && self.room.untouched_behind()) {
             return Some(("nothing written behind table and room".to_string(), "octets behind them".to_string()));
@@ -180,6 +184,13 @@ fn numbers(config: &Config) -> (u32, u32, u8, u16, u32) {
 /// What `V` prints.
 pub fn lines(view: &View) -> Vec<String> {
     language::Reply::from(view.clone()).lines()
+}
+
+/// The first slot whose tallies differ, as `t` prints them.
+fn counted(must: &View, does: &View) -> Option<(String, String)> {
+    let (slot, (must, does)) = must.slots.iter().zip(&does.slots).enumerate().find(|(_, (must, does))| must.tallies != does.tallies)?;
+    let shown = |record: &SlotView| format!("slot {slot} counted {:?}", record.tallies.numbers());
+    Some((shown(must), shown(does)))
 }
 
 /// The first octet that differs.

@@ -4,7 +4,7 @@ use crate::archive::signal_rest;
 use crate::faults::{Fault, Kept, Scene};
 use crate::memory::{lines, Asked, Memory};
 use crate::row::row;
-use language::{played, Answer, Call, JobView, Row};
+use language::{played, Answer, Call, JobView, Row, State, Tallies, View};
 use oracle::compare::Difference;
 use oracle::port::Port;
 use oracle::script::{Script, Step};
@@ -14,11 +14,13 @@ pub struct Entries {
     /// A planted fault, and what it keeps from call to call.
     fault: Option<&'static Fault>,
     kept: Kept,
+    /// Where the tallies of a channel stand when it opens: see `Manner`.
+    counted: u64,
 }
 
 impl Entries {
     pub fn new(fault: Option<&'static Fault>) -> Self {
-        Self { memory: Memory::new(), fault, kept: Kept::default() }
+        Self { memory: Memory::new(), fault, kept: Kept::default(), counted: 0 }
     }
 
     fn enter(&mut self, asked: Asked<'_>) -> Row {
@@ -32,7 +34,20 @@ impl Entries {
             None if making => self.kept = Kept::default(),
             None => {}
         }
+        if self.counted > 0 {
+            self.forge(&view);
+        }
         row(&self.memory, asked, link)
+    }
+
+    /// Has the tallies of the channels that the call has opened stand at a number, as the driver does with the original's.
+    fn forge(&mut self, before: &View) {
+        let mut now = self.memory.sight();
+        for (slot, record) in now.view.slots.iter_mut().enumerate() {
+            let opened = before.slots.get(slot).is_some_and(|old| old.state != record.state) && record.state == State::Connected;
+            record.tallies = if opened { Tallies::all(self.counted) } else { record.tallies };
+        }
+        self.memory.put(&now);
     }
 
     /// Plays a line. `seen` is given the rows of each call of an entry, and the memory after it; where it says false, the line ends.
@@ -53,8 +68,9 @@ impl Entries {
                 }
                 vec![format!("a rest of {} octets", signal_rest(left))]
             }
-            Call::Queries { .. } => {
-                let answers: Vec<Row> = (0..5).map(|question| self.enter(Asked { question, ..whole })).collect();
+            Call::Queries { .. } | Call::Tallies { .. } => {
+                let questions = if matches!(call, Call::Queries { .. }) { 5 } else { 4 };
+                let answers: Vec<Row> = (0..questions).map(|question| self.enter(Asked { question, ..whole })).collect();
                 let refused = answers.iter().find(|row| row.answer != Answer::Number(0));
                 match refused {
                     Some(row) if answers.iter().all(|other| other == row) => vec![row.to_string()],
@@ -107,6 +123,7 @@ impl Entries {
 
 impl Port for Entries {
     fn rows(&mut self, script: &str) -> Result<Vec<String>, String> {
+        self.counted = 0;
         let mut rows = Vec::new();
         for (_, line) in played(script) {
             self.line(&Call::parse(line), |more, _| {
@@ -120,6 +137,7 @@ impl Port for Entries {
     fn differences(&mut self, scripts: &[Script]) -> Result<Vec<(usize, Difference)>, String> {
         let mut differences = Vec::new();
         for (number, script) in scripts.iter().enumerate() {
+            self.counted = script.manner.counted;
             let mut steps = script.steps.iter().enumerate();
             let first = steps.find_map(|(at, step)| self.step(step).map(|(expected, got)| (at, step, expected, got)));
             let difference = first.map(|(at, step, expected, got)| Difference { step: at, call: step.call.clone(), expected, got });

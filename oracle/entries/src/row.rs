@@ -58,30 +58,33 @@ pub fn row(memory: &Memory, asked: Asked<'_>, link: u16) -> Row {
 }
 
 /// The columns of the row and the four numbers of the answer; none where the answer is of a kind that this call never has.
-fn told(call: &Call, refusal: u32, kind: u8, numbers: [u16; 4], link: u16) -> Option<(Vec<u16>, [u16; 4])> {
+fn told(call: &Call, refusal: u32, kind: u8, numbers: [u16; 4], link: u16) -> Option<(Vec<u64>, [u16; 4])> {
     let [first, second, third, _] = numbers;
+    let columns = |numbers: &[u16]| numbers.iter().map(|number| u64::from(*number)).collect();
     if refusal != 0 {
         let code = if refusal == CONNECT_ERROR { vec![first] } else { vec![] };
         let carried = [code.first().copied().unwrap_or(0), 0, 0, 0];
-        return (kind == REFUSED).then_some((code, carried));
+        return (kind == REFUSED).then_some((columns(&code), carried));
     }
     match (call, kind) {
-        (Call::NextPending { .. } | Call::RejectStep { .. } | Call::Create { .. }, AT) => Some((vec![first], [first, 0, 0, 0])),
+        (Call::NextPending { .. } | Call::RejectStep { .. } | Call::Create { .. }, AT) => Some((columns(&[first]), [first, 0, 0, 0])),
         (Call::Accept { .. } | Call::Reject { .. }, LINK) => Some((vec![], [link, 0, 0, 0])),
         (Call::Opened { .. }, OPENED) => Some((vec![1], [0; 4])),
         (Call::Opened { .. }, DONE) => Some((vec![0], [0; 4])),
-        (Call::NextDisconnect, DUE) => Some((vec![first, second], [first, second, 0, 0])),
-        (Call::Send { .. }, FRAMES) => Some((vec![second], [link, second, 0, 0])),
-        (Call::Start { .. }, FRAMES) => Some((vec![second], [link, second, 0, 0])),
-        (Call::Portion { .. }, PORTION) => Some((vec![second, third], [link, second, third, 0])),
+        (Call::NextDisconnect, DUE) => Some((columns(&[first, second]), [first, second, 0, 0])),
+        (Call::Send { .. }, FRAMES) => Some((columns(&[second]), [link, second, 0, 0])),
+        (Call::Start { .. }, FRAMES) => Some((columns(&[second]), [link, second, 0, 0])),
+        (Call::Portion { .. }, PORTION) => Some((columns(&[second, third]), [link, second, third, 0])),
         (Call::Start { .. } | Call::Portion { .. }, DONE) => None,
         // One length, which the row has twice.
-        (Call::Take { .. }, JOB) => Some((vec![second, second], [link, second, 0, 0])),
-        (Call::Attention, ATTENTION) => Some((vec![first, second, third], [first, second, third, 0])),
-        (Call::Queries { .. }, NUMBER) => Some((vec![first], [first, 0, 0, 0])),
-        (Call::Signal { .. }, EVENT) => Some((numbers.to_vec(), numbers)),
+        (Call::Take { .. }, JOB) => Some((columns(&[second, second]), [link, second, 0, 0])),
+        (Call::Attention, ATTENTION) => Some((columns(&[first, second, third]), [first, second, third, 0])),
+        (Call::Queries { .. }, NUMBER) => Some((columns(&[first]), [first, 0, 0, 0])),
+        // One number of 64 bits: its lowest 16 first.
+        (Call::Tallies { .. }, NUMBER) => Some((vec![numbers.iter().rev().fold(0, |high, low| high << 16 | u64::from(*low))], numbers)),
+        (Call::Signal { .. }, EVENT) => Some((columns(&numbers), numbers)),
         (Call::Accept { .. } | Call::Reject { .. } | Call::Create { .. } | Call::Send { .. }, DONE) => None,
-        (Call::Attention | Call::Queries { .. }, DONE) => None,
+        (Call::Attention | Call::Queries { .. } | Call::Tallies { .. }, DONE) => None,
         (_, DONE) => Some((vec![], [0; 4])),
         _ => None,
     }

@@ -1,12 +1,12 @@
 //! The comparison's own tests: that it looks at every octet, and that its parts fit together.
 
-use crate::faults;
 use crate::layout::{read, spell};
 use crate::lent::Lent;
 use crate::memory::{Asked, Memory};
 use crate::port::Entries;
 use crate::row::row;
-use language::Call;
+use crate::{archive, faults};
+use language::{Call, Manner};
 use oracle::play::quiet;
 use oracle::port::Port;
 use oracle::run::{script, Extent};
@@ -168,6 +168,55 @@ fn the_takes_of_document_02() {
     assert_eq!(rows[14..], ["0 - 1 1 0", "0 010203 3 3 080005001601040040000200", "12 -", "0 aa 1 1 -"]);
 }
 
+/// The same of its tallies: the scripts of the readings, and what the original has otherwise (55, 56).
+#[test]
+fn the_tallies_of_document_02() {
+    let open = "T 2 2 64\nR 128\nS 1 1 c 14070a0080005000640017000500\nP 1 1\nA 0 - - - -\n";
+    let last = |script: String| Entries::new(None).rows(&script).unwrap().pop().unwrap();
+    assert_eq!(last(format!("{open}F 1 64 0300010203\nK 0 aa\nt 0\n")), "0 - 1 1 0 0");
+    assert_eq!(last(format!("{open}F 1 64 0300010203\nK 0 aa\nD 0\nt 0\n")), "0 - 0 0 0 0");
+    assert_eq!(last(format!("{open}F 1 64 0300010203\nS 1 1 c 0621040040005000\nt 0\n")), "0 - 0 1 0 0");
+    assert_eq!(last(format!("{open}F 1 64 0300010203\nS 1 1 c 0621040040005000\nQ\nt 0\n")), "0 - 0 0 0 0");
+    assert_eq!(last(format!("{}F 1 64 0000\nF 1 64 0000\nt 0\n", open.replace("T 2 2", "T 1 1").replace("- -\n", "- 2\n"))), "0 - 0 2 0 0");
+    assert_eq!(last(format!("{open}N 0 30 27\nx 0\nt 0\n")), "0 - 2 0 0 0");
+    assert_eq!(last(format!("{open}K 0 {}\nN 0 30 27\nK 0 aa\nt 0\n", "00".repeat(100))), "0 - 5 0 2 0");
+    assert_eq!(last(format!("{open}t 2\n")), "6 -");
+    assert_eq!(last(format!("{open}t 256\n")), "6 -");
+}
+
+/// Difference 56: a send whose output is too short takes no credits, and counts nothing.
+#[test]
+fn a_send_that_lacks_its_output_counts_nothing() {
+    let script = judged(&[&BUSY[..5], &["F 1 64 0300aabbcc", "K 0 -"]].concat());
+    let mut memory = Memory::new();
+    script.steps.iter().for_each(|step| memory.enter(Asked { call: &step.call, pdu: pdu(&step.call), question: 0 }));
+    let before = *memory.table();
+    assert_eq!(memory.view().slots[0].tallies.numbers(), [1, 1, 0, 0]);
+    let send = |memory: &mut Memory, out: &mut [u8]| archive::send(memory.table.lend(), memory.answer.lend(), out, 0, &[0xaa, 0xbb, 0xcc]);
+    assert_eq!(send(&mut memory, &mut [0; 8]), 3);
+    assert_eq!(*memory.table(), before);
+    assert_eq!(send(&mut memory, &mut [0; 9]), 0);
+    assert_eq!(memory.view().slots[0].tallies.numbers(), [2, 1, 0, 0]);
+}
+
+/// Difference 57: from 2^64 - 1 each tally goes on to 0, on both sides, and changes no other.
+#[test]
+fn tallies_wrap_on_both_sides() {
+    quiet();
+    let calls: Vec<Call> = [&BUSY[..4], &["A 0 - - - 1", "K 0 -", "t 0", "F 1 64 0000", "t 0", "F 1 64 0000", "t 0"]]
+        .concat()
+        .iter()
+        .map(|line| Call::parse(line))
+        .collect();
+    let counted = Script::in_manner(&calls, Manner { counted: u64::MAX, ..Manner::default() }).unwrap();
+    assert!(Entries::new(None).differences(std::slice::from_ref(&counted)).unwrap().is_empty());
+    let most = u64::MAX;
+    assert_eq!(counted.steps[10].port, [Some(format!("0 - 0 0 {most} 0"))]);
+    assert_eq!(counted.steps[8].port, [Some(format!("0 - 0 0 {most} {most}"))]);
+    let stops = faults::wrapping().next().unwrap();
+    assert!(!Entries::new(Some(stops)).differences(std::slice::from_ref(&counted)).unwrap().is_empty());
+}
+
 fn pdu(call: &Call) -> &[u8] {
     match call {
         Call::Signal { pdu, .. } => pdu,
@@ -187,7 +236,7 @@ fn a_script_without_a_fault_has_no_difference_and_one_with_the_lost_line_has() {
 
 #[test]
 fn the_faults_are_forty_or_more_and_each_its_own() {
-    let mut titles: Vec<&str> = faults::all().map(|fault| fault.title).collect();
+    let mut titles: Vec<&str> = faults::all().chain(faults::wrapping()).map(|fault| fault.title).collect();
     assert!(titles.len() >= 40);
     titles.sort_unstable();
     assert!(titles.windows(2).all(|two| two[0] != two[1]));

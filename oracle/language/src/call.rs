@@ -116,6 +116,10 @@ pub enum Call {
     Queries {
         slot: u16,
     },
+    /// The four tallies of a slot.
+    Tallies {
+        slot: u16,
+    },
     ParameterRequest {
         link: u16,
         min: u16,
@@ -161,7 +165,7 @@ impl Call {
             Accept { slot, .. } | Reject { slot, .. } | DropPending { slot } | Opened { slot, .. } | GiveUp { slot } => Some(slot),
             AddHold { slot } | Release { slot } | Disconnect { slot } | Send { slot, .. } | Take { slot, .. } => Some(slot),
             Start { slot, .. } | Portion { slot, .. } | Cancel { slot } => Some(slot),
-            Queries { slot } | Room { slot } | OpenJob { slot } => Some(slot),
+            Queries { slot } | Tallies { slot } | Room { slot } | OpenJob { slot } => Some(slot),
             _ => None,
         }
     }
@@ -187,7 +191,8 @@ impl Call {
 
     /// True for the lines that only look.
     pub fn only_looks(&self) -> bool {
-        matches!(self, Call::View | Call::Room { .. } | Call::OpenJob { .. } | Call::Attention | Call::Queries { .. } | Call::Unread(_))
+        use Call::*;
+        matches!(self, View | Room { .. } | OpenJob { .. } | Attention | Queries { .. } | Tallies { .. } | Unread(_))
     }
 }
 
@@ -250,6 +255,7 @@ impl<'a> Words<'a> {
             "B" => Call::Take { slot: w.number("slot")?, size: w.number("size")? },
             "I" => Call::Attention,
             "U" => Call::Queries { slot: w.number("slot")? },
+            "t" => Call::Tallies { slot: w.number("slot")? },
             "Y" => Call::ParameterRequest {
                 link: w.number("link")?,
                 min: w.number("min")?,
@@ -387,6 +393,7 @@ impl fmt::Display for Call {
             Call::Take { slot, size } => write!(f, "B {slot} {size}"),
             Call::Attention => write!(f, "I"),
             Call::Queries { slot } => write!(f, "U {slot}"),
+            Call::Tallies { slot } => write!(f, "t {slot}"),
             Call::ParameterRequest { link, min, max, latency, timeout } => write!(f, "Y {link} {min} {max} {latency} {timeout}"),
             Call::ParameterResponse { link, result } => write!(f, "y {link} {result}"),
             Call::View => write!(f, "V"),
@@ -432,6 +439,7 @@ mod tests {
             "B 0 9",
             "I",
             "U 0",
+            "t 0",
             "Y 1 6 6 0 10",
             "y 1 0",
             "V",
@@ -467,6 +475,9 @@ mod tests {
             "p 0 27",
             "x 0 0",
             "n",
+            "t",
+            "t 0 0",
+            "t 65536",
             "A 0 - - x1 -",
             "A 0 - - e -",
             "Q 1",

@@ -10,7 +10,7 @@ mod wrong;
 pub use call::{signals, Call, Config, Policy};
 pub use row::{hex, unhex, Answer, Reply, Row};
 pub use script::{is_played, lines, played};
-pub use view::{JobView, Sight, SlotView, Stale, State, View};
+pub use view::{JobView, Sight, SlotView, Stale, State, Tallies, View};
 pub use wrong::Wrong;
 
 /// The limits of document 01, and the room that `chanrun` lends at most.
@@ -43,6 +43,8 @@ pub struct Manner {
     /// A planted fault: a slot that opens again keeps the open assembly of its last owner, as if the original's line that clears it were
     /// lost.
     pub lost_line: bool,
+    /// The number at which every tally of a channel stands when it opens, 0 but in tests: so they wrap.
+    pub counted: u64,
 }
 
 /// What whoever feeds a driver may look at before each call.

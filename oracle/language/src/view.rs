@@ -39,7 +39,16 @@ pub struct JobView {
     pub aside: u16,
 }
 
-/// A slot's record. `V` prints all of it but `job` and `stale`.
+/// What was counted of a slot's channel (document 02): frames sent and received, sends and frames refused for want of credits.
+#[derive(Clone, Copy, Debug, Default, PartialEq, Eq)]
+pub struct Tallies {
+    pub sent: u64,
+    pub received: u64,
+    pub blocked_sends: u64,
+    pub blocked_receives: u64,
+}
+
+/// A slot's record. `V` prints all of it but `job`, `stale`, `tallies` and `inherited`.
 #[derive(Clone, Debug, PartialEq, Eq)]
 pub struct SlotView {
     pub state: State,
@@ -63,6 +72,9 @@ pub struct SlotView {
     /// The job of ours that is open.
     pub job: Option<JobView>,
     pub stale: Stale,
+    pub tallies: Tallies,
+    /// What of the tallies is an earlier owner's, because a free of the original left them. The port has none such.
+    pub inherited: Tallies,
 }
 
 /// The table. `spsms` is not printed.
@@ -150,6 +162,8 @@ impl SlotView {
             jobs: Vec::new(),
             job: None,
             stale: Stale::Nothing,
+            tallies: Tallies::default(),
+            inherited: Tallies::default(),
         }
     }
 
@@ -173,7 +187,8 @@ impl SlotView {
     }
 
     /// The record as document 01 has it: freed means reset but for the holds, and an assembly ends where Connected is left. What of the
-    /// original's record this drops is the differences "left behind" of the list, and no call of the original reads it.
+    /// original's record this drops is the differences "left behind" of the list, and no call of the original reads it. Of the tallies it leaves
+    /// what was counted since the slot was freed last.
     pub fn settled(&self) -> Self {
         let mut record = match (self.state, self.stale) {
             (State::Disconnected, Stale::All) => Self { hold: self.hold, ..Self::fresh() },
@@ -197,6 +212,7 @@ impl SlotView {
             record.jobs.clear();
         }
         record.stale = Stale::Nothing;
+        (record.tallies, record.inherited) = (self.tallies.since(self.inherited), Tallies::default());
         record
     }
 
@@ -242,6 +258,8 @@ impl SlotView {
             jobs: Vec::new(),
             job: None,
             stale: Stale::Nothing,
+            tallies: Tallies::default(),
+            inherited: Tallies::default(),
         };
         let queued = number(next()?)?;
         record.jobs = words.map(number).collect::<Option<_>>()?;
@@ -274,6 +292,28 @@ impl SlotView {
             line.push_str(&format!(" {job}"));
         }
         line
+    }
+}
+
+impl Tallies {
+    /// All four at one number.
+    pub fn all(number: u64) -> Self {
+        Self { sent: number, received: number, blocked_sends: number, blocked_receives: number }
+    }
+
+    /// As `t` prints them.
+    pub fn numbers(self) -> [u64; 4] {
+        [self.sent, self.received, self.blocked_sends, self.blocked_receives]
+    }
+
+    /// What was counted since others stood there.
+    pub fn since(self, before: Self) -> Self {
+        Self {
+            sent: self.sent.wrapping_sub(before.sent),
+            received: self.received.wrapping_sub(before.received),
+            blocked_sends: self.blocked_sends.wrapping_sub(before.blocked_sends),
+            blocked_receives: self.blocked_receives.wrapping_sub(before.blocked_receives),
+        }
     }
 }
 

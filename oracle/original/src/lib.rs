@@ -1,5 +1,6 @@
 //! The original, unchanged, over stand-ins, and a driver that speaks the language of `chanrun`. `crate::` paths of the original's files
-//! resolve here: what the real crate's root offers them, this root offers under the same names. Built once for each D.
+//! resolve here: what the real crate's root offers them, this root offers under the same names. Built once for each D with
+//! `channel-metrics`, and for one D without.
 
 mod stand_ins;
 

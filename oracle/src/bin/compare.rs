@@ -1,5 +1,6 @@
 //! Compares the port with the original, call by call. See oracle/README.md.
 
+use language::Manner;
 use oracle::commands::{compare, faults, twin, Words, OPTIONS};
 use oracle::faults::{Fault, Faulty};
 use oracle::kinds::Kind;
@@ -7,12 +8,14 @@ use oracle::play::quiet;
 use oracle::port::Program;
 use oracle::record::{record, Recorded};
 use oracle::run::Extent;
+use oracle::without::{without, Beside};
 use std::process::ExitCode;
 use std::time::Duration;
 
 const USAGE: &str = "usage:
   compare run [options] -- COMMAND [WORDS..]   the original against a program that is given scripts and prints rows
   compare self [options]                       the original against itself
+  compare without [options]                    the original with its feature `channel-metrics` against the original without it
   compare faults [options]                     each planted fault has to be found
   compare twin [options] -- COMMAND [WORDS..]  demand 3: the program against itself, with other job octets in one life of one link
   compare record [options] -- FOLDER            the original's answers as files
@@ -27,6 +30,20 @@ fn record_into(folder: &str, extent: &Extent) -> ExitCode {
         }
         Err(error) => {
             println!("{folder}: {error}");
+            ExitCode::FAILURE
+        }
+    }
+}
+
+fn beside(extent: &Extent) -> ExitCode {
+    println!("seed {}", extent.seed);
+    match without(extent, Manner::default()) {
+        Ok(Beside { scripts, calls, counted }) => {
+            println!("{scripts} scripts, {calls} calls, numbers counted after {counted}: nothing else differs");
+            ExitCode::SUCCESS
+        }
+        Err(why) => {
+            println!("{why}");
             ExitCode::FAILURE
         }
     }
@@ -49,14 +66,19 @@ fn main() -> ExitCode {
     };
     quiet();
     match what.as_str() {
+        _ if words.extent.counted > 0 => {
+            eprintln!("a program's tallies can't be put anywhere: --counted is for the entries");
+            ExitCode::from(2)
+        }
         "run" if !words.command.is_empty() => compare(&mut Program::new(words.command, Duration::from_secs(words.limit)), &words.extent),
         "twin" if words.command.is_empty() => twin(&mut Faulty(Fault::None), &words.extent),
         "twin" => twin(&mut Program::new(words.command, Duration::from_secs(words.limit)), &words.extent),
         "self" => compare(&mut Faulty(Fault::None), &words.extent),
+        "without" => beside(&words.extent),
         "record" if words.command.len() == 1 => record_into(&words.command[0], &words.extent),
         "faults" => {
-            let faulty = Fault::ALL.into_iter().map(|fault| (fault.title(), Faulty(fault)));
-            faults(Faulty(Fault::None), faulty, &words.extent)
+            let faulty = Fault::ALL.into_iter().map(|fault| (fault.title(), Faulty(fault), words.extent));
+            faults([(Faulty(Fault::None), words.extent)], faulty)
         }
         "kinds" => kinds(),
         _ => {

@@ -279,10 +279,11 @@ impl Generator {
         }
     }
 
-    /// Looks after a call: the whole view, and now and then the places, the queries and the attention set.
+    /// Looks after a call: the whole view with every slot's tallies, and now and then the places, the queries, the tallies and the attention set.
     fn look(&mut self, call: &Call) {
         if self.rng.below(self.plan.view_every) == 0 {
             self.ahead.push_back(Call::View);
+            self.ahead.extend((0..self.n).map(|slot| Call::Tallies { slot }));
         }
         let any = self.rng.below(usize::from(self.n)) as u16;
         // The places of the slot that the call was about, where it names one.
@@ -300,6 +301,7 @@ impl Generator {
             3 => self.ahead.push_back(Call::Queries { slot }),
             4 => self.ahead.push_back(Call::Attention),
             5 => self.ahead.push_back(Call::OpenJob { slot: any }),
+            6 => self.ahead.push_back(Call::Tallies { slot }),
             _ => {}
         }
     }

@@ -121,7 +121,7 @@ impl Generator {
     fn wrong(&mut self) -> Call {
         let slot = if self.rng.chance(50) { self.n } else { self.rng.pick(&[17, 255, 256, 65_535]) };
         let link = self.rng.pick(&[0x0F00, 0x0FFF, 65_535]);
-        match self.rng.below(14) {
+        match self.rng.below(15) {
             0 => Call::Accept { slot, config: Default::default() },
             1 => Call::Reject { slot, result: self.rng.pick(&[3, 4]) },
             2 => Call::Opened { slot, link: 1, up: true },
@@ -134,8 +134,9 @@ impl Generator {
             9 => Call::Create { link, spsm: 128, config: Default::default() },
             10 => Call::LinkDown { link },
             11 => Call::Frame { link, cid: BASE_ID, payload: vec![0, 0] },
-            12 => Call::Signal { link, listening: true, central: true, pdu: [self.peer_request(), self.parameters()].concat() },
-            _ => Call::Unread(self.rng.pick(&[" ", "F 1 64 0", "Q 1", "T 1 1", "A 0 - - e -", "x"]).to_string()),
+            12 => Call::Tallies { slot },
+            13 => Call::Signal { link, listening: true, central: true, pdu: [self.peer_request(), self.parameters()].concat() },
+            _ => Call::Unread(self.rng.pick(&[" ", "F 1 64 0", "Q 1", "T 1 1", "A 0 - - e -", "x", "t"]).to_string()),
         }
     }
 }

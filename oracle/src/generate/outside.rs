@@ -56,7 +56,9 @@ impl Generator {
                 Some(Call::GiveUp { slot })
             }
             Kind::FrameAnyLink => {
-                let slot = self.one_of(view, |slot| slot.state == State::Connected)?;
+                // Without a credit the original counts it as blocked.
+                let blocked = self.one_of(view, |slot| slot.state == State::Connected && slot.credits == 0).filter(|_| self.rng.chance(50));
+                let slot = blocked.or_else(|| self.one_of(view, |slot| slot.state == State::Connected))?;
                 Some(Call::Frame { link: self.a_link(), cid: BASE_ID + slot, payload: vec![1, 0, 7] })
             }
             Kind::ShortFrame => self.first(view, |this, _| {
@@ -132,6 +134,7 @@ impl Generator {
                 let job = view.slots[usize::from(slot)].jobs[0];
                 Some(Call::Take { slot, size: self.rng.pick(&[0, job / 2, job - 1, job - 1]) })
             }
+            Kind::TalliesLeft => Some(Call::Tallies { slot: self.one_of(view, SlotView::free)? }),
             Kind::NumbersLeft | Kind::JobsLeft | Kind::AssemblyLeft => {
                 let slot = self.one_of(view, SlotView::free)?;
                 Some(if self.rng.chance(50) { Call::Queries { slot } } else { Call::Room { slot } })

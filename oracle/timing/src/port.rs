@@ -4,7 +4,7 @@ use crate::archive;
 use crate::frames::{cid, link, Channels, SPSM};
 use crate::D;
 
-const TABLE_OCTETS: usize = 800;
+const TABLE_OCTETS: usize = 1_312;
 const DEFAULT: u32 = 0x1_0000;
 const EVERY: u8 = 0;
 const MIN_THRESHOLD: u8 = 1;

@@ -10,7 +10,7 @@ fn wish() -> ConnParamUpdateReq {
 }
 
 /// The calls that read a table.
-pub const CALLS: [&str; 32] = [
+pub const CALLS: [&str; 36] = [
     "register_spsm",
     "signal",
     "send_conn_param_update_req",
@@ -43,6 +43,10 @@ pub const CALLS: [&str; 32] = [
     "mps",
     "peer_mtu",
     "peer_mps",
+    "tally_sent",
+    "tally_received",
+    "tally_blocked_sends",
+    "tally_blocked_receives",
 ];
 
 /// A run of one frame, or of one job, in octets that have a place for it.
@@ -95,6 +99,8 @@ pub fn call(name: &str, channels: &mut ChannelManager<'_>, link: ConnHandle, ind
         "mps" => channels.mps(index).err(),
         "peer_mtu" => channels.peer_mtu(index).err(),
         "peer_mps" => channels.peer_mps(index).err(),
+        // One call asks all four.
+        "tally_sent" | "tally_received" | "tally_blocked_sends" | "tally_blocked_receives" => channels.tallies(index).err(),
         other => panic!("no call has the name {other}"),
     }
 }

@@ -76,6 +76,33 @@ pub fn put(octets: &mut [u8; TABLE_OCTETS], slot: usize, column: usize, number: 
     [octets[cell(slot, column)], octets[cell(slot, column + 1)]] = number.to_le_bytes();
 }
 
+/// The columns of a tally: eight each.
+pub const SENT: usize = 47;
+pub const BLOCKED_SENDS: usize = 55;
+pub const RECEIVED: usize = 63;
+pub const BLOCKED_RECEIVES: usize = 71;
+
+pub fn put_tally(octets: &mut [u8; TABLE_OCTETS], slot: usize, column: usize, tally: u64) {
+    for (place, octet) in tally.to_le_bytes().into_iter().enumerate() {
+        octets[cell(slot, column + place)] = octet;
+    }
+}
+
+pub fn put_tallies(octets: &mut [u8; TABLE_OCTETS], slot: usize, tallies: Tallies) {
+    let Tallies { sent, received, blocked_sends, blocked_receives } = tallies;
+    for (column, tally) in [(SENT, sent), (RECEIVED, received), (BLOCKED_SENDS, blocked_sends), (BLOCKED_RECEIVES, blocked_receives)] {
+        put_tally(octets, slot, column, tally);
+    }
+}
+
+/// The same channels with other tallies of a slot.
+pub fn with_tallies(channels: ChannelManager<'_>, index: ChannelIndex, tallies: Tallies) -> ChannelManager<'_> {
+    let (table, room) = channels.into_parts();
+    let mut octets = *table.octets();
+    put_tallies(&mut octets, index.0.into(), tallies);
+    ChannelManager::from_parts(Table::from_octets(octets), room)
+}
+
 /// The same channels with another MPS of a slot's peer. No call leaves one under 23.
 pub fn with_peer_mps(channels: ChannelManager<'_>, index: ChannelIndex, mps: u16) -> ChannelManager<'_> {
     let (table, room) = channels.into_parts();
@@ -107,6 +134,24 @@ pub fn unchanged<T: std::fmt::Debug>(
     assert!(before == state(channels), "a refusal by {refusal} changed table or room");
 }
 
+/// The call refuses by 10 or 14. That counts once, in its tally of this slot, and leaves every other octet of table and room as it was.
+pub fn blocked<T: std::fmt::Debug>(
+    channels: &mut ChannelManager<'_>,
+    index: ChannelIndex,
+    refusal: Refusal,
+    call: impl FnOnce(&mut ChannelManager<'_>) -> Result<T, Refusal>,
+) {
+    let (table, room) = state(channels);
+    let (mut wanted, tallies) = (*table.octets(), table.slot(index).expect("a slot of the table").tallies);
+    match refusal {
+        Refusal::OutOfMemory => put_tally(&mut wanted, index.0.into(), BLOCKED_RECEIVES, tallies.blocked_receives.wrapping_add(1)),
+        Refusal::Busy => put_tally(&mut wanted, index.0.into(), BLOCKED_SENDS, tallies.blocked_sends.wrapping_add(1)),
+        other => panic!("{other} blocks nothing"),
+    }
+    assert_eq!(call(channels).err(), Some(refusal));
+    assert!(channels.table().octets() == &wanted && channels.room() == room, "a refusal by {refusal} changed more than its tally");
+}
+
 pub fn is_free(slot: &Slot) -> bool {
     let numbers = [slot.handle.0, slot.spsm, slot.mps, slot.mtu, slot.credits, slot.received, slot.have, slot.want];
     let peer = [slot.peer_cid, slot.peer_mps, slot.peer_mtu, slot.peer_credits];
@@ -114,5 +159,6 @@ pub fn is_free(slot: &Slot) -> bool {
         && slot.flow_policy == CreditFlowPolicy::Every(1)
         && slot.waiting == 0
         && slot.job.is_none()
+        && slot.tallies == Tallies::default()
         && numbers.iter().chain(&peer).chain(&slot.lens).all(|number| *number == 0)
 }

@@ -10,12 +10,15 @@ number-requires c κs = search needs
 slot-at-requires : tie.Need-slot-at-requires
 slot-at-requires c κs = search needs
 
+cast-told : tie.Need-cast-told
+cast-told c = search needs
+
 told-requires : tie.Need-told-requires
 told-requires c κs = search needs
 
 returns : tie.Need-returns
 unfolding query
-returns c = rw (c .told .ensures, c .before .slot-at .ensures, c .before .before .number .ensures)
+returns c = rw (c .told .ensures, c .before .before .slot-at .ensures, c .before .before .before .number .ensures)
 
 pub peer-mtu-spec : {M : Type 1} → statement M
-peer-mtu-spec = tie.close (tie.spec number-requires slot-at-requires told-requires returns)
+peer-mtu-spec = tie.close (tie.spec number-requires slot-at-requires cast-told told-requires returns)

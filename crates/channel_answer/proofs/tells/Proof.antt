@@ -75,14 +75,14 @@ plain-requires-8 c κs = search needs
 enum-known-a-8 : tie.Need-enum-known-a-8
 enum-known-a-8 c = search needs
 
-plain-requires-9 : tie.Need-plain-requires-9
-plain-requires-9 c κs = search needs
+number-requires : tie.Need-number-requires
+number-requires c κs = search needs
 
 enum-known-a-9 : tie.Need-enum-known-a-9
 enum-known-a-9 c = search needs
 
-plain-requires-10 : tie.Need-plain-requires-10
-plain-requires-10 c κs = search needs
+plain-requires-9 : tie.Need-plain-requires-9
+plain-requires-9 c κs = search needs
 
 enum-known-a-10 : tie.Need-enum-known-a-10
 enum-known-a-10 c = search needs
@@ -93,8 +93,8 @@ shown-requires-2 c κs = search needs
 bit-requires : tie.Need-bit-requires
 bit-requires c κs = search needs
 
-plain-requires-11 : tie.Need-plain-requires-11
-plain-requires-11 c κs = search needs
+plain-requires-10 : tie.Need-plain-requires-10
+plain-requires-10 c κs = search needs
 
 returns : tie.Need-returns
 returns c = rw (c .before .enum-told .given .1) (c .plain .ensures)
@@ -124,13 +124,13 @@ returns-9 : tie.Need-returns-9
 returns-9 c = rw (c .before .before .a7 .given .1) (c .plain8 .ensures)
 
 returns-10 : tie.Need-returns-10
-returns-10 c = rw (c .before .before .a8 .given .1) (c .plain9 .ensures)
+returns-10 c = rw (c .before .before .a8 .given .1) (c .number .ensures)
 
 returns-11 : tie.Need-returns-11
-returns-11 c = rw (c .before .before .a9 .given .1) (c .plain10 .ensures)
+returns-11 c = rw (c .before .before .a9 .given .1) (c .plain9 .ensures)
 
 returns-12 : tie.Need-returns-12
-returns-12 c = rw (c .before .before .before .before .a10 .given .1, ← c .before .before .shown2 .ensures, ← c .before .bit .ensures) (c .plain11 .ensures)
+returns-12 c = rw (c .before .before .before .before .a10 .given .1, ← c .before .before .shown2 .ensures, ← c .before .bit .ensures) (c .plain10 .ensures)
 
 pub tells-spec : {M : Type 1} → statement M
 tells-spec =
@@ -160,13 +160,13 @@ tells-spec =
     cast-plain-4
     plain-requires-8
     enum-known-a-8
-    plain-requires-9
+    number-requires
     enum-known-a-9
-    plain-requires-10
+    plain-requires-9
     enum-known-a-10
     shown-requires-2
     bit-requires
-    plain-requires-11
+    plain-requires-10
     returns
     returns-2
     returns-3

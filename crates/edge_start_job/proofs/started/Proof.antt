@@ -65,6 +65,15 @@ put-job-requires c κs =
     let one : leb (getD o 1 0) slot ≡ false = lt-leb (getD o 1 0) slot (c .before .before .before .before .before .before .before .before .before .before .before .before .before .if1 .left) in
     (omega (arith, valid-long o (start .pre)), slot-within o slot (start .pre) one)
 
+put-sends-requires : tie.Need-put-sends-requires
+put-sends-requires c κs =
+    let tested = c .before .before .before .before .before .before .before .before .before .before .before .before .before .before .before .before .before .before in
+    let start = tested .before .before .before .before .before in
+    let o = start .args .table .now in
+    let slot = start .args .slot in
+    let one : leb (getD o 1 0) slot ≡ false = lt-leb (getD o 1 0) slot (tested .if1 .left) in
+    (omega (arith, valid-long o (start .pre)), slot-within o slot (start .pre) one)
+
 put-answer-requires-2 : tie.Need-put-answer-requires-2
 put-answer-requires-2 c κs = search needs
 
@@ -79,15 +88,15 @@ same-length-4 c = search needs
 
 returns-2 : tie.Need-returns-2
 returns-2 c =
-    let tested = c .before .before .before .before .before .before .before .before .before .before .before .before .before .before .before .before .before .before .before .before in
+    let tested = c .before .before .before .before .before .before .before .before .before .before .before .before .before .before .before .before .before .before .before .before .before .before .before .before .before in
     let start = tested .before .before .before .before .before in
     let a = start .args in
     let o = a .table .now in
     let one : leb (getD o 1 0) (a .slot) ≡ false = lt-leb (getD o 1 0) (a .slot) (tested .if1 .left) in
     let told = c .before .before .put-answer2 .ensures in
-    let w = c .before .before .before .before .before .before .before .before .before .before .before .before .before .before .before .before in
+    let w = c .before .before .before .before .before .before .before .before .before .before .before .before .before .before .before .before .before .before .before .before .before in
     let worked = w .start-from .ensures ∙ ap (λ (x : Slot). afterOf (startOf x (a .stated) (length (a .buffer .now))) [] (a .buffer .now)) (w .before .before .slot-at .ensures) in
-    rw (told .0, told .1, c .before .before .before .before .before .before .put-job .ensures, c .before .before .before .before .before .before .before .before .before .before .put-peer-credits .ensures) (start-placed o (a .answer .now) (a .buffer .now) (a .slot) (a .stated) (start .pre) one worked)
+    rw (told .0, told .1, c .before .before .before .before .before .before .put-sends .ensures, c .before .before .before .before .before .before .before .before .before .before .before .put-job .ensures, c .before .before .before .before .before .before .before .before .before .before .before .before .before .before .before .put-peer-credits .ensures) (start-placed o (a .answer .now) (a .buffer .now) (a .slot) (a .stated) (start .pre) one worked)
 
 pub started-spec : {M : Type 1} → statement M
 started-spec =
@@ -101,6 +110,7 @@ started-spec =
     start-from-requires
     put-peer-credits-requires
     put-job-requires
+    put-sends-requires
     put-answer-requires-2
     same-length-2
     same-length-3

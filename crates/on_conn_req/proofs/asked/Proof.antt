@@ -11,7 +11,7 @@ fresh-requires c κs = search needs
 
 returns : tie.Need-returns
 returns c =
-    let made = c .before .before .before .before in
+    let made = c .before .before .before .before .before in
     rw (made .fresh .ensures, made .before .requester .ensures)
 
 pub asked-spec : {M : Type 1} → statement M

@@ -10,6 +10,18 @@ standing-requires c κs = search needs
 first-requires : tie.Need-first-requires
 first-requires c κs = search needs
 
+cast-t10 : tie.Need-cast-t10
+cast-t10 c = search needs
+
+cast-t11 : tie.Need-cast-t11
+cast-t11 c = search needs
+
+cast-t12 : tie.Need-cast-t12
+cast-t12 c = search needs
+
+cast-t13 : tie.Need-cast-t13
+cast-t13 c = search needs
+
 slice-aggregate-answered-more : tie.Need-slice-aggregate-answered-more
 slice-aggregate-answered-more c = search needs
 
@@ -22,7 +34,7 @@ same-length c = search needs
 returns : tie.Need-returns
 unfolding fillingText
 returns c =
-    let frame = c .before .before .before .before in
+    let frame = c .before .before .before .before .before .before .before .before in
     rw (← frame .before .before .standing .ensures, ← frame .first .ensures) (c .before .before .answered-more .ensures)
 
 pub filling-spec : {M : Type 1} → statement M
@@ -31,6 +43,10 @@ filling-spec =
     (tie.spec
     standing-requires
     first-requires
+    cast-t10
+    cast-t11
+    cast-t12
+    cast-t13
     slice-aggregate-answered-more
     answered-more-requires
     same-length

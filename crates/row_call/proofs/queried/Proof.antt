@@ -13,14 +13,26 @@ tells-requires c κs = search needs
 tells-requires-2 : tie.Need-tells-requires-2
 tells-requires-2 c κs = search needs
 
+number-told-requires : tie.Need-number-told-requires
+number-told-requires c κs = search needs
+
 tells-requires-3 : tie.Need-tells-requires-3
 tells-requires-3 c κs = search needs
+
+number-told-requires-2 : tie.Need-number-told-requires-2
+number-told-requires-2 c κs = search needs
 
 tells-requires-4 : tie.Need-tells-requires-4
 tells-requires-4 c κs = search needs
 
+number-told-requires-3 : tie.Need-number-told-requires-3
+number-told-requires-3 c κs = search needs
+
 tells-requires-5 : tie.Need-tells-requires-5
 tells-requires-5 c κs = search needs
+
+number-told-requires-4 : tie.Need-number-told-requires-4
+number-told-requires-4 c κs = search needs
 
 slice-aggregate-told-more : tie.Need-slice-aggregate-told-more
 slice-aggregate-told-more c = search needs
@@ -38,8 +50,20 @@ returns : tie.Need-returns
 unfolding queriesText choose
 returns c =
     let others = c .before .before .before .before in
-    let asked = others .before .before .before .before .before in
-    rw (← asked .before .before .tells .ensures, eq-eqb _ Kind.number (asked .if1 .taken), ← others .before .before .before .tells2 .ensures, ← others .before .before .tells3 .ensures, ← others .before .tells4 .ensures, ← others .tells5 .ensures)
+    let first = others .before .before .before .before .before .before in
+    let asked = first .before .before .before in
+    rw (
+      ← asked .before .before .tells .ensures,
+      eq-eqb _ Kind.number (asked .if1 .taken),
+      ← first .before .tells2 .ensures,
+      ← first .number-told .ensures,
+      ← others .before .before .before .before .before .tells3 .ensures,
+      ← others .before .before .before .before .number-told2 .ensures,
+      ← others .before .before .before .tells4 .ensures,
+      ← others .before .before .number-told3 .ensures,
+      ← others .before .tells5 .ensures,
+      ← others .number-told4 .ensures,
+    )
     (c .before .before .told-more .ensures)
 
 same-length-2 : tie.Need-same-length-2
@@ -55,9 +79,13 @@ queried-spec =
     (tie.spec
     tells-requires
     tells-requires-2
+    number-told-requires
     tells-requires-3
+    number-told-requires-2
     tells-requires-4
+    number-told-requires-3
     tells-requires-5
+    number-told-requires-4
     slice-aggregate-told-more
     told-more-requires
     told-requires

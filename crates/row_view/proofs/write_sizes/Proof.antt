@@ -14,14 +14,23 @@ write-answer-requires c κs = search needs
 shown-requires : tie.Need-shown-requires
 shown-requires c κs = search needs
 
+cast-t16 : tie.Need-cast-t16
+cast-t16 c = search needs
+
 shown-requires-2 : tie.Need-shown-requires-2
 shown-requires-2 c κs = search needs
+
+cast-t18 : tie.Need-cast-t18
+cast-t18 c = search needs
 
 shown-requires-3 : tie.Need-shown-requires-3
 shown-requires-3 c κs = search needs
 
-cast-t18 : tie.Need-cast-t18
-cast-t18 c = search needs
+cast-t20 : tie.Need-cast-t20
+cast-t20 c = search needs
+
+cast-t21 : tie.Need-cast-t21
+cast-t21 c = search needs
 
 slice-aggregate-write-columns : tie.Need-slice-aggregate-write-columns
 slice-aggregate-write-columns c = search needs
@@ -46,9 +55,12 @@ write-sizes-spec =
     slice-aggregate-write-answer
     write-answer-requires
     shown-requires
+    cast-t16
     shown-requires-2
-    shown-requires-3
     cast-t18
+    shown-requires-3
+    cast-t20
+    cast-t21
     slice-aggregate-write-columns
     write-columns-requires
     write-character-requires

@@ -81,14 +81,20 @@ enum-known-c-7 c = search needs
 queried-requires : tie.Need-queried-requires
 queried-requires c κs = search needs
 
+enum-known-c-8 : tie.Need-enum-known-c-8
+enum-known-c-8 c = search needs
+
+tallied-requires : tie.Need-tallied-requires
+tallied-requires c κs = search needs
+
 enum-told-4 : tie.Need-enum-told-4
 enum-told-4 c = search needs
 
 write-view-requires : tie.Need-write-view-requires
 write-view-requires c κs = search needs
 
-enum-known-c-8 : tie.Need-enum-known-c-8
-enum-known-c-8 c = search needs
+enum-known-c-9 : tie.Need-enum-known-c-9
+enum-known-c-9 c = search needs
 
 shown-requires : tie.Need-shown-requires
 shown-requires c κs = search needs
@@ -195,21 +201,28 @@ same-length-19 c = search needs
 
 returns-11 : tie.Need-returns-11
 unfolding playOf
-returns-11 c = rw (c .before .before .before .before .enum-told4 .given .1) (record { table = refl; room = refl; text = c .before .before .write-view .ensures })
+returns-11 c = rw (c .before .before .before .before .before .c8 .given .1) (record { table = refl; room = refl; text = c .before .before .tallied .ensures })
 
 same-length-20 : tie.Need-same-length-20
 same-length-20 c = search needs
 
+returns-12 : tie.Need-returns-12
+unfolding playOf
+returns-12 c = rw (c .before .before .before .before .enum-told4 .given .1) (record { table = refl; room = refl; text = c .before .before .write-view .ensures })
+
 same-length-21 : tie.Need-same-length-21
 same-length-21 c = search needs
 
-returns-12 : tie.Need-returns-12
-unfolding playOf
-returns-12 c = rw (c .before .before .before .before .before .before .c8 .given .1) (record { table = refl; room = refl; text = c .before .before .shown .ensures })
+same-length-22 : tie.Need-same-length-22
+same-length-22 c = search needs
 
 returns-13 : tie.Need-returns-13
 unfolding playOf
-returns-13 c = rw (c .enum-told5 .given .1) (no-row _)
+returns-13 c = rw (c .before .before .before .before .before .before .c9 .given .1) (record { table = refl; room = refl; text = c .before .before .shown .ensures })
+
+returns-14 : tie.Need-returns-14
+unfolding playOf
+returns-14 c = rw (c .enum-told5 .given .1) (no-row _)
 
 pub play-spec : {M : Type 1} → statement M
 play-spec =
@@ -237,9 +250,11 @@ play-spec =
     take-requires
     enum-known-c-7
     queried-requires
+    enum-known-c-8
+    tallied-requires
     enum-told-4
     write-view-requires
-    enum-known-c-8
+    enum-known-c-9
     shown-requires
     enum-told-5
     same-length
@@ -273,6 +288,8 @@ play-spec =
     same-length-19
     returns-11
     same-length-20
-    same-length-21
     returns-12
-    returns-13)
+    same-length-21
+    same-length-22
+    returns-13
+    returns-14)

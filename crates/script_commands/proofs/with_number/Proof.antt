@@ -47,19 +47,23 @@ returns-10 c = rw (ne-eqb _ 82 (c .before .before .before .before .before .befor
 
 returns-11 : tie.Need-returns-11
 unfolding withNumber choose
-returns-11 c = rw (ne-eqb _ 82 (c .before .before .before .before .before .before .before .before .before .before .if1 .left), ne-eqb _ 74 (c .before .before .before .before .before .before .before .before .before .if2 .left), ne-eqb _ 90 (c .before .before .before .before .before .before .before .before .if3 .left), ne-eqb _ 71 (c .before .before .before .before .before .before .before .if4 .left), ne-eqb _ 72 (c .before .before .before .before .before .before .if5 .left), ne-eqb _ 76 (c .before .before .before .before .before .if6 .left), ne-eqb _ 68 (c .before .before .before .before .if7 .left), ne-eqb _ 69 (c .before .before .before .if8 .left), ne-eqb _ 87 (c .before .before .if9 .left), ne-eqb _ 85 (c .before .if10 .left), eq-eqb _ 77 (c .if11 .taken))
+returns-11 c = rw (ne-eqb _ 82 (c .before .before .before .before .before .before .before .before .before .before .if1 .left), ne-eqb _ 74 (c .before .before .before .before .before .before .before .before .before .if2 .left), ne-eqb _ 90 (c .before .before .before .before .before .before .before .before .if3 .left), ne-eqb _ 71 (c .before .before .before .before .before .before .before .if4 .left), ne-eqb _ 72 (c .before .before .before .before .before .before .if5 .left), ne-eqb _ 76 (c .before .before .before .before .before .if6 .left), ne-eqb _ 68 (c .before .before .before .before .if7 .left), ne-eqb _ 69 (c .before .before .before .if8 .left), ne-eqb _ 87 (c .before .before .if9 .left), ne-eqb _ 85 (c .before .if10 .left), eq-eqb _ 116 (c .if11 .taken))
 
 returns-12 : tie.Need-returns-12
 unfolding withNumber choose
-returns-12 c = rw (ne-eqb _ 82 (c .before .before .before .before .before .before .before .before .before .before .before .if1 .left), ne-eqb _ 74 (c .before .before .before .before .before .before .before .before .before .before .if2 .left), ne-eqb _ 90 (c .before .before .before .before .before .before .before .before .before .if3 .left), ne-eqb _ 71 (c .before .before .before .before .before .before .before .before .if4 .left), ne-eqb _ 72 (c .before .before .before .before .before .before .before .if5 .left), ne-eqb _ 76 (c .before .before .before .before .before .before .if6 .left), ne-eqb _ 68 (c .before .before .before .before .before .if7 .left), ne-eqb _ 69 (c .before .before .before .before .if8 .left), ne-eqb _ 87 (c .before .before .before .if9 .left), ne-eqb _ 85 (c .before .before .if10 .left), ne-eqb _ 77 (c .before .if11 .left), eq-eqb _ 120 (c .if12 .taken))
+returns-12 c = rw (ne-eqb _ 82 (c .before .before .before .before .before .before .before .before .before .before .before .if1 .left), ne-eqb _ 74 (c .before .before .before .before .before .before .before .before .before .before .if2 .left), ne-eqb _ 90 (c .before .before .before .before .before .before .before .before .before .if3 .left), ne-eqb _ 71 (c .before .before .before .before .before .before .before .before .if4 .left), ne-eqb _ 72 (c .before .before .before .before .before .before .before .if5 .left), ne-eqb _ 76 (c .before .before .before .before .before .before .if6 .left), ne-eqb _ 68 (c .before .before .before .before .before .if7 .left), ne-eqb _ 69 (c .before .before .before .before .if8 .left), ne-eqb _ 87 (c .before .before .before .if9 .left), ne-eqb _ 85 (c .before .before .if10 .left), ne-eqb _ 116 (c .before .if11 .left), eq-eqb _ 77 (c .if12 .taken))
 
 returns-13 : tie.Need-returns-13
 unfolding withNumber choose
-returns-13 c = rw (ne-eqb _ 82 (c .before .before .before .before .before .before .before .before .before .before .before .before .if1 .left), ne-eqb _ 74 (c .before .before .before .before .before .before .before .before .before .before .before .if2 .left), ne-eqb _ 90 (c .before .before .before .before .before .before .before .before .before .before .if3 .left), ne-eqb _ 71 (c .before .before .before .before .before .before .before .before .before .if4 .left), ne-eqb _ 72 (c .before .before .before .before .before .before .before .before .if5 .left), ne-eqb _ 76 (c .before .before .before .before .before .before .before .if6 .left), ne-eqb _ 68 (c .before .before .before .before .before .before .if7 .left), ne-eqb _ 69 (c .before .before .before .before .before .if8 .left), ne-eqb _ 87 (c .before .before .before .before .if9 .left), ne-eqb _ 85 (c .before .before .before .if10 .left), ne-eqb _ 77 (c .before .before .if11 .left), ne-eqb _ 120 (c .before .if12 .left), eq-eqb _ 110 (c .if13 .taken))
+returns-13 c = rw (ne-eqb _ 82 (c .before .before .before .before .before .before .before .before .before .before .before .before .if1 .left), ne-eqb _ 74 (c .before .before .before .before .before .before .before .before .before .before .before .if2 .left), ne-eqb _ 90 (c .before .before .before .before .before .before .before .before .before .before .if3 .left), ne-eqb _ 71 (c .before .before .before .before .before .before .before .before .before .if4 .left), ne-eqb _ 72 (c .before .before .before .before .before .before .before .before .if5 .left), ne-eqb _ 76 (c .before .before .before .before .before .before .before .if6 .left), ne-eqb _ 68 (c .before .before .before .before .before .before .if7 .left), ne-eqb _ 69 (c .before .before .before .before .before .if8 .left), ne-eqb _ 87 (c .before .before .before .before .if9 .left), ne-eqb _ 85 (c .before .before .before .if10 .left), ne-eqb _ 116 (c .before .before .if11 .left), ne-eqb _ 77 (c .before .if12 .left), eq-eqb _ 120 (c .if13 .taken))
 
 returns-14 : tie.Need-returns-14
 unfolding withNumber choose
-returns-14 c = rw (ne-eqb _ 82 (c .before .before .before .before .before .before .before .before .before .before .before .before .if1 .left), ne-eqb _ 74 (c .before .before .before .before .before .before .before .before .before .before .before .if2 .left), ne-eqb _ 90 (c .before .before .before .before .before .before .before .before .before .before .if3 .left), ne-eqb _ 71 (c .before .before .before .before .before .before .before .before .before .if4 .left), ne-eqb _ 72 (c .before .before .before .before .before .before .before .before .if5 .left), ne-eqb _ 76 (c .before .before .before .before .before .before .before .if6 .left), ne-eqb _ 68 (c .before .before .before .before .before .before .if7 .left), ne-eqb _ 69 (c .before .before .before .before .before .if8 .left), ne-eqb _ 87 (c .before .before .before .before .if9 .left), ne-eqb _ 85 (c .before .before .before .if10 .left), ne-eqb _ 77 (c .before .before .if11 .left), ne-eqb _ 120 (c .before .if12 .left), ne-eqb _ 110 (c .if13 .left))
+returns-14 c = rw (ne-eqb _ 82 (c .before .before .before .before .before .before .before .before .before .before .before .before .before .if1 .left), ne-eqb _ 74 (c .before .before .before .before .before .before .before .before .before .before .before .before .if2 .left), ne-eqb _ 90 (c .before .before .before .before .before .before .before .before .before .before .before .if3 .left), ne-eqb _ 71 (c .before .before .before .before .before .before .before .before .before .before .if4 .left), ne-eqb _ 72 (c .before .before .before .before .before .before .before .before .before .if5 .left), ne-eqb _ 76 (c .before .before .before .before .before .before .before .before .if6 .left), ne-eqb _ 68 (c .before .before .before .before .before .before .before .if7 .left), ne-eqb _ 69 (c .before .before .before .before .before .before .if8 .left), ne-eqb _ 87 (c .before .before .before .before .before .if9 .left), ne-eqb _ 85 (c .before .before .before .before .if10 .left), ne-eqb _ 116 (c .before .before .before .if11 .left), ne-eqb _ 77 (c .before .before .if12 .left), ne-eqb _ 120 (c .before .if13 .left), eq-eqb _ 110 (c .if14 .taken))
+
+returns-15 : tie.Need-returns-15
+unfolding withNumber choose
+returns-15 c = rw (ne-eqb _ 82 (c .before .before .before .before .before .before .before .before .before .before .before .before .before .if1 .left), ne-eqb _ 74 (c .before .before .before .before .before .before .before .before .before .before .before .before .if2 .left), ne-eqb _ 90 (c .before .before .before .before .before .before .before .before .before .before .before .if3 .left), ne-eqb _ 71 (c .before .before .before .before .before .before .before .before .before .before .if4 .left), ne-eqb _ 72 (c .before .before .before .before .before .before .before .before .before .if5 .left), ne-eqb _ 76 (c .before .before .before .before .before .before .before .before .if6 .left), ne-eqb _ 68 (c .before .before .before .before .before .before .before .if7 .left), ne-eqb _ 69 (c .before .before .before .before .before .before .if8 .left), ne-eqb _ 87 (c .before .before .before .before .before .if9 .left), ne-eqb _ 85 (c .before .before .before .before .if10 .left), ne-eqb _ 116 (c .before .before .before .if11 .left), ne-eqb _ 77 (c .before .before .if12 .left), ne-eqb _ 120 (c .before .if13 .left), ne-eqb _ 110 (c .if14 .left))
 
 pub with-number-spec : {M : Type 1} → statement M
 with-number-spec =
@@ -78,4 +82,5 @@ with-number-spec =
     returns-11
     returns-12
     returns-13
-    returns-14)
+    returns-14
+    returns-15)

@@ -24,12 +24,17 @@ returns-2 : tie.Need-returns-2
 unfolding frameOf choose sizes moves
 returns-2 c = rw (← c .before .before .before .before .before .before .is-connected .ensures, c .before .before .before .before .before .if1 .left, c .before .if2 .taken) (c .became2 .ensures, refl)
 
+count-blocked-receive-requires : tie.Need-count-blocked-receive-requires
+count-blocked-receive-requires c κs = search needs
+
 became-requires-3 : tie.Need-became-requires-3
 became-requires-3 c κs = search needs
 
 returns-3 : tie.Need-returns-3
 unfolding frameOf choose sizes moves
-returns-3 c = rw (← c .before .before .before .before .before .before .before .is-connected .ensures, c .before .before .before .before .before .before .if1 .left, c .before .before .if2 .left, c .before .if3 .taken) (c .became3 .ensures, refl)
+returns-3 c =
+    let w = c .before .before in
+    rw (← w .before .before .before .before .before .before .is-connected .ensures, w .before .before .before .before .before .if1 .left, w .before .if2 .left, w .if3 .taken, ← c .before .count-blocked-receive .ensures) (c .became3 .ensures, refl)
 
 received-through-requires : tie.Need-received-through-requires
 received-through-requires c κs = search needs
@@ -37,10 +42,13 @@ received-through-requires c κs = search needs
 with-account-requires : tie.Need-with-account-requires
 with-account-requires c κs = search needs
 
+count-received-requires : tie.Need-count-received-requires
+count-received-requires c κs = search needs
+
 join-requires : tie.Need-join-requires
 join-requires c κs =
-    let a = c .before .before .before .before .before .before .before .before .before .before .before .before in
-    (a .pre .0, rw (c .before .with-account .ensures) (a .pre .1), a .pre .2)
+    let a = c .before .before .before .before .before .before .before .before .before .before .before .before .before in
+    (a .pre .0, rw (c .before .count-received .ensures, c .before .before .with-account .ensures) (a .pre .1), a .pre .2)
 
 same-length : tie.Need-same-length
 same-length c = search needs
@@ -48,8 +56,10 @@ same-length c = search needs
 returns-4 : tie.Need-returns-4
 unfolding frameOf choose
 returns-4 c =
-    let e = rw (c .before .before .before .before .with-account .ensures, c .before .before .before .before .before .received-through .ensures) at (c .before .before .join .ensures) in
-    rw (← c .before .before .before .before .before .before .before .before .before .before .before .before .is-connected .ensures, c .before .before .before .before .before .before .before .before .before .before .before .if1 .left, c .before .before .before .before .before .before .before .if2 .left, c .before .before .before .before .before .before .if3 .left) e
+    let z = c .before .before .before .before in
+    let y = z .before in
+    let e = rw (z .count-received .ensures, y .with-account .ensures, y .before .received-through .ensures) at (c .before .before .join .ensures) in
+    rw (← y .before .before .before .before .before .before .before .before .is-connected .ensures, y .before .before .before .before .before .before .before .if1 .left, y .before .before .before .if2 .left, y .before .before .if3 .left) e
 
 pub frame-in-spec : {M : Type 1} → statement M
 frame-in-spec =
@@ -60,10 +70,12 @@ frame-in-spec =
     returns
     became-requires-2
     returns-2
+    count-blocked-receive-requires
     became-requires-3
     returns-3
     received-through-requires
     with-account-requires
+    count-received-requires
     join-requires
     same-length
     returns-4)

@@ -43,6 +43,9 @@ send-job-requires c κs = search needs
 enum-known-r : tie.Need-enum-known-r
 enum-known-r c = search needs
 
+blocked-by-requires : tie.Need-blocked-by-requires
+blocked-by-requires c κs = search needs
+
 refused-requires-3 : tie.Need-refused-requires-3
 refused-requires-3 c κs = search needs
 
@@ -70,13 +73,16 @@ sub-with-peer-credits c =
 with-peer-credits-requires : tie.Need-with-peer-credits-requires
 with-peer-credits-requires c κs = search needs
 
+count-sent-requires : tie.Need-count-sent-requires
+count-sent-requires c κs = search needs
+
 same-length : tie.Need-same-length
 same-length c = search needs
 
 returns-3 : tie.Need-returns-3
 unfolding sentFrom plannedFrom choose outputAfter
 returns-3 c =
-    let w = c .before .before .before .before .before .before in
+    let w = c .before .before .before .before .before .before .before in
     rw (
       ← w .before .before .before .before .before .before .is-connected .ensures,
       w .before .before .before .before .before .if1 .left,
@@ -84,8 +90,9 @@ returns-3 c =
       w .before .before .if2 .left,
       ← w .send-job .ensures .0,
       w .send-job .ensures .1,
-      c .before .before .r .given .1,
+      c .before .before .before .r .given .1,
       c .refused3 .ensures,
+      c .before .blocked-by .ensures,
     )
 
 same-length-2 : tie.Need-same-length-2
@@ -94,7 +101,7 @@ same-length-2 c = search needs
 returns-4 : tie.Need-returns-4
 unfolding sentFrom plannedFrom choose outputAfter
 returns-4 c =
-    let w = c .before .before .before .before .before .before in
+    let w = c .before .before .before .before .before .before .before in
     rw (
       ← w .before .before .before .before .before .before .is-connected .ensures,
       w .before .before .before .before .before .if1 .left,
@@ -102,8 +109,9 @@ returns-4 c =
       w .before .before .if2 .left,
       ← w .send-job .ensures .0,
       w .send-job .ensures .1,
-      c .before .before .n .given .1,
-      c .with-peer-credits .ensures,
+      c .before .before .before .n .given .1,
+      c .count-sent .ensures,
+      c .before .with-peer-credits .ensures,
     )
 
 pub send-from-spec : {M : Type 1} → statement M
@@ -118,11 +126,13 @@ send-from-spec =
     returns-2
     send-job-requires
     enum-known-r
+    blocked-by-requires
     refused-requires-3
     enum-known-n
     cast-used
     sub-with-peer-credits
     with-peer-credits-requires
+    count-sent-requires
     same-length
     returns-3
     same-length-2

@@ -7,7 +7,7 @@ fresh-requires : tie.Need-fresh-requires
 fresh-requires c κs = search needs
 
 returns : tie.Need-returns
-returns c = rw (c .before .before .before .before .fresh .ensures)
+returns c = rw (c .before .before .before .before .before .fresh .ensures)
 
 pub attempted-spec : {M : Type 1} → statement M
 attempted-spec = tie.close (tie.spec fresh-requires returns)

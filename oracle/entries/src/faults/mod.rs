@@ -9,9 +9,10 @@ mod others;
 mod portions;
 mod states;
 mod takes;
+mod tallies;
 
 use crate::memory::{Asked, Memory};
-use language::{Call, Sight, SlotView};
+use language::{Call, Sight, SlotView, Tallies};
 
 pub struct Fault {
     pub title: &'static str,
@@ -21,16 +22,22 @@ pub struct Fault {
 
 /// The list; the client's lost line is the first.
 pub fn all() -> impl Iterator<Item = &'static Fault> {
-    let lists =
-        [jobs::FAULTS, others::FAULTS, credits::FAULTS, states::FAULTS, answers::FAULTS, portions::FAULTS, least::FAULTS, takes::FAULTS];
-    lists.into_iter().flatten()
+    let base = [jobs::FAULTS, others::FAULTS, credits::FAULTS, states::FAULTS, answers::FAULTS];
+    let of_02 = [portions::FAULTS, least::FAULTS, takes::FAULTS, tallies::FAULTS];
+    base.into_iter().chain(of_02).flatten()
 }
 
-/// What a fault keeps from call to call, by slot: the numbers and octets of an assembly that was open when its channel ended; that its last take was short.
+/// Those that show where tallies are near 2^64.
+pub fn wrapping() -> impl Iterator<Item = &'static Fault> {
+    tallies::WRAPPING.iter()
+}
+
+/// What a fault keeps from call to call, by slot: the numbers and octets of an assembly that was open when its channel ended; that its last take was short; its last owner's tallies.
 #[derive(Default)]
 pub struct Kept {
     assemblies: [Option<(u16, u16, Vec<u8>)>; 16],
     short: [bool; 16],
+    tallies: [Tallies; 16],
 }
 
 /// A call that was made, and what stood before it.

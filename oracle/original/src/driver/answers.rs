@@ -90,6 +90,8 @@ impl<const M: usize> Driver<'_, M> {
             jobs: self.channels.job_lengths(slot),
             job: self.jobs[slot].as_ref().map(OpenJob::view),
             stale: self.tracks.stale(slot),
+            tallies: self.channels.tallies(slot),
+            inherited: self.tracks.inherited(slot),
         }
     }
 

@@ -98,6 +98,7 @@ impl<'d, const M: usize> Driver<'d, M> {
             Call::Take { size, .. } => self.take(slot, usize::from(*size)),
             Call::Attention => self.attention(),
             Call::Queries { .. } => self.queries(slot),
+            Call::Tallies { .. } => self.tallies(slot),
             Call::ParameterRequest { link, min, max, latency, timeout } => self.parameter_request(
                 *link,
                 &ConnParamUpdateReq { interval_min: *min, interval_max: *max, latency: *latency, timeout: *timeout },
@@ -322,6 +323,13 @@ impl<'d, const M: usize> Driver<'d, M> {
         let (channels, at) = (self.channels, index(slot));
         let row = Row::number(0).column(channels.spsm(at)).column(channels.mtu(at)).column(channels.mps(at));
         row.column(channels.peer_mtu(at)).column(channels.peer_mps(at))
+    }
+
+    fn tallies(&self, slot: u8) -> Row {
+        match self.channels.told_tallies(slot) {
+            Some(tallies) => tallies.numbers().iter().fold(Row::number(0), Row::column),
+            None => Row::new(Answer::Skipped).not_run(reasons::METRICS),
+        }
     }
 
     fn parameter_request(&mut self, link: u16, param: &ConnParamUpdateReq) -> Row {

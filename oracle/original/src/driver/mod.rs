@@ -174,5 +174,6 @@ mod reasons {
     pub const PACKET: &str = "Packet: a payload longer than M has no packet";
     pub const BUFFER: &str = "the buffer of a job in portions: the original has none";
     pub const PORTION: &str = "a portion that gives out no frame: the original has none";
+    pub const METRICS: &str = "the tallies: this build of the original has no `channel-metrics`";
     pub const UNREAD: &str = "the line cannot be read";
 }

@@ -5,7 +5,7 @@
 use super::{reasons, Driver};
 use crate::channel_manager::{ChannelState, CreditGrant};
 use crate::stand_ins::pool::Octets;
-use language::{JobView, Row};
+use language::{JobView, Row, Tallies};
 
 const HEAD: usize = 4;
 
@@ -50,6 +50,9 @@ impl<const M: usize> Driver<'_, M> {
         }
         let job = OpenJob { grant, length, zeros, taken: Vec::new(), given: Vec::new(), filled: 2 };
         if usize::from(size) < job.buffer() {
+            // What was sent for the frames' sizes is taken back.
+            let tallies = self.channels.tallies(at);
+            self.channels.put_tallies(at, Tallies { sent: tallies.sent.wrapping_sub(count as u64), ..tallies });
             return Row::number(3).not_run(reasons::BUFFER);
         }
         self.write(at, 0, &job.zeros[0][..HEAD + 2]);
@@ -99,13 +102,14 @@ impl<const M: usize> Driver<'_, M> {
         row.octets(frame).column(taken.len()).column(1)
     }
 
-    /// The frame that is full, of what the original sends of the job. The credits of its record are put aside for that.
+    /// The frame that is full, of what the original sends of the job. The credits and tallies of its record are put aside for that.
     fn next_frame(&mut self, at: usize, job: &OpenJob<'_>) -> Vec<u8> {
         let mut sdu = job.taken.clone();
         sdu.resize(job.length, 0);
-        let credits = self.channels.put_credits(at, job.zeros.len() as u16);
+        let (credits, tallies) = (self.channels.put_credits(at, job.zeros.len() as u16), self.channels.tallies(at));
         let sent = self.frames(at as u8, &sdu).unwrap_or_else(|row| panic!("the original sent a job of that length before: {row}"));
         assert_eq!(self.channels.put_credits(at, credits), 0, "a credit a frame");
+        self.channels.put_tallies(at, tallies);
         let (before, rest) = sent.split_at(job.given.len());
         assert_eq!(before, job.given, "the frames before it are what they were");
         rest[0].clone()

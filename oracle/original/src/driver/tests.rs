@@ -5,7 +5,7 @@ use super::{poll_once, with_driver, Driver};
 use crate::channel_manager::eyes::index;
 use crate::stand_ins::pool::Pool;
 use crate::PacketPool;
-use language::{hex, Call, Eyes, Manner, Reply};
+use language::{hex, Call, Eyes, Manner, Reply, Tallies};
 use std::pin::pin;
 use std::task::Poll;
 
@@ -139,14 +139,42 @@ fn a_packet_handed_over_is_the_job_copied() {
     });
 }
 
-/// Difference 44: with no credits left the one form refuses and the other waits.
+/// Differences 44 and 58: with no credits left the one form refuses and the other waits. Both count a blocked send: the one a call, the other a poll.
 #[test]
 fn without_credits_one_send_refuses_and_the_other_waits() {
     let used_up = format!("{OPEN}\nK 0 {}", "00".repeat(100));
     twice(&used_up, |tries, waits| {
         assert_eq!(play(tries, "K 0 aa"), ["14 -"]);
         let mut packet = Pool::<64>::allocate().expect("the pool is never empty");
-        assert!(poll_once(pin!(waits.channels.send(index(0), &[0xaa], packet.as_mut(), waits.host()))).is_pending());
+        let mut send = pin!(waits.channels.send(index(0), &[0xaa], packet.as_mut(), waits.host()));
+        for polls in 1..=3 {
+            assert!(poll_once(send.as_mut()).is_pending());
+            assert_eq!(waits.channels.tallies(0).blocked_sends, polls);
+        }
+        assert_eq!(tries.channels.tallies(0).blocked_sends, 1);
         assert_eq!(seen(tries), seen(waits));
+    });
+}
+
+/// Difference 56: what a send counts is counted before its frames are written. One that has no memory for them gives its credits back, and counts all the same.
+#[test]
+fn a_send_that_lacks_its_output_has_counted() {
+    twice(OPEN, |lacks, sends| {
+        play(sends, "K 0 aabbcc");
+        let mut short = [0; 8];
+        assert!(lacks.channels.try_send(index(0), &[0xaa, 0xbb, 0xcc], &mut short, lacks.host()).is_err());
+        assert_eq!(lacks.channels.tallies(0), sends.channels.tallies(0));
+        assert_eq!(lacks.channels.tallies(0), Tallies { sent: 1, received: 1, ..Tallies::default() });
+        assert_eq!((lacks.channels.record(0).peer_credits, sends.channels.record(0).peer_credits), (5, 4));
+    });
+}
+
+/// Difference 57: the numbers wrap, each by itself. They have the machine's width.
+#[test]
+fn the_numbers_wrap() {
+    twice(&format!("{OPEN}\nK 0 {}", "00".repeat(78)), |driver, _| {
+        driver.channels.put_tallies(0, Tallies::all(usize::MAX as u64));
+        assert_eq!(play(driver, "K 0 aa\nK 0 aa\nF 1 64 00\nF 1 64 00"), ["0 030050000100aa 1", "14 -", "0 -", "10 -"]);
+        assert_eq!(driver.channels.tallies(0), Tallies::all(0));
     });
 }

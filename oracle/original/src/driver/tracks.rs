@@ -1,15 +1,16 @@
 //! What the driver follows beside the original's records: which disconnects of our own were announced (the original has no such mark),
-//! and which slots were taken while numbers of their last owner stood in the record.
+//! which slots were taken while numbers of their last owner stood in the record, and what of their tallies was an earlier owner's.
 
 use super::Driver;
 use crate::channel_manager::ChannelState;
-use language::{Answer, Row, Stale};
+use language::{Answer, Row, Stale, Tallies};
 use std::panic::{catch_unwind, AssertUnwindSafe};
 
 #[derive(Default)]
 pub(super) struct Tracks {
     announced: [bool; 16],
     stale: [Stale; 16],
+    inherited: [Tallies; 16],
 }
 
 impl Tracks {
@@ -19,6 +20,10 @@ impl Tracks {
 
     pub(super) fn stale(&self, slot: usize) -> Stale {
         self.stale[slot]
+    }
+
+    pub(super) fn inherited(&self, slot: usize) -> Tallies {
+        self.inherited[slot]
     }
 
     pub(super) fn announce(&mut self, slot: usize) {
@@ -58,6 +63,15 @@ impl<const M: usize> Driver<'_, M> {
         }
         if state != ChannelState::Disconnecting {
             self.tracks.announced[slot] = false;
+        }
+        // They are reset all at once, and nothing is counted in the same call; a free that doesn't reset them leaves them to the next owner.
+        let tallies = self.channels.tallies(slot);
+        if state == ChannelState::Disconnected || tallies == Tallies::default() {
+            self.tracks.inherited[slot] = tallies;
+        }
+        if self.manner.counted > 0 && state == ChannelState::Connected && state_before != state {
+            self.tracks.inherited[slot] = Tallies::default();
+            self.channels.put_tallies(slot, Tallies::all(self.manner.counted));
         }
         let left_behind = state_before == ChannelState::Disconnected && cid_before != 0;
         self.tracks.stale[slot] = match state {

@@ -1,5 +1,5 @@
 //! Reads the records and calls the private functions of the channel manager, of which this is a child module. The writes are
-//! `hide` and `restore`, which keep slots out of one scan, `put_credits`, which puts a record's credits aside while a job is sent again, `close`, which is the body of the original's `OnDrop` in `create`, and the two
+//! `hide` and `restore`, which keep slots out of one scan, `put_credits` and `put_tallies`, which put a record's numbers aside while a job is sent again, `close`, which is the body of the original's `OnDrop` in `create`, and the two
 //! halves of a planted fault. `encode_job` is for `../speed` alone.
 
 use super::{encode, ChannelIndex, ChannelManager, ChannelState, CreditFlowPolicy, CreditGrant, DisconnectRequest};
@@ -11,6 +11,7 @@ use crate::{BleHostError, PacketPool};
 use bt_hci::controller::Controller;
 use bt_hci::param::ConnHandle;
 use core::task::Poll;
+use language::Tallies;
 
 /// A slot's record as it stands.
 pub(crate) struct Record {
@@ -151,6 +152,47 @@ impl<'d, P: PacketPool> ChannelManager<'d, P> {
 impl<P: PacketPool> DisconnectRequest<'_, P> {
     pub(crate) fn slot(&self) -> usize {
         usize::from(self.index.0)
+    }
+}
+
+/// The numbers of `channel-metrics`.
+#[cfg(feature = "channel-metrics")]
+impl<P: PacketPool> ChannelManager<'_, P> {
+    pub(crate) fn tallies(&self, slot: usize) -> Tallies {
+        tallies(&self.channels.borrow()[slot].metrics)
+    }
+
+    /// Has other numbers stand in a record.
+    pub(crate) fn put_tallies(&self, slot: usize, tallies: Tallies) {
+        let [num_sent, num_received, blocked_send, blocked_receive] = tallies.numbers().map(|number| number as usize);
+        self.channels.borrow_mut()[slot].metrics = super::Metrics { num_sent, num_received, blocked_send, blocked_receive };
+    }
+
+    /// What the original's `metrics` tells.
+    pub(crate) fn told_tallies(&self, slot: u8) -> Option<Tallies> {
+        Some(self.metrics(ChannelIndex(slot), tallies))
+    }
+}
+
+#[cfg(feature = "channel-metrics")]
+fn tallies(metrics: &super::Metrics) -> Tallies {
+    let [sent, received] = [metrics.num_sent as u64, metrics.num_received as u64];
+    Tallies { sent, received, blocked_sends: metrics.blocked_send as u64, blocked_receives: metrics.blocked_receive as u64 }
+}
+
+/// Without that feature there are none.
+#[cfg(not(feature = "channel-metrics"))]
+impl<P: PacketPool> ChannelManager<'_, P> {
+    pub(crate) fn tallies(&self, _slot: usize) -> Tallies {
+        Tallies::default()
+    }
+
+    pub(crate) fn put_tallies(&self, _slot: usize, _tallies: Tallies) {}
+
+    /// A slot past the table panics as `metrics` does.
+    pub(crate) fn told_tallies(&self, slot: u8) -> Option<Tallies> {
+        drop(self.channel(ChannelIndex(slot)));
+        None
     }
 }
 

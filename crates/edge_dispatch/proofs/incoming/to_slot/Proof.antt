@@ -1,9 +1,5 @@
 -- `edge_dispatch::incoming::to_slot` meets its contract: the work on the slot that the row says, its columns and the answer written.
-use Rattle.definition.specs.Mem.{sizes}
-use Rattle.definition.specs.Table.{placeSize}
-use Rattle.edge_layout.specs.Layout.{cell, slotIn}
-use Rattle.slot_frame.specs.Admitted.{frame-quiet}
-use Rattle.edge_placed.specs.Incoming.{framedEdge}
+use Rattle.edge_placed.specs.Incoming.{framed-edge}
 use borrow.Author.Needs.{needs}
 use Rattle.edge_dispatch.proofs.incoming.to_slot.Statement.{statement}
 use Rattle.edge_dispatch.proofs.incoming.to_slot.Tie as tie
@@ -32,12 +28,12 @@ same-length-3 : tie.Need-same-length-3
 same-length-3 c = search needs
 
 returns : tie.Need-returns
-unfolding framedEdge sizes
 returns c =
     let g = c .before .before .before .before .before .before .before .before .before .before .before .before .before .before .before .before .before .before .before .args in
-    let f = rw (c .before .before .before .before .before .before .before .before .before .before .before .before .before .row .ensures) at (c .before .before .before .before .before .before .before .before .before .before .before .frame-at .ensures) in
+    let w = c .before .before .before .before .before .before .before .before .before .before .before in
     let told = c .before .before .put-answer .ensures in
-    rw (told .0, told .1, c .before .before .before .before .before .before .put-row .ensures, f .1, f .0, frame-quiet (g .d) (placeSize (g .m)) (slotIn (cell (g .table .now) (g .s))) (g .link) (g .payload .now))
+    framed-edge (g .table .now) (g .answer .now) (g .room .now) (g .payload .now) (g .d) (g .m) (g .s) (g .link)
+    (w .before .before .row .ensures) (w .frame-at .ensures .0) (w .frame-at .ensures .1) (c .before .before .before .before .before .before .put-row .ensures) (told .0) (told .1)
 
 pub to-slot-spec : {M : Type 1} → statement M
 to-slot-spec =

@@ -55,6 +55,15 @@ put-peer-credits-requires c κs =
     let one : leb (getD o 1 0) slot ≡ false = lt-leb (getD o 1 0) slot (c .before .before .before .before .before .before .before .before .if1 .left) in
     (omega (arith, valid-long o (start .pre)), slot-within o slot (start .pre) one)
 
+put-sends-requires : tie.Need-put-sends-requires
+put-sends-requires c κs =
+    let tested = c .before .before .before .before .before .before .before .before .before .before .before .before .before in
+    let start = tested .before .before .before .before .before .before in
+    let o = start .args .table .now in
+    let slot = start .args .slot in
+    let one : leb (getD o 1 0) slot ≡ false = lt-leb (getD o 1 0) slot (tested .if1 .left) in
+    (omega (arith, valid-long o (start .pre)), slot-within o slot (start .pre) one)
+
 put-answer-requires-2 : tie.Need-put-answer-requires-2
 put-answer-requires-2 c κs = search needs
 
@@ -69,15 +78,15 @@ same-length-4 c = search needs
 
 returns-2 : tie.Need-returns-2
 returns-2 c =
-    let tested = c .before .before .before .before .before .before .before .before .before .before .before .before .before .before .before in
+    let tested = c .before .before .before .before .before .before .before .before .before .before .before .before .before .before .before .before .before .before .before .before in
     let start = tested .before .before .before .before .before .before in
     let a = start .args in
     let o = a .table .now in
     let one : leb (getD o 1 0) (a .slot) ≡ false = lt-leb (getD o 1 0) (a .slot) (tested .if1 .left) in
     let told = c .before .before .put-answer2 .ensures in
-    let w = c .before .before .before .before .before .before .before .before .before .before .before in
+    let w = c .before .before .before .before .before .before .before .before .before .before .before .before .before .before .before .before in
     let worked = w .send-from .ensures ∙ ap (λ (x : Slot). sentFrom x (a .sdu .now) (a .out .now)) (w .before .before .row .ensures) in (
-      rw (told .0, told .1, c .before .before .before .before .before .before .put-peer-credits .ensures) (sent-placed o (a .answer .now) (a .out .now) (a .sdu .now) (a .slot) (start .pre) one worked),
+      rw (told .0, told .1, c .before .before .before .before .before .before .put-sends .ensures, c .before .before .before .before .before .before .before .before .before .before .before .put-peer-credits .ensures) (sent-placed o (a .answer .now) (a .out .now) (a .sdu .now) (a .slot) (start .pre) one worked),
       octets-sent o (a .answer .now) (a .out .now) (a .sdu .now) (a .slot) (start .pre) one worked,
     )
 
@@ -92,6 +101,7 @@ sent-spec =
     row-requires
     send-from-requires
     put-peer-credits-requires
+    put-sends-requires
     put-answer-requires-2
     same-length-2
     same-length-3

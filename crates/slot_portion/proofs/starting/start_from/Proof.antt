@@ -37,6 +37,9 @@ plan-send-requires c κs = search needs
 enum-known-r : tie.Need-enum-known-r
 enum-known-r c = search needs
 
+blocked-by-requires : tie.Need-blocked-by-requires
+blocked-by-requires c κs = search needs
+
 became-requires-3 : tie.Need-became-requires-3
 became-requires-3 c κs = search needs
 
@@ -97,17 +100,20 @@ sub-with-peer-credits c =
 with-peer-credits-requires : tie.Need-with-peer-credits-requires
 with-peer-credits-requires c κs = search needs
 
+count-sent-requires : tie.Need-count-sent-requires
+count-sent-requires c κs = search needs
+
 with-job-requires : tie.Need-with-job-requires
 with-job-requires c κs = search needs
 
 returns-4 : tie.Need-returns-4
 unfolding startOf startPlannedOf choose
 returns-4 c =
-    let w = c .before .before .before .before in
-    let a = c .before .before .before .before .before .before .before .before .before .args in
+    let w = c .before .before .before .before .before in
+    let a = c .before .before .before .before .before .before .before .before .before .before .args in
     let x = a .x in
-    let p = plan-enough (a .stated) (x .peer .mtu) (x .peer .mps) (x .peer .credits) (omega (arith, c .before .before .before .before .before .before .before .before .before .good)) in
-    rw (← c .before .before .before .before .before .before .before .is-connected .ensures, c .before .before .before .before .before .before .if1 .left, le-ltb _ _ (c .before .before .before .before .before .if2 .left), ← p, ← w .plan-send .ensures, c .before .before .r .given .1, written-none [] [] (a .buffer .now), c .became3 .ensures)
+    let p = plan-enough (a .stated) (x .peer .mtu) (x .peer .mps) (x .peer .credits) (omega (arith, c .before .before .before .before .before .before .before .before .before .before .good)) in
+    rw (← c .before .before .before .before .before .before .before .before .is-connected .ensures, c .before .before .before .before .before .before .before .if1 .left, le-ltb _ _ (c .before .before .before .before .before .before .if2 .left), ← p, ← w .plan-send .ensures, c .before .before .before .r .given .1, written-none [] [] (a .buffer .now), c .became3 .ensures, c .before .blocked-by .ensures)
 
 same-length : tie.Need-same-length
 same-length c = search needs
@@ -115,11 +121,11 @@ same-length c = search needs
 returns-5 : tie.Need-returns-5
 unfolding startOf startPlannedOf choose
 returns-5 c =
-    let w = c .before .before .before .before .before .before .before .before .before .before .before in
-    let a = c .before .before .before .before .before .before .before .before .before .before .before .before .before .before .before .before .args in
+    let w = c .before .before .before .before .before .before .before .before .before .before .before .before in
+    let a = c .before .before .before .before .before .before .before .before .before .before .before .before .before .before .before .before .before .args in
     let x = a .x in
-    let p = plan-enough (a .stated) (x .peer .mtu) (x .peer .mps) (x .peer .credits) (omega (arith, c .before .before .before .before .before .before .before .before .before .before .before .before .before .before .before .before .good)) in
-    rw (← c .before .before .before .before .before .before .before .before .before .before .before .before .before .before .is-connected .ensures, c .before .before .before .before .before .before .before .before .before .before .before .before .before .if1 .left, le-ltb _ _ (c .before .before .before .before .before .before .before .before .before .before .before .before .if2 .left), ← p, ← w .plan-send .ensures, c .before .before .before .before .before .before .before .before .before .n .given .1, ← c .before .before .before .before .before .before .before .longest .ensures, le-ltb _ _ (c .before .before .before .before .before .before .if3 .left), written-given [] [] (a .buffer .now) _, c .before .before .before .before .put-first .ensures, c .with-job .ensures, c .before .with-peer-credits .ensures)
+    let p = plan-enough (a .stated) (x .peer .mtu) (x .peer .mps) (x .peer .credits) (omega (arith, c .before .before .before .before .before .before .before .before .before .before .before .before .before .before .before .before .before .good)) in
+    rw (← c .before .before .before .before .before .before .before .before .before .before .before .before .before .before .before .is-connected .ensures, c .before .before .before .before .before .before .before .before .before .before .before .before .before .before .if1 .left, le-ltb _ _ (c .before .before .before .before .before .before .before .before .before .before .before .before .before .if2 .left), ← p, ← w .plan-send .ensures, c .before .before .before .before .before .before .before .before .before .before .n .given .1, ← c .before .before .before .before .before .before .before .before .longest .ensures, le-ltb _ _ (c .before .before .before .before .before .before .before .if3 .left), written-given [] [] (a .buffer .now) _, c .before .before .before .before .before .put-first .ensures, c .with-job .ensures, c .before .count-sent .ensures, c .before .before .with-peer-credits .ensures)
 
 pub start-from-spec : {M : Type 1} → statement M
 start-from-spec =
@@ -132,6 +138,7 @@ start-from-spec =
     returns-2
     plan-send-requires
     enum-known-r
+    blocked-by-requires
     became-requires-3
     enum-known-n
     cast-l
@@ -144,6 +151,7 @@ start-from-spec =
     cast-used
     sub-with-peer-credits
     with-peer-credits-requires
+    count-sent-requires
     with-job-requires
     returns-4
     same-length

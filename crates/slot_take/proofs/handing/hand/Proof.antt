@@ -7,7 +7,7 @@ element-copy-out-len : tie.Need-element-copy-out-len
 element-copy-out-len c = search needs
 
 cast-hand-out : tie.Need-cast-hand-out
-cast-hand-out c = search needs
+cast-hand-out c = search (needs, c .before .before .before .before .before .before .good .1 .1 .1 .1 .0 .1 .1 .1 .1 .1 .1 .1 .1 .1 .1)
 
 hand-out-requires : tie.Need-hand-out-requires
 hand-out-requires c κs = search needs

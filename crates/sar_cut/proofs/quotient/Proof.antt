@@ -30,14 +30,13 @@ loop-again : tie.Need-loop-again Inv-loop μ-loop
 loop-again c =
     let b = c .before .before in
     let within = b .before .pre in
-    let more = c .before .loop-test .taken in
     ⊎-elim
-    (λ w. rw (w .1, w .2) (dividing-counted within (b .loop .inv) more (omega (arith, w .0 .taken))))
-    (λ w. rw (w .1, w .2) (dividing-passed within (b .loop .inv) more (omega (arith, w .0 .left))))
+    (λ w. rw (w .1, w .2) (dividing-counted within (b .loop .inv) (omega arith) (omega (arith, w .0 .taken))))
+    (λ w. rw (w .1, w .2) (dividing-passed within (b .loop .inv) (omega arith) (omega (arith, w .0 .left))))
     (c .if1 .came)
 
 returns : tie.Need-returns Inv-loop μ-loop
-returns c = dividing-last (c .before .before .pre) (c .before .loop .inv) (c .loop-test .left)
+returns c = dividing-last (c .before .before .pre) (c .before .loop .inv) (omega arith)
 
 pub quotient-spec : {M : Type 1} → statement M
 quotient-spec = tie.close (tie.spec Inv-loop μ-loop mul-step loop-holds mul-q add-q loop-less loop-again returns)

@@ -22,7 +22,7 @@ pub fn frame_count(l: u16, mps: u16) -> usize
     if mps == 0 {
         return 0;
     }
-    // so are most jobs, and nothing is divided for them
+    // most jobs are one frame, and nothing is divided for them
     if l as u32 + 2 <= mps as u32 {
         return 1;
     }

@@ -1,4 +1,4 @@
-//! Copying, counting and cutting: the port's proved functions, through the archive of `sar_speed`, beside the original's `encode` loop and the line with which its `send` counts. Both are given the
+//! Copying, counting and cutting: the port's proved functions, through the archive of `sar_speed`, beside the original's `encode` loop and the two lines with which its `send` counts. Both are given the
 //! same octets and must write the same.
 
 use crate::clock::{medians, Clock};
@@ -41,7 +41,7 @@ fn rust_copy(dst: &mut [u8], src: &[u8]) {
     dst[..src.len()].copy_from_slice(src);
 }
 
-/// As `send` counts.
+/// As `send` counts: its two lines.
 #[inline(never)]
 fn original_count(l: u16, mps: u16) -> u16 {
     let len = l.saturating_add(2);

@@ -1,4 +1,4 @@
--- `sar_cut::frame_count` meets its contract: none by 0, one where it holds the stream (laws of the count), and else the definition's quotient.
+-- `sar_cut::frame_count` meets its contract: none by 0, one where one frame holds the stream (laws of the count), and else the definition's quotient.
 use mathlib.Core.Path.{sym}
 use native.Mathlib.Omega.{arith}
 use borrow.Author.Needs.{needs}

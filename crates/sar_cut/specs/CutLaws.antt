@@ -62,6 +62,13 @@ count-holds l mps p = go (ceil (l + 2) mps) (ceil-holds (l + 2) mps p)
     go zero h = absurd (omega (arith, h .enough, zero-mul mps))
     go (suc n) h = record { some = omega arith; enough = h .enough; needed = rw (suc-sub-one n) (omega (arith, h .needed, suc-mul n mps)) }
 
+-- one frame, where it holds the whole stream
+pub count-one : (l mps : ℕ) → l + 2 ≤ mps → frameCount l mps ≡ 1
+unfolding frameCount
+count-one l mps h =
+    let e : l + 2 - mps ≡ 0 = omega arith in
+    ceil-more (l + 2) mps (omega arith) (omega arith) ∙ rw (e, ceil-zero mps (omega arith))
+
 pub count-none : (l : ℕ) → frameCount l 0 ≡ 0
 unfolding frameCount ceil
 count-none l = div-zero _

@@ -3,6 +3,7 @@
 use codes::Refusal;
 use codes::SIZE_LEAST;
 ghost use mathlib.Core.Path.{_≡_};
+ghost use Prim.Native.Nat.{_*_, _/_, _<_};
 ghost use Rattle.sar_cut.specs.Cutting.{frameCount, planSend};
 
 // The longest job whose frame of one payload has a length of two octets.
@@ -21,7 +22,33 @@ pub fn frame_count(l: u16, mps: u16) -> usize
     if mps == 0 {
         return 0;
     }
-    (l as usize + 2 + (mps as usize - 1)) / mps as usize
+    // most jobs are one frame, and nothing is divided for them
+    if l as u32 + 2 <= mps as u32 {
+        return 1;
+    }
+    quotient(l as u32 + 2 + (mps as u32 - 1), mps) as usize
+}
+
+// x divided by m, for boards that have no divide instruction (document 02 (iv)): long division, a bit of the quotient a turn. The steps are m times 2^16, 2^15 and so
+// on down to 1, so that it takes 17 turns whatever the numbers. The loop ends by the step and counts no turns: the compiler writes a loop of a known number out turn by
+// turn, 276 octets more of code.
+fn quotient(x: u32, m: u16) -> u32
+    requires { ⌜ x < m * 131072 ⌝ }
+    ensures { λ r. ⌜ r ≡ x / m ⌝ }
+{
+    let last = m as u32;
+    let mut step = last * 65536;
+    let mut rest = x;
+    let mut q: u32 = 0;
+    while last <= step {
+        q = 2 * q;
+        if step <= rest {
+            rest = rest - step;
+            q = q + 1;
+        }
+        step = step / 2;
+    }
+    q
 }
 
 // What a send of a job of `l` octets comes to, from the peer's MTU, MPS and credits and the octets of the output.

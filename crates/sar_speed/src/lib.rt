@@ -1,8 +1,8 @@
-// Copying and cutting for C and Rust, on numbers and octets: what oracle/speed measures beside the original (docs/PERFORMANCE.md).
+// Copying, counting and cutting for C and Rust, on numbers and octets: what oracle/speed measures beside the original (docs/PERFORMANCE.md).
 ghost use mathlib.Core.Path.{_≡_};
 ghost use lib.ListN.{length};
 ghost use lib.Seq.{sets};
-ghost use Rattle.sar_cut.specs.Cutting.{planSend, outputAfter};
+ghost use Rattle.sar_cut.specs.Cutting.{frameCount, planSend, outputAfter};
 ghost use Rattle.sar_speed.specs.Octets.{octetsOf};
 use sar_cut::Plan;
 
@@ -21,6 +21,14 @@ pub extern "C" fn speed_copy(dst: &mut [u8], src: &[u8])
     ensures { λ _. ⌜ now (dst .exit) ≡ sets (now (dst .entry)) 0 (now (src .entry)) ⌝ }
 {
     octets::copy_to(dst, 0, src, 0, src.len());
+}
+
+// How many frames a job of `l` octets takes.
+#[no_mangle]
+pub extern "C" fn speed_count(l: u16, mps: u16) -> usize
+    ensures { λ r. ⌜ r ≡ frameCount l mps ⌝ }
+{
+    sar_cut::frame_count(l, mps)
 }
 
 // Writes the frames of a job at the output's start, and gives their octets: none where the send is refused.

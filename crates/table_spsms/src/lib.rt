@@ -9,39 +9,11 @@ ghost use Rattle.definition.specs.Table.{isRegistered, registered};
 use channel::SPSM_MOST;
 use channel::Table;
 
-fn two_to(k: u16) -> u8
-    requires { ⌜ k < 8 ⌝ }
-    ensures { λ r. ⌜ r ≡ 2 ^ k ⌝ }
-{
-    if k < 1 {
-        return 1;
-    }
-    if k < 2 {
-        return 2;
-    }
-    if k < 3 {
-        return 4;
-    }
-    if k < 4 {
-        return 8;
-    }
-    if k < 5 {
-        return 16;
-    }
-    if k < 6 {
-        return 32;
-    }
-    if k < 7 {
-        return 64;
-    }
-    128
-}
-
 fn is_set(octet: u8, k: u16) -> bool
     requires { ⌜ k < 8 ⌝ }
     ensures { λ r. ⌜ r ≡ eqb (octet / 2 ^ k % 2) 1 ⌝ }
 {
-    octet / two_to(k) % 2 == 1
+    (octet >> k) % 2 == 1
 }
 
 // The octet with a bit set that was not.
@@ -49,7 +21,7 @@ fn with_bit(octet: u8, k: u16) -> u8
     requires { ⌜ (k < 8) × (eqb (octet / 2 ^ k % 2) 1 ≡ false) ⌝ }
     ensures { λ r. ⌜ r ≡ octet + 2 ^ k ⌝ }
 {
-    octet + two_to(k)
+    octet + (1u8 << k)
 }
 
 pub fn is_registered(t: Table, spsm: u16) -> bool

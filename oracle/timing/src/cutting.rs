@@ -1,8 +1,9 @@
-//! Copying and cutting: the port's proved functions, through the archive of `sar_speed`, beside the original's `encode` loop. Both are given the same octets and must
-//! write the same.
+//! Copying, counting and cutting: the port's proved functions, through the archive of `sar_speed`, beside the original's `encode` loop and the two lines with which its `send` counts. Both are given the
+//! same octets and must write the same.
 
 use crate::clock::{medians, Clock};
 use crate::row::{Table, Times};
+use crate::PAYLOADS;
 use original_d4::encode_job;
 use std::hint::black_box;
 
@@ -15,12 +16,18 @@ const CID: u16 = 0x0040;
 
 extern "C" {
     fn speed_copy(dst: *mut u8, room: usize, src: *const u8, length: usize);
+    fn speed_count(l: u16, mps: u16) -> usize;
     fn speed_send(out: *mut u8, room: usize, cid: u16, mtu: u16, mps: u16, credits: u16, sdu: *const u8, length: usize) -> usize;
 }
 
 fn port_copy(dst: &mut [u8], src: &[u8]) {
     // SAFETY: both are slices with their own lengths, and the archive's contract asks nothing more.
     unsafe { speed_copy(dst.as_mut_ptr(), dst.len(), src.as_ptr(), src.len()) }
+}
+
+fn port_count(l: u16, mps: u16) -> usize {
+    // SAFETY: numbers alone.
+    unsafe { speed_count(l, mps) }
 }
 
 fn port_send(out: &mut [u8], mps: u16, sdu: &[u8]) -> usize {
@@ -32,6 +39,13 @@ fn port_send(out: &mut [u8], mps: u16, sdu: &[u8]) -> usize {
 #[inline(never)]
 fn rust_copy(dst: &mut [u8], src: &[u8]) {
     dst[..src.len()].copy_from_slice(src);
+}
+
+/// As `send` counts: its two lines.
+#[inline(never)]
+fn original_count(l: u16, mps: u16) -> u16 {
+    let len = l.saturating_add(2);
+    len.div_ceil(mps)
 }
 
 #[inline(never)]
@@ -57,6 +71,24 @@ pub fn rows(clock: &Clock, table: &mut Table) {
             rust_copy(black_box(&mut theirs), black_box(&src))
         });
         table.add(format!("copy | {size}"), times);
+    }
+    for frames in [1, FRAMES] {
+        for size in PAYLOADS {
+            let (l, mps) = ((frames * size - 2) as u16, size as u16);
+            assert_eq!(port_count(l, mps), original_count(l, mps) as usize, "the two count otherwise");
+            let times = compare(
+                clock,
+                1,
+                &mut || {
+                    black_box(port_count(black_box(l), black_box(mps)));
+                },
+                &mut || {
+                    black_box(original_count(black_box(l), black_box(mps)));
+                },
+            );
+            let what = if frames == 1 { "count, a job of one frame" } else { "count, a job of sixteen" };
+            table.add(format!("{what} | {size}"), times);
+        }
     }
     for frames in [1, FRAMES] {
         for size in SIZES {

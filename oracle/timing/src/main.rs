@@ -1,4 +1,4 @@
-//! Times the port beside the original, compiled unchanged, in one run: copying and cutting; then the C entries, called on tables whose channels are all open. Both are given the
+//! Times the port beside the original, compiled unchanged, in one run: copying, counting and cutting; then the C entries, called on tables whose channels are all open. Both are given the
 //! same octets and must give the same back. Samples of the two alternate, and their medians are printed, in the end. No time is asserted.
 
 #[path = "../../entries/src/archive.rs"]

@@ -25,6 +25,7 @@ pub record SentFewest (s : State) (i : ℕ) (sdu : List ℕ) (v : Window) (n : �
   pub octets : take (outcome s (sends i sdu v) .octets) (lent v (after s (sends i sdu v) .memory)) ≡ joined (ourFrames s i sdu)
   pub count : length (ourFrames s i sdu) ≡ n
   pub fewest : Least s i sdu n
+  pub told : n ≤ 65535  -- so two octets of an answer tell it
 
 -- A JOB HANDED OVER IN PORTIONS. It was started with n frames on slot i, as that stood in s; d are portions of it, and fs the frames that they gave out. Once it is closed these are our frames of
 -- the whole job. Before its last frame nothing is said here (`SameFrames` of crate rules_portions says which they are).

@@ -3,12 +3,14 @@
 use mathlib.Core.Path.{_≡_, sym, ap, _∙_}
 use mathlib.Core.Bool.{false}
 use mathlib.Core.List.{List}
-use Prim.Native.Nat.{ℕ, _≤_}
+use Prim.Native.Nat.{ℕ, _-_, _*_, _≤_}
+use native.Mathlib.Nat.{mul-le-mul-left}
 use native.Mathlib.Omega.{arith}
 use lib.ListN.{length, length-map}
 use borrow.Author.Tests.{ltb-false}
 use Rattle.codes.specs.Limits.{sizeLeast}
-use Rattle.sar_cut.specs.Cutting.{frameCount, payloads, frame, framesOf}
+use Rattle.sar_cut.specs.Cutting.{frameCount, payloads, frame, framesOf, longestJob}
+use Rattle.sar_cut.specs.CutLaws.{count-holds}
 use Rattle.sar_frames.specs.Theorems.{cut}
 use Rattle.sar_fewest.specs.Theorems.{fewest}
 use Rattle.channel.specs.declared.Answer.the-variants.{Frames}
@@ -32,12 +34,20 @@ module _ (s : State) (i : ℕ) (sdu : List ℕ) (n : ℕ) (wide : sizeLeast ≤ 
       let k = cut (slotIn s i .peer .mps) 0 sdu (omega arith) .count in
       omega arith
 
+-- so few that two octets of an answer tell them
+few : (l mps n : ℕ) → l ≤ longestJob → sizeLeast ≤ mps → n ≡ frameCount l mps → n ≤ 65535
+few l mps n short wide count =
+    let c = count-holds l mps (omega arith) in
+    let q = c .needed in
+    let p : (frameCount l mps - 1) * 1 ≤ (frameCount l mps - 1) * mps = mul-le-mul-left (frameCount l mps - 1) (omega arith) in
+    omega arith
+
 -- A SEND
 pub sent-fewest : (s : State) (i : ℕ) (sdu : List ℕ) (v : Window) (link n : ℕ) → outcome s (sends i sdu v) .answer ≡ Frames link n → SentFewest s i sdu v n
 unfolding decide bare jobs framesOf
 sent-fewest s i sdu v link n a =
     let z = send-sends (s .table) i (length sdu) (length (lent v (s .memory))) link n a .allowed in
-    record { octets = sent-octets s i sdu v link n a; count = counted s i sdu n (z .wide) (z .frames); fewest = least s i sdu n (z .wide) (z .frames) }
+    record { octets = sent-octets s i sdu v link n a; count = counted s i sdu n (z .wide) (z .frames); fewest = least s i sdu n (z .wide) (z .frames); told = few (length sdu) (slotIn s i .peer .mps) n (z .short) (z .wide) (z .frames) }
 
 -- A JOB HANDED OVER IN PORTIONS
 module _ (s : State) (i : ℕ) (sdu : List ℕ) (w : Window) (link n : ℕ) (a : outcome s (starting i (length sdu) w) .answer ≡ Frames link n) where

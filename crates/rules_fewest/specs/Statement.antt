@@ -3,7 +3,7 @@
 use mathlib.Core.Path.{_≡_}
 use mathlib.Core.Bool.{false}
 use mathlib.Core.List.{List, map}
-use Prim.Native.Nat.{ℕ, _≤_}
+use Prim.Native.Nat.{ℕ, _-_, _≤_}
 use lib.ListN.{length, take}
 use Rattle.sar_cut.specs.Cutting.{payloads, frame, joined}
 use Rattle.sar_fewest.specs.Fewest.{Carries}
@@ -24,12 +24,13 @@ Least s i sdu n = (ps : List (List ℕ)) → Carries (slotIn s i .peer .mps) sdu
 pub record SentFewest (s : State) (i : ℕ) (sdu : List ℕ) (v : Window) (n : ℕ) : Type 0 where
   pub octets : take (outcome s (sends i sdu v) .octets) (lent v (after s (sends i sdu v) .memory)) ≡ joined (ourFrames s i sdu)
   pub count : length (ourFrames s i sdu) ≡ n
+  pub credits : slotIn (after s (sends i sdu v)) i .peer .credits ≡ slotIn s i .peer .credits - n
   pub fewest : Least s i sdu n
   pub told : n ≤ 65535  -- so two octets of an answer tell it
 
--- A JOB HANDED OVER IN PORTIONS. It was started with n frames on slot i, as that stood in s; d are portions of it, and fs the frames that they gave out. Once it is closed these are our frames of
--- the whole job. Before its last frame nothing is said here (`SameFrames` of crate rules_portions says which they are).
+-- A JOB HANDED OVER IN PORTIONS. It was started with n frames on slot i, as that stood in s, and n is the least from then on; d are portions of it, and fs the frames that they gave out. Once it is closed
+-- these are our frames of the whole job, n of them. (Which they are before its last, and how many are set aside: `SameFrames` of crate rules_portions.)
 pub record GivenFewest (s : State) (i : ℕ) (sdu : List ℕ) (n : ℕ) {s₁ s′ : State} {b₁ b′ : List ℕ} {fs : List (List ℕ)} (d : Delivery i sdu s₁ b₁ s′ b′ fs) : Type 0 where
   pub frames : isOpen (jobIn s′ i) ≡ false → fs ≡ ourFrames s i sdu
   pub count : isOpen (jobIn s′ i) ≡ false → length fs ≡ n
-  pub fewest : isOpen (jobIn s′ i) ≡ false → Least s i sdu (length fs)
+  pub fewest : Least s i sdu n

@@ -14,12 +14,13 @@ use Rattle.sar_cut.specs.CutLaws.{count-holds}
 use Rattle.sar_frames.specs.Theorems.{cut}
 use Rattle.sar_fewest.specs.Theorems.{fewest}
 use Rattle.channel.specs.declared.Answer.the-variants.{Frames}
+use Rattle.channel.specs.declared.Slot.{Slot}
 use Rattle.definition.specs.Table.{isOpen}
 use Rattle.definition.specs.Calls.{Window, sends, jobs, bare, serve, decide}
 use Rattle.definition.specs.Run.{State, lent, outcome, after}
 use Rattle.rules_portions.specs.Statement.{slotIn, jobIn, starting, Delivery, framesFrom}
 use Rattle.rules_portions.specs.Answered.{send-sends, start-starts}
-use Rattle.rules_portions.specs.Theorems.{sent-octets, frames-all, same-frames}
+use Rattle.rules_portions.specs.Theorems.{sent-octets, sent-slot, frames-all, same-frames}
 use Rattle.rules_fewest.specs.Statement.{ourFrames, Least, SentFewest, GivenFewest}
 
 -- ---- from the count that an answer tells
@@ -47,7 +48,7 @@ pub sent-fewest : (s : State) (i : ℕ) (sdu : List ℕ) (v : Window) (link n : 
 unfolding decide bare jobs framesOf
 sent-fewest s i sdu v link n a =
     let z = send-sends (s .table) i (length sdu) (length (lent v (s .memory))) link n a .allowed in
-    record { octets = sent-octets s i sdu v link n a; count = counted s i sdu n (z .wide) (z .frames); fewest = least s i sdu n (z .wide) (z .frames); told = few (length sdu) (slotIn s i .peer .mps) n (z .short) (z .wide) (z .frames) }
+    record { octets = sent-octets s i sdu v link n a; count = counted s i sdu n (z .wide) (z .frames); credits = ap (λ (x : Slot). x .peer .credits) (sent-slot s i sdu v link n a); fewest = least s i sdu n (z .wide) (z .frames); told = few (length sdu) (slotIn s i .peer .mps) n (z .short) (z .wide) (z .frames) }
 
 -- A JOB HANDED OVER IN PORTIONS
 module _ (s : State) (i : ℕ) (sdu : List ℕ) (w : Window) (link n : ℕ) (a : outcome s (starting i (length sdu) w) .answer ≡ Frames link n) where
@@ -70,5 +71,5 @@ module _ (s : State) (i : ℕ) (sdu : List ℕ) (w : Window) (link n : ℕ) (a :
         record {
           frames = λ shut. same-frames s i sdu w link n a d .first ∙ ap (framesFrom cid mps sdu 0) (all-given shut ∙ z .frames) ∙ frames-all cid mps sdu;
           count = all-given;
-          fewest = λ shut ps c. rw (all-given shut) (least s i sdu n (z .wide) (z .frames) ps c);
+          fewest = least s i sdu n (z .wide) (z .frames);
         }

@@ -160,7 +160,7 @@ sent-octets s i sdu v link n e =
     let m : lent v (after s (sends i sdu v) .memory) ≡ sets b 0 all = l .buffer ∙ ap (sets b 0) (frames-octets cid mps sdu (s .room) (omega arith) n count) in
     ap₂ take o m ∙ part-same 0 b 0 all (let q = z .allowed .holds in omega arith)
 
-sent-slot : (s : State) (i : ℕ) (sdu : List ℕ) (v : Window) (link n : ℕ) → outcome s (sends i sdu v) .answer ≡ Frames link n
+pub sent-slot : (s : State) (i : ℕ) (sdu : List ℕ) (v : Window) (link n : ℕ) → outcome s (sends i sdu v) .answer ≡ Frames link n
     → slotIn (after s (sends i sdu v)) i ≡ countSent n (withPeerCredits (slotIn s i .peer .credits - n) (slotIn s i))
 unfolding decide bare jobs after
 sent-slot s i sdu v link n e =

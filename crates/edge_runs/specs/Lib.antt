@@ -13,3 +13,5 @@ pub mod FrameRun
 pub mod JobRun
 -- the tallies, at the octets
 pub mod Tallies
+-- the number of frames that a send tells
+pub mod Fewest

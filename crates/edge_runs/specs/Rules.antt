@@ -23,11 +23,12 @@ use Rattle.definition.specs.Mem.{fills}
 use Rattle.definition.specs.Table.{placeOf, width, fresh, slotAt, isDisconnected, cidOf, nextId, wellFormed, blocks}
 use Rattle.definition.specs.Outcome.{Outcome, refuse}
 use Rattle.definition.specs.Calls.{Window, sends, jobs, bare, decide}
-use Rattle.definition.specs.Ending.{itself}
+use Rattle.definition.specs.Ending.{itself, servedOf}
 use Rattle.definition.specs.Frames.{planned, send}
 use Rattle.definition.specs.Numbers.{answerNumber, refused-not-0}
 use Rattle.definition.specs.Run.{State, lent, outWindow, jobWindow, outcome, after, made}
 use Rattle.edge_layout.specs.Back.{Sized}
+use Rattle.edge_answer.specs.Answers.{answerOctets}
 use Rattle.rules.specs.Run.{Reached}
 use Rattle.rules.specs.Run as Run
 use Rattle.rules.specs.Forms.{gate-cases}
@@ -45,7 +46,7 @@ use Rattle.edge_asking.specs.Asking.{makeEdge}
 use Rattle.edge_sized.specs.Sized.{after-sized}
 use Rattle.edge_runs.specs.Entries as Entries
 use Rattle.edge_runs.specs.Run.{EdgeState, stateOf, Asked, callIn, edgeOf, entered, Apart, InOctets, started}
-use Rattle.edge_runs.specs.Lift.{spelled, number-is, out-is, job-is, entered-spelled}
+use Rattle.edge_runs.specs.Lift.{spelled, number-is, answer-is, out-is, job-is, entered-spelled}
 use Rattle.edge_runs.specs.Start.{starting}
 use Rattle.edge_runs.specs.Telling.{over-take, out-written, job-written}
 use Rattle.edge_runs.specs.Isolation.{state-back, entry-fits}
@@ -144,11 +145,11 @@ module _ {s : EdgeState} (r : ReachedAt s) (a : Asked) (apart : Apart (outWindow
 -- ---- exact rejoining, the sending side: an l2cap_send that returns 0 writes the frames of its SDU, for the peer's MPS, to the start of its output
 
 -- what a send answers that is not refused
-record Answered (o : Outcome) : Type 0 where
-  link : ℕ
-  count : ℕ
-  is : o .answer ≡ Frames link count
-  first : o .at ≡ 0
+pub record Answered (o : Outcome) : Type 0 where
+  pub link : ℕ
+  pub count : ℕ
+  pub is : o .answer ≡ Frames link count
+  pub first : o .at ≡ 0
 
 plans : (t : Table) (j : ℕ) (x : Slot) (l : ℕ) (p : Plan) → answerNumber (planned t j x l p .answer) ≡ 0 → Answered (planned t j x l p)
 unfolding planned
@@ -158,7 +159,7 @@ plans t j x l (Plan.Refused r) e = if-cases (λ (o : Outcome). answerNumber (o .
     none q = absurd (eqb-false _ 0 (refused-not-0 r) q)
 plans t j x l (Plan.Frames n octets) e = record { link = x .link; count = n; is = refl; first = refl }
 
-send-answered : (s : State) (j : ℕ) (sdu : List ℕ) (w : Window) → answerNumber (outcome s (sends j sdu w) .answer) ≡ 0 → Answered (outcome s (sends j sdu w))
+pub send-answered : (s : State) (j : ℕ) (sdu : List ℕ) (w : Window) → answerNumber (outcome s (sends j sdu w) .answer) ≡ 0 → Answered (outcome s (sends j sdu w))
 unfolding decide bare jobs send
 send-answered s j sdu w = gate-cases P (s .table) _ _ _ _ (λ r. refused r) (λ _. if-cases P _ (λ _. refused _) (λ _. if-cases P _ (λ _. refused _) (λ _. plans (s .table) j (slotAt (s .table) j) _ _)))
   where
@@ -175,8 +176,11 @@ abbrev pub sending : (w : Window) (slot : ℕ) (sdu answer : List ℕ) → Asked
 sending w slot sdu answer = record { entry = Entries.send w slot sdu; answer = answer }
 
 -- from the table that its octets say
-number-at : {s : EdgeState} → ReachedAt s → (a : Asked) → edgeOf s a .number ≡ answerNumber (outcome (stateOf s) (callIn a) .answer)
+pub number-at : {s : EdgeState} → ReachedAt s → (a : Asked) → edgeOf s a .number ≡ answerNumber (outcome (stateOf s) (callIn a) .answer)
 number-at {s} r a = ap (λ (x : EdgeState). edgeOf x a .number) (spelling r) ∙ number-is (stateOf s) (sized-at r) a
+
+pub answer-at : {s : EdgeState} → ReachedAt s → (a : Asked) → edgeOf s a .answer ≡ sets (a .answer) 0 (answerOctets (servedOf (outcome (stateOf s) (callIn a))))
+answer-at {s} r a = ap (λ (x : EdgeState). edgeOf x a .answer) (spelling r) ∙ answer-is (stateOf s) (sized-at r) a
 
 out-at : {s : EdgeState} → ReachedAt s → (a : Asked) → edgeOf s a .out ≡ sets (lent (outWindow (callIn a)) (s .memory)) (outcome (stateOf s) (callIn a) .at) (fills itself (jobs (stateOf s .table) (callIn a)) (s .room) (outcome (stateOf s) (callIn a) .out))
 out-at {s} r a = ap (λ (x : EdgeState). edgeOf x a .out) (spelling r) ∙ out-is (stateOf s) (sized-at r) a ∙ out-written (stateOf s) (callIn a)

@@ -41,11 +41,15 @@ unfolding framesFrom frameAt piecesFrom
 frames-map cid mps sdu k zero = refl
 frames-map cid mps sdu k (suc c) = ap (λ (r : List (List ℕ)). frameAt cid mps sdu k ∷ r) (frames-map cid mps sdu (suc k) c)
 
-frames-whole : (cid mps : ℕ) (sdu : List ℕ) → joined (framesFrom cid mps sdu 0 (frameCount (length sdu) mps)) ≡ framesOf cid mps sdu
-unfolding framesOf payloads pieces frameCount stream
-frames-whole cid mps sdu =
+pub frames-all : (cid mps : ℕ) (sdu : List ℕ) → framesFrom cid mps sdu 0 (frameCount (length sdu) mps) ≡ map (frame cid) (payloads mps sdu)
+unfolding payloads pieces frameCount stream
+frames-all cid mps sdu =
     let e : length sdu + 2 ≡ length (stream sdu) = omega arith in
-    ap joined (frames-map cid mps sdu 0 (ceil (length sdu + 2) mps) ∙ ap (λ (x : ℕ). map (frame cid) (piecesFrom mps (stream sdu) 0 (ceil x mps))) e)
+    frames-map cid mps sdu 0 (ceil (length sdu + 2) mps) ∙ ap (λ (x : ℕ). map (frame cid) (piecesFrom mps (stream sdu) 0 (ceil x mps))) e
+
+frames-whole : (cid mps : ℕ) (sdu : List ℕ) → joined (framesFrom cid mps sdu 0 (frameCount (length sdu) mps)) ≡ framesOf cid mps sdu
+unfolding framesOf
+frames-whole cid mps sdu = ap joined (frames-all cid mps sdu)
 
 frames-at : (cid mps : ℕ) (sdu : List ℕ) (j c k : ℕ) → k < c → getD (framesFrom cid mps sdu j c) k [] ≡ frameAt cid mps sdu (j + k)
 unfolding framesFrom
@@ -156,7 +160,7 @@ sent-octets s i sdu v link n e =
     let m : lent v (after s (sends i sdu v) .memory) ≡ sets b 0 all = l .buffer ∙ ap (sets b 0) (frames-octets cid mps sdu (s .room) (omega arith) n count) in
     ap₂ take o m ∙ part-same 0 b 0 all (let q = z .allowed .holds in omega arith)
 
-sent-slot : (s : State) (i : ℕ) (sdu : List ℕ) (v : Window) (link n : ℕ) → outcome s (sends i sdu v) .answer ≡ Frames link n
+pub sent-slot : (s : State) (i : ℕ) (sdu : List ℕ) (v : Window) (link n : ℕ) → outcome s (sends i sdu v) .answer ≡ Frames link n
     → slotIn (after s (sends i sdu v)) i ≡ countSent n (withPeerCredits (slotIn s i .peer .credits - n) (slotIn s i))
 unfolding decide bare jobs after
 sent-slot s i sdu v link n e =

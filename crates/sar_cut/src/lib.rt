@@ -31,7 +31,7 @@ pub fn frame_count(l: u16, mps: u16) -> usize
 
 // x divided by m, for boards that have no divide instruction (document 02 (iv)): long division, a bit of the quotient a turn. The steps are m times 2^16, 2^15 and so
 // on down to 1, so that it takes 17 turns whatever the numbers. The loop ends by the step and counts no turns: the compiler writes a loop of a known number out turn by
-// turn, 276 octets more of code.
+// turn, some 300 octets more of the archive.
 fn quotient(x: u32, m: u16) -> u32
     requires { ⌜ x < m * 131072 ⌝ }
     ensures { λ r. ⌜ r ≡ x / m ⌝ }

@@ -1,15 +1,14 @@
 -- What a line of a script leaves (docs/CHANRUN.md): the table, all of the room that the program holds, of which the table's own is the start, and the buffers of open
 -- jobs. The rows that it prints are those of the plays.
-use Rattle.std.specs.Prelude.{◌≡◌, List, ◌++◌, ℕ, min, length, take, drop}
+use Rattle.std.specs.Prelude.{◌≡◌, Bool, List, ◌++◌, ℕ, min, length, take, drop}
 use Rattle.channel.specs.declared.Table.{Table}
+use Rattle.text_words.specs.declared.Word.{Word}
 use Rattle.text_words.specs.Words.{text_of}
 use Rattle.text_lines.specs.declared.Found.{Found}
-use Rattle.text_lines.specs.declared.Found.TheVariants as Found
 use Rattle.script.specs.Script.{command_of}
 use Rattle.script_commands.specs.declared.Command.{Command}
-use Rattle.script_commands.specs.declared.Command.TheVariants as Command
 use Rattle.run_play.specs.Plays.{size_of, spelled_of}
-use Rattle.run_signals.specs.Signalled.{After, after, left, Leaves, signals_of}
+use Rattle.run_signals.specs.Signalled.{After, after, left, Leaves, LeavesSome, signals_of}
 use Rattle.run_table.specs.PlayedTable.{made_of}
 use Rattle.run_portions.specs.PlayedPortions.{cleared, Lent, portions_of}
 use Rattle.run.specs.Playing.{play_of}
@@ -25,6 +24,11 @@ all_of a buffers = record { after = a; buffers = buffers }
 
 pub record Serves (a : All) (u : Table) (room' buffers' : List ℕ) : Type 0 where
   pub leaves : Leaves a.after u room'
+  pub buffers : buffers' ≡ a.buffers
+
+-- where a row can't be printed: the room and the buffers, as the call leaves them; the table is gone
+pub record Stands (a : All) (room' buffers' : List ℕ) : Type 0 where
+  pub room : room' ≡ a.after.room
   pub buffers : buffers' ≡ a.buffers
 
 -- after each `T`, also one that is refused
@@ -69,6 +73,19 @@ module _ (t : Table) (line room octets frames buffers : List ℕ) where
   line_of (Command.Room slot) = played (Command.Room slot)
   line_of (Command.Portions c) = within (λ own. lent_all (portions_of t own line octets buffers c))
 
+  -- where a row of `S` can't be printed: the table's own room, as its first signals leave it, and what stands behind it stays
+  abbrev pub StandsSome : (link : ℕ) (listening central : Bool) (pdu : Word) (room' buffers' : List ℕ) → Type 0
+  StandsSome link listening central pdu room' buffers' =
+      (own : List ℕ)
+      × (LeavesSome link listening central t (take (held t room) room) (spelled_of (length octets) line pdu) own
+      × (room' ≡ own ++ drop (held t room) room)
+      × (buffers' ≡ buffers))
+
+  -- where a row of the line can't be printed
+  unfoldable pub StandsLine : Command → (room' buffers' : List ℕ) → Type 0
+  StandsLine (Command.Signal link listening central pdu) room' buffers' = StandsSome link listening central pdu room' buffers'
+  StandsLine c room' buffers' = Stands (line_of c) room' buffers'
+
 -- ---- what was found in the input: a line, or one that is too long, whose row is `? -`; else there is nothing to serve
 module _ (t : Table) (input room octets frames buffers : List ℕ) where
   unfoldable pub found_of : Found → All
@@ -76,3 +93,8 @@ module _ (t : Table) (input room octets frames buffers : List ℕ) where
   found_of Found.Passed = all_of (after t room) buffers
   found_of Found.Long = all_of (after t room) buffers
   found_of Found.More = all_of (after t room) buffers
+
+  -- where a row of it can't be printed: that of a line that is too long leaves all as it is
+  unfoldable pub StandsFound : Found → (room' buffers' : List ℕ) → Type 0
+  StandsFound (Found.Line w) room' buffers' = StandsLine t (text_of input w) room octets frames buffers (command_of (text_of input w)) room' buffers'
+  StandsFound f room' buffers' = Stands (found_of f) room' buffers'

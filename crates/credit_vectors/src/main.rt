@@ -1,90 +1,98 @@
 // Runs the credit account on cases with expected results (the file stdout): each row is the account, what `process` grants, and what n frames
 // and n granted credits leave, first by the by-value method, then by the function that changes the account where it stands.
+#![tactic(auto)]
+
 use credit::{CreditFlowControl, CreditFlowPolicy, Grant};
+use std::io;
 
-fn number(n: u16) {
-    io::print_decimal(1, n as u64);
-    io::write_all(1, b" ");
+fn number(rt: &impl Print, n: u16) -> io::Result<()> {
+    print!(rt; "{n} ")
 }
 
-fn text(s: &[u8]) {
-    io::write_all(1, s);
+fn text(rt: &impl Print, s: &[u8]) -> io::Result<()> {
+    rt.write_all(s)
 }
 
-fn account(a: CreditFlowControl) {
-    number(a.credits);
-    number(a.received);
+fn account(rt: &impl Print, a: CreditFlowControl) -> io::Result<()> {
+    number(rt, a.credits)?;
+    number(rt, a.received)
 }
 
-fn grant(g: Grant) {
+fn grant(rt: &impl Print, g: Grant) -> io::Result<()> {
     match g {
-        Grant::Nothing => text(b"grants nothing "),
+        Grant::Nothing => text(rt, b"grants nothing "),
         Grant::Credits(n) => {
-            text(b"grants ");
-            number(n);
+            text(rt, b"grants ")?;
+            number(rt, n)
         }
     }
 }
 
-fn row(policy: CreditFlowPolicy, credits: u16, received: u16, n: u16) {
+fn row(
+    rt: &impl Print,
+    policy: CreditFlowPolicy,
+    credits: u16,
+    received: u16,
+    n: u16,
+) -> io::Result<()> {
     let a = CreditFlowControl {
         policy,
         credits,
         received,
     };
-    account(a);
+    account(rt, a)?;
     let g = a.process();
-    grant(g);
-    text(b"/ ");
-    number(n);
-    text(b"received: ");
+    grant(rt, g)?;
+    text(rt, b"/ ")?;
+    number(rt, n)?;
+    text(rt, b"received: ")?;
     let r = a.confirm_received(n);
-    account(r);
+    account(rt, r)?;
     let s = credit_in_place::received_through(a, n);
-    account(s);
-    text(b"granted: ");
+    account(rt, s)?;
+    text(rt, b"granted: ")?;
     let t = a.confirm_granted(n);
-    account(t);
+    account(rt, t)?;
     let u = credit_in_place::granted_through(a, n);
-    account(u);
-    text(b"\n");
+    account(rt, u)?;
+    text(rt, b"\n")
 }
 
-fn every(k: u16, credits: u16, received: u16, n: u16) {
-    text(b"every ");
-    number(k);
+fn every(rt: &impl Print, k: u16, credits: u16, received: u16, n: u16) -> io::Result<()> {
+    text(rt, b"every ")?;
+    number(rt, k)?;
     let p = CreditFlowPolicy::Every(k);
-    row(p, credits, received, n);
+    row(rt, p, credits, received, n)
 }
 
-fn threshold(t: u16, credits: u16, received: u16, n: u16) {
-    text(b"below ");
-    number(t);
+fn threshold(rt: &impl Print, t: u16, credits: u16, received: u16, n: u16) -> io::Result<()> {
+    text(rt, b"below ")?;
+    number(rt, t)?;
     let p = CreditFlowPolicy::MinThreshold(t);
-    row(p, credits, received, n);
+    row(rt, p, credits, received, n)
 }
 
-fn main() {
+fn main(rt: HostRuntime) -> io::Result<()> {
     let a = CreditFlowControl::new(CreditFlowPolicy::Every(1), 5);
-    text(b"new ");
-    account(a);
-    number(a.available());
-    text(b"\n");
-    every(1, 5, 0, 1);
-    every(1, 4, 1, 1);
-    every(3, 4, 2, 2);
-    every(3, 4, 3, 3);
-    every(0, 4, 0, 0);
-    every(0, 4, 1, 1);
-    every(65535, 0, 65534, 1);
-    every(65535, 0, 65535, 1);
-    threshold(3, 3, 2, 2);
-    threshold(3, 2, 2, 2);
-    threshold(3, 2, 0, 1);
-    threshold(0, 0, 9, 9);
-    threshold(65535, 65534, 1, 1);
-    every(1, 65530, 5, 5);
-    every(1, 65530, 6, 6);
-    every(1, 0, 7, 65535);
-    every(1, 65535, 65535, 65535);
+    text(&rt, b"new ")?;
+    account(&rt, a)?;
+    number(&rt, a.available())?;
+    text(&rt, b"\n")?;
+    every(&rt, 1, 5, 0, 1)?;
+    every(&rt, 1, 4, 1, 1)?;
+    every(&rt, 3, 4, 2, 2)?;
+    every(&rt, 3, 4, 3, 3)?;
+    every(&rt, 0, 4, 0, 0)?;
+    every(&rt, 0, 4, 1, 1)?;
+    every(&rt, 65535, 0, 65534, 1)?;
+    every(&rt, 65535, 0, 65535, 1)?;
+    threshold(&rt, 3, 3, 2, 2)?;
+    threshold(&rt, 3, 2, 2, 2)?;
+    threshold(&rt, 3, 2, 0, 1)?;
+    threshold(&rt, 0, 0, 9, 9)?;
+    threshold(&rt, 65535, 65534, 1, 1)?;
+    every(&rt, 1, 65530, 5, 5)?;
+    every(&rt, 1, 65530, 6, 6)?;
+    every(&rt, 1, 0, 7, 65535)?;
+    every(&rt, 1, 65535, 65535, 65535)
 }

@@ -1,6 +1,6 @@
 -- What a command leaves of the table and its room; and what the signals of a PDU leave (docs/CHANRUN.md, `S`). The rows that they print are those of
 -- the plays.
-use Rattle.std.specs.Prelude.{◌≡◌, Bool, List, [], ◌∷◌, ℕ}
+use Rattle.std.specs.Prelude.{◌≡◌, Bool, List, [], ◌∷◌, ℕ, take}
 use Rattle.signal_headers.specs.Headers.{rest_of, feeds_of}
 use Rattle.channel.specs.declared.Table.{Table}
 use Rattle.run_play.specs.Plays.{Play}
@@ -38,3 +38,11 @@ module _ (link : ℕ) (listening central : Bool) where
   -- empty input has a row too
   abbrev pub signals_of : Table → (room pdu : List ℕ) → After
   signals_of t room pdu = signals_after (rest_of pdu) (one_signal (after t room) pdu)
+
+  -- the room, as some of the signals leave it: the first k, each given what the one before left
+  abbrev pub AfterSome : (pdu : List ℕ) → After → (room' : List ℕ) → Type 0
+  AfterSome pdu a room' = (k : ℕ) × (room' ≡ (each_signal (take k (feeds_of pdu)) a).room)
+
+  -- where a row can't be printed: the first signal was served, and some of those behind it
+  abbrev pub LeavesSome : Table → (room pdu room' : List ℕ) → Type 0
+  LeavesSome t room pdu room' = AfterSome (rest_of pdu) (one_signal (after t room) pdu) room'

@@ -1,7 +1,10 @@
 // Cuts jobs of lengths around every boundary and joins the frames again (rows "cut"), and makes single join steps (rows "join"). The file stdout
 // has what document 01 asks of each: the plan, the octets written, the answers, and what the slot's part of the room holds in the end.
+#![tactic(auto)]
+
 use sar_cut::Plan;
 use sar_join::{Assembly, Joined};
+use std::io;
 
 // The receiving slot: its open assembly, the jobs that wait, and the answer to the last payload.
 #[derive(Clone, Copy)]
@@ -11,20 +14,20 @@ struct Side {
     answer: u8,
 }
 
-fn text(s: &[u8]) {
-    io::write_all(1, s);
+fn text(rt: &impl Print, s: &[u8]) -> io::Result<()> {
+    rt.write_all(s)
 }
 
-fn number(n: usize) {
-    text(b" ");
-    io::print_decimal(1, n as u64);
+fn number(rt: &impl Print, n: usize) -> io::Result<()> {
+    text(rt, b" ")?;
+    print!(rt; "{n}")
 }
 
-fn numbers(a: usize, b: usize, c: usize, d: usize) {
-    number(a);
-    number(b);
-    number(c);
-    number(d);
+fn numbers(rt: &impl Print, a: usize, b: usize, c: usize, d: usize) -> io::Result<()> {
+    number(rt, a)?;
+    number(rt, b)?;
+    number(rt, c)?;
+    number(rt, d)
 }
 
 // A job's octets: no two neighbours are equal.
@@ -37,20 +40,20 @@ fn fill(s: &mut [u8]) {
 }
 
 // Octets by their number and a check over them; the first 40 in full.
-fn show(s: &[u8]) {
-    number(s.len());
-    text(b" ");
+fn show(rt: &impl Print, s: &[u8]) -> io::Result<()> {
+    number(rt, s.len())?;
+    text(rt, b" ")?;
     let mut c: u32 = 1;
     let mut i: usize = 0;
     while i < s.len() {
         let b = octets::octet(s, i);
         c = (c * 31 + b as u32) % 65521;
         if i < 40 {
-            io::print_hex(1, b as u64, 2);
+            print!(rt; "{b:02x}")?;
         }
         i += 1;
     }
-    number(c as usize);
+    number(rt, c as usize)
 }
 
 // One payload on a slot's part of the room, of d + 1 places of as many octets as the MTU.
@@ -94,15 +97,16 @@ fn feed(places: &mut [u8], mtu: u16, mps: u16, d: u16, s: Side, payload: &[u8]) 
 }
 
 // The answer, the open assembly and the jobs that wait.
-fn state(s: Side) {
+fn state(rt: &impl Print, s: Side) -> io::Result<()> {
     let a = s.a;
-    text(b" joined");
+    text(rt, b" joined")?;
     numbers(
+        rt,
         s.answer as usize,
         a.have as usize,
         a.want as usize,
         s.queued,
-    );
+    )
 }
 
 // The payloads of the frames in `out`, one after the other, until one is refused: into two places of as many octets as the MTU.
@@ -130,74 +134,82 @@ fn join_all(places: &mut [u8], mtu: u16, mps: u16, out: &[u8]) -> Side {
 }
 
 // The frames, what joining them under the job's own length as MTU and the MPS that they were cut for answers, the jobs that wait then, and the two places.
-fn rejoin(l: u16, mps: u16, out: &[u8]) {
+fn rejoin(rt: &impl Print, l: u16, mps: u16, out: &[u8]) -> io::Result<()> {
     let mut places = [0u8; 131070];
     let s = join_all(&mut places, l, mps, out);
     let both = 2 * l as usize;
-    show(out);
-    state(s);
-    show(&places[0..both]);
+    show(rt, out)?;
+    state(rt, s)?;
+    show(rt, &places[0..both])
 }
 
 // What a send came to: its refusal, or the frames that it wrote.
-fn came(plan: Plan, l: u16, mps: u16, out: &[u8]) {
+fn came(rt: &impl Print, plan: Plan, l: u16, mps: u16, out: &[u8]) -> io::Result<()> {
     match plan {
         Plan::Refused(r) => {
-            text(b" refused");
-            number(codes::refusal_number(r) as usize);
+            text(rt, b" refused")?;
+            number(rt, codes::refusal_number(r) as usize)?;
         }
         Plan::Frames { n, octets } => {
-            number(n);
+            number(rt, n)?;
             if octets <= out.len() {
-                rejoin(l, mps, &out[0..octets]);
+                rejoin(rt, l, mps, &out[0..octets])?;
             }
         }
     }
-    text(b"\n");
+    text(rt, b"\n")
 }
 
 // Plans and cuts a job of l octets for a peer of that MTU, MPS and credits.
-fn send(out: &mut [u8], l: u16, mtu: u16, mps: u16, credits: u16) {
+fn send(
+    rt: &impl Print,
+    out: &mut [u8],
+    l: u16,
+    mtu: u16,
+    mps: u16,
+    credits: u16,
+) -> io::Result<()> {
     let mut job = [0u8; 65535];
     let n = l as usize;
     fill(&mut job);
     let plan = sar_frames::send_job(out, 0x1234, mtu, mps, credits, &job[0..n]);
-    came(plan, l, mps, out);
+    came(rt, plan, l, mps, out)
 }
 
 // The same into `room` octets of an output.
-fn cut(l: u16, mtu: u16, mps: u16, credits: u16, room: usize) {
+fn cut(rt: &impl Print, l: u16, mtu: u16, mps: u16, credits: u16, room: usize) -> io::Result<()> {
     if 76935 < room {
-        return;
+        return Ok(());
     }
-    text(b"cut");
-    numbers(l as usize, mtu as usize, mps as usize, credits as usize);
-    number(room);
+    text(rt, b"cut")?;
+    numbers(rt, l as usize, mtu as usize, mps as usize, credits as usize)?;
+    number(rt, room)?;
     let mut out = [0u8; 76935];
-    send(&mut out[0..room], l, mtu, mps, credits);
+    send(rt, &mut out[0..room], l, mtu, mps, credits)
 }
 
 // The jobs of from to to octets, with credits and room enough.
-fn cuts(mps: u16, from: u16, to: u16) {
+fn cuts(rt: &impl Print, mps: u16, from: u16, to: u16) -> io::Result<()> {
     let mut l = from;
     while l < to {
-        cut(l, 65535, mps, 65535, 76935);
+        cut(rt, l, 65535, mps, 65535, 76935)?;
         l += 1;
     }
+    Ok(())
 }
 
 // Cut for an MPS that no send would take, and joined all the same.
-fn small(mps: u16, l: u8, octets: u8) {
+fn small(rt: &impl Print, mps: u16, l: u8, octets: u8) -> io::Result<()> {
     if mps < 2 {
-        return;
+        return Ok(());
     }
     let mut job = [0u8; 255];
     let mut out = [0u8; 255];
     fill(&mut job);
     sar_frames::cut_job(&mut out, 0x1234, mps, &job[0..l as usize]);
-    text(b"small");
-    rejoin(l as u16, mps, &out[0..octets as usize]);
-    text(b"\n");
+    text(rt, b"small")?;
+    rejoin(rt, l as u16, mps, &out[0..octets as usize])?;
+    text(rt, b"\n")
 }
 
 // A state of the slot, and the first two octets of the payload that comes.
@@ -245,7 +257,7 @@ fn case_of(k: usize) -> Case {
 }
 
 // Payload i: of n octets with `queued` of two places taken, in a part of three places of 8 octets, all of them marked.
-fn join(i: usize, mps: u16) {
+fn join(rt: &impl Print, i: usize, mps: u16) -> io::Result<()> {
     let queued = i / 8 % 3;
     let n = i % 8;
     let mut places = [0xeeu8; 24];
@@ -260,48 +272,49 @@ fn join(i: usize, mps: u16) {
         answer: 0,
     };
     let r = feed(&mut places, 8, mps, 2, s, &payload[0..n]);
-    text(b"join");
-    number(mps as usize);
-    numbers(c.have as usize, c.want as usize, queued, n);
-    show(&payload[0..n]);
-    state(r);
-    show(&places);
-    text(b"\n");
+    text(rt, b"join")?;
+    number(rt, mps as usize)?;
+    numbers(rt, c.have as usize, c.want as usize, queued, n)?;
+    show(rt, &payload[0..n])?;
+    state(rt, r)?;
+    show(rt, &places)?;
+    text(rt, b"\n")
 }
 
 // Every such case, with 0 to 2 jobs waiting and 0 to 7 octets.
-fn joins(mps: u16) {
+fn joins(rt: &impl Print, mps: u16) -> io::Result<()> {
     let mut i: usize = 0;
     while i < 192 {
-        join(i, mps);
+        join(rt, i, mps)?;
         i += 1;
     }
+    Ok(())
 }
 
 // The plan's order, each refusal where the next one would come too, and the last place where it doesn't.
-fn refusals() {
-    cut(65535, 65534, 22, 0, 0);
-    cut(65534, 65534, 22, 0, 0);
-    cut(65533, 65533, 22, 0, 0);
-    cut(44, 44, 23, 1, 0);
-    cut(44, 44, 23, 2, 53);
-    cut(44, 44, 23, 2, 54);
-    cut(45, 44, 23, 3, 60);
-    cut(45, 45, 23, 2, 60);
+fn refusals(rt: &impl Print) -> io::Result<()> {
+    cut(rt, 65535, 65534, 22, 0, 0)?;
+    cut(rt, 65534, 65534, 22, 0, 0)?;
+    cut(rt, 65533, 65533, 22, 0, 0)?;
+    cut(rt, 44, 44, 23, 1, 0)?;
+    cut(rt, 44, 44, 23, 2, 53)?;
+    cut(rt, 44, 44, 23, 2, 54)?;
+    cut(rt, 45, 44, 23, 3, 60)?;
+    cut(rt, 45, 45, 23, 2, 60)
 }
 
-fn main() {
-    cuts(23, 0, 2);
-    cuts(23, 19, 27);
-    cuts(23, 42, 49);
-    cuts(23, 65532, 65535);
-    cuts(247, 243, 251);
-    cuts(247, 490, 498);
-    cuts(65535, 65532, 65535);
-    refusals();
-    small(2, 0, 6);
-    small(2, 5, 23);
-    small(3, 7, 21);
-    joins(23);
-    joins(4);
+fn main(rt: HostRuntime) -> io::Result<()> {
+    cuts(&rt, 23, 0, 2)?;
+    cuts(&rt, 23, 19, 27)?;
+    cuts(&rt, 23, 42, 49)?;
+    cuts(&rt, 23, 65532, 65535)?;
+    cuts(&rt, 247, 243, 251)?;
+    cuts(&rt, 247, 490, 498)?;
+    cuts(&rt, 65535, 65532, 65535)?;
+    refusals(&rt)?;
+    small(&rt, 2, 0, 6)?;
+    small(&rt, 2, 5, 23)?;
+    small(&rt, 3, 7, 21)?;
+    joins(&rt, 23)?;
+    joins(&rt, 4)
 }

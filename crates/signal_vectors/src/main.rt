@@ -1,6 +1,8 @@
 // Replays the vectors of the file stdin over `signal_headers`, `signal_read` and `signal_write`: a line is a PDU in hex, '=', and what is to come of it; a line
 // without '=' says what follows. Each line that differs is written, and at the end how many there are.
-ghost use Rattle.std.specs.Prelude.{◌≡◌, ◌≤◌, length, nat_eq};
+#![tactic(auto)]
+
+ghost use Rattle.std.specs.Prelude.{◌≡◌, ◌≤◌, IfOk, length, nat_eq};
 ghost use Rattle.lists.specs.First.{first};
 
 use octets::{least, put};
@@ -9,6 +11,8 @@ use signal_headers::Checked;
 use signal_headers::first::HeaderRead;
 use signal_read::SignalRead;
 use signal_write::SignalWritten;
+use std::io;
+use std::io::Read;
 
 // Where the first octet of `s` stands that is `c`; the length where none is.
 fn find(s: &[u8], c: u8) -> usize
@@ -111,7 +115,7 @@ fn agrees(pdu: &[u8], wanted: &[u8]) -> bool {
     let mut out = [0u8; 18];
     let k = least(answer(pdu, &mut head, &mut out), 18);
     let h = least(wanted.len(), 5);
-    check::same(&head, &wanted[..h]) & check::same(&out[..k], &wanted[h..])
+    head[..] == wanted[..h] && out[..k] == wanted[h..]
 }
 
 #[derive(Clone, Copy)]
@@ -121,30 +125,30 @@ struct Tally {
 }
 
 // One line, replayed and counted; it is written where something else comes of its PDU.
-fn replay(line: &[u8], t: Tally) -> Tally {
+fn replay(rt: &impl Print, line: &[u8], t: Tally) -> io::Result<Tally> {
     let at = find(line, b'=');
     if at == line.len() {
-        return t;
+        return Ok(t);
     }
     let mut pdu = [0u8; 64];
     let n = spelled(&line[..at], &mut pdu);
     let mut wanted = [0u8; 64];
     let m = spelled(&line[at + 1..], &mut wanted);
     if agrees(&pdu[..n], &wanted[..m]) {
-        return Tally {
-            same: std::num::wrapping_add_u64(t.same, 1),
+        return Ok(Tally {
+            same: t.same.wrapping_add(1),
             different: t.different,
-        };
+        });
     }
-    io::write_all(libc::STDOUT_FILENO, line);
-    io::write_all(libc::STDOUT_FILENO, b"\n");
-    Tally {
+    rt.write_all(line)?;
+    rt.write_all(b"\n")?;
+    Ok(Tally {
         same: t.same,
-        different: std::num::wrapping_add_u64(t.different, 1),
-    }
+        different: t.different.wrapping_add(1),
+    })
 }
 
-fn replay_all(text: &[u8]) -> Tally {
+fn replay_all(rt: &impl Print, text: &[u8]) -> io::Result<Tally> {
     let mut tally = Tally {
         same: 0,
         different: 0,
@@ -152,21 +156,36 @@ fn replay_all(text: &[u8]) -> Tally {
     let mut rest = text;
     while 0 < rest.len() {
         let end = find(rest, b'\n');
-        tally = replay(&rest[..end], tally);
+        tally = replay(rt, &rest[..end], tally)?;
         if rest.len() <= end {
-            return tally;
+            return Ok(tally);
         }
         rest = &rest[end + 1..];
     }
-    tally
+    Ok(tally)
 }
 
-fn main() {
-    let mut text = io::large_buffer();
-    let n = io::read_full(libc::STDIN_FILENO, &mut text);
-    let tally = replay_all(&text[..n]);
-    io::print_decimal(libc::STDOUT_FILENO, tally.same);
-    io::write_all(libc::STDOUT_FILENO, b" vectors as they should be, ");
-    io::print_decimal(libc::STDOUT_FILENO, tally.different);
-    io::write_all(libc::STDOUT_FILENO, b" different\n");
+// Reads until `buf` is full or the input ends; how many octets that are.
+fn read_full<R: Read>(input: &mut R, buf: &mut [u8]) -> io::Result<usize>
+    ensures { IfOk result (λ n. n ≤ length buf.new) }
+{
+    let mut n = 0;
+    while n < buf.len() {
+        let more = input.read(&mut buf[n..])?;
+        if more == 0 {
+            break;
+        }
+        n += more;
+    }
+    Ok(n)
+}
+
+fn main(rt: HostRuntime) -> io::Result<()> {
+    let mut text = [0u8; 65536];
+    let n = read_full(&mut rt.stdin(), &mut text)?;
+    let tally = replay_all(&rt, &text[..n])?;
+    println!(rt;
+        "{} vectors as they should be, {} different",
+        tally.same, tally.different
+    )
 }

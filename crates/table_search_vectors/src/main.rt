@@ -1,7 +1,10 @@
 // Runs the search for the lowest free slot on rows of sixteen records with expected results (the file stdout). A letter is a record. Behind the row
 // stand the place that the lent records give, and the one that the table's own search gives: 16 where none is free.
+#![tactic(auto)]
+
 use channel::{ChannelState, Slot, Table};
 use codes::LeCreditConnResultCode;
+use std::io;
 use table_search::Found;
 use table_slot::Want;
 
@@ -56,31 +59,30 @@ fn place(f: Found) -> usize {
     }
 }
 
-fn number(n: usize) {
-    io::write_all(1, b" ");
-    io::print_decimal(1, n as u64);
+fn number(rt: &impl Print, n: usize) -> io::Result<()> {
+    print!(rt; " {n}")
 }
 
-fn search(row: &[u8]) {
+fn search(rt: &impl Print, row: &[u8]) -> io::Result<()> {
     let t = table(row);
     let run = t.slots;
-    io::write_all(1, row);
-    number(place(table_search::lowest_free_among(run)));
-    number(table::find(t, Want::Free));
-    io::write_all(1, b"\n");
+    rt.write_all(row)?;
+    number(rt, place(table_search::lowest_free_among(run)))?;
+    number(rt, table::find(t, Want::Free))?;
+    rt.write_all(b"\n")
 }
 
-fn main() {
-    search(b"ffffffffffffffff");
-    search(b"cfffffffffffffff");
-    search(b"hfffffffffffffff");
-    search(b"mhffffffffffffff");
-    search(b"ccccccccfccccccc");
-    search(b"ccccccccfccccccf");
-    search(b"cccccccccccccccf");
-    search(b"hhhhhhhhhhhhhhhf");
-    search(b"cipxqdhmcipxqdfm");
-    search(b"cccccccccccccccc");
-    search(b"hhhhhhhhhhhhhhhh");
-    search(b"cipxqdhmcipxqdhm");
+fn main(rt: HostRuntime) -> io::Result<()> {
+    search(&rt, b"ffffffffffffffff")?;
+    search(&rt, b"cfffffffffffffff")?;
+    search(&rt, b"hfffffffffffffff")?;
+    search(&rt, b"mhffffffffffffff")?;
+    search(&rt, b"ccccccccfccccccc")?;
+    search(&rt, b"ccccccccfccccccf")?;
+    search(&rt, b"cccccccccccccccf")?;
+    search(&rt, b"hhhhhhhhhhhhhhhf")?;
+    search(&rt, b"cipxqdhmcipxqdfm")?;
+    search(&rt, b"cccccccccccccccc")?;
+    search(&rt, b"hhhhhhhhhhhhhhhh")?;
+    search(&rt, b"cipxqdhmcipxqdhm")
 }

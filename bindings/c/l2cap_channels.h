@@ -1,4 +1,4 @@
-/* The channel manager's calls, from C and C++. Link with the archive of the proved entries (rt staticlib entries, or bindings/unproved to try it), which is x86-64 code.
+/* The channel manager's calls, from C and C++. Link with the archive of the proved entries (bindings/proved, or bindings/unproved to try it), which is x86-64 code.
  *
  * Every call is given the table and a buffer for its answer, each as pointer and length, and the memory that it needs. It returns 0 or the number of a refusal
  * (enum l2cap_refusal). No call keeps a pointer, allocates, waits, or reads or writes past a length; the archive has no data of its own. Two tables are two managers. Calls on one

@@ -1,4 +1,4 @@
-//! Links the archive of the proved entries: the file that L2CAP_CHANNELS_ARCHIVE names, or the one that `rt staticlib entries` writes. What is wrong with it is
+//! Links the archive of the proved entries: the file that L2CAP_CHANNELS_ARCHIVE names, or the one that `bindings/proved` writes. What is wrong with it is
 //! one sentence, and not the linker's.
 
 #[path = "build/archive.rs"]
@@ -24,7 +24,7 @@ fn looked_for() -> Result<(PathBuf, &'static str), String> {
     let package = Path::new(env!("CARGO_MANIFEST_DIR"));
     let Some(named) = env::var_os("L2CAP_CHANNELS_ARCHIVE").map(PathBuf::from) else {
         let root = package.ancestors().nth(2).unwrap_or(package);
-        return Ok((root.join("target/staticlib/libentries.a"), "where `rt staticlib entries` writes it"));
+        return Ok((root.join("target/staticlib/libentries.a"), "where `bindings/proved` writes it"));
     };
     if named.as_os_str().is_empty() {
         return Err("L2CAP_CHANNELS_ARCHIVE is empty: it names the archive's file, or isn't set at all".into());

@@ -1,6 +1,7 @@
 //! Puts the original's files in place for the compiler, unchanged. They stay where they are (`../shared/docs/src` beside the project, or
-//! the folder named by TROUBLE_HOST_SRC); OUT_DIR gets links at the original's own relative paths. The two files whose private fields the
-//! driver must read are included whole, each with one child module of ours behind it. A file whose sum isn't listed stops the build.
+//! the folder named by TROUBLE_HOST_SRC); OUT_DIR gets copies at the original's own relative paths, since `rt ci` refuses a link anywhere.
+//! The two files whose private fields the driver must read are included whole, each with one child module of ours behind it. A file whose
+//! sum isn't listed stops the build.
 
 #[path = "sha256.rs"]
 mod sha256;
@@ -8,8 +9,8 @@ mod sha256;
 use std::path::{Path, PathBuf};
 use std::{env, fs};
 
-/// Linked as they are.
-const LINKED: [&str; 7] = ["codec.rs", "connection.rs", "connection_manager.rs", "cursor.rs", "l2cap.rs", "pdu.rs", "types/l2cap.rs"];
+/// Copied as they are.
+const COPIED: [&str; 7] = ["codec.rs", "connection.rs", "connection_manager.rs", "cursor.rs", "l2cap.rs", "pdu.rs", "types/l2cap.rs"];
 /// Included whole, before a child module that reads their private fields.
 const INCLUDED: [&str; 2] = ["channel_manager.rs", "l2cap/sar.rs"];
 
@@ -51,8 +52,8 @@ fn main() {
     for folder in ["l2cap", "types"] {
         fs::create_dir_all(out.join(folder)).expect("OUT_DIR can be written");
     }
-    for file in LINKED {
-        std::os::unix::fs::symlink(source.join(file), out.join(file)).expect("OUT_DIR can be written");
+    for file in COPIED {
+        fs::copy(source.join(file), out.join(file)).expect("OUT_DIR can be written");
     }
     for file in INCLUDED {
         let eyes = oracle.join("original/src/eyes").join(Path::new(file).file_name().expect("a file"));
@@ -72,7 +73,7 @@ fn main() {
 fn guard(source: &Path, list: &Path) {
     println!("cargo:rerun-if-changed={}", list.display());
     let listed = fs::read_to_string(list).expect("oracle/original.sha256");
-    for file in LINKED.iter().chain(&INCLUDED) {
+    for file in COPIED.iter().chain(&INCLUDED) {
         let path = source.join(file);
         println!("cargo:rerun-if-changed={}", path.display());
         let octets = fs::read(&path).unwrap_or_else(|e| panic!("{}: {e}", path.display()));

@@ -34,43 +34,56 @@ const SOURCES: [&str; 25] = [
     "call_receive/src/lib.rt",
 ];
 
-/// What a contract calls something, and what the lemma calls it in a state s of a run, with the windows w and v.
-const IN_A_RUN: [(&str, &str); 16] = [
-    ("(now (room .entry))", "(s .room)"),
-    ("(now (room .exit))", "room′"),
-    ("(now (signal .entry))", "(lent w (s .memory))"),
-    ("(now (signal .exit))", "signal′"),
-    ("(now (out .entry))", "(lent w (s .memory))"),
-    ("(now (out .exit))", "signal′"),
-    ("(now (buffer .entry))", "(lent w (s .memory))"),
-    ("(now (buffer .exit))", "signal′"),
-    ("(now (octets .entry))", "octets"),
-    ("(now (job .entry))", "(lent v (s .memory))"),
-    ("(now (job .exit))", "job′"),
-    ("(now (sdu .entry))", "sdu"),
-    ("(now (payload .entry))", "payload"),
-    ("(now (pdu .entry))", "pdu"),
-    ("(slot .0)", "slot"),
-    ("(cid .0)", "cid"),
+/// What a contract calls something, and what the lemma calls it in a state s of a run, with the windows w and v. (In a contract `result` is what the function returns,
+/// so that a result code is named `res` or `outcome` there.)
+const IN_A_RUN: [(&str, &str); 20] = [
+    ("result", "r"),
+    ("res", "result"),
+    ("outcome", "result"),
+    ("t", "s.table"),
+    ("room.old", "s.room"),
+    ("room.new", "room'"),
+    ("signal.old", "(lent w s.memory)"),
+    ("signal.new", "signal'"),
+    ("out.old", "(lent w s.memory)"),
+    ("out.new", "signal'"),
+    ("buffer.old", "(lent w s.memory)"),
+    ("buffer.new", "signal'"),
+    ("octets.now", "octets"),
+    ("job.old", "(lent v s.memory)"),
+    ("job.new", "job'"),
+    ("sdu.now", "sdu"),
+    ("payload.now", "payload"),
+    ("pdu.now", "pdu"),
+    ("slot.0", "slot"),
+    ("cid.0", "cid"),
 ];
 
 /// The same of an entry and its line.
-const AT_AN_ENTRY: [(&str, &str); 11] = [
-    ("(now (table .entry))", "table"),
-    ("(now (answer .entry))", "answer"),
-    ("(now (room .entry))", "room"),
-    ("(now (signal .entry))", "(lent w memory)"),
-    ("(now (out .entry))", "(lent w memory)"),
-    ("(now (buffer .entry))", "(lent w memory)"),
-    ("(now (octets .entry))", "octets"),
-    ("(now (job .entry))", "(lent v memory)"),
-    ("(now (pdu .entry))", "pdu"),
-    ("(now (payload .entry))", "payload"),
-    ("(now (sdu .entry))", "sdu"),
+const AT_AN_ENTRY: [(&str, &str); 16] = [
+    ("res", "result"),
+    ("table.old", "table"),
+    ("table.now", "table"),
+    ("answer.old", "answer"),
+    ("room.old", "room"),
+    ("signal.old", "(lent w memory)"),
+    ("out.old", "(lent w memory)"),
+    ("buffer.old", "(lent w memory)"),
+    ("octets.now", "octets"),
+    ("job.old", "(lent v memory)"),
+    ("pdu.now", "pdu"),
+    ("payload.now", "payload"),
+    ("sdu.now", "sdu"),
+    ("mtu", "ourMtu"),
+    ("mps", "ourMps"),
+    ("spsm", "number"),
 ];
 
+/// A file of a crate, its words one space apart. What is a lemma may stand in specs/ or proofs/.
 fn read(path: &str) -> String {
-    let path = Path::new(env!("CARGO_MANIFEST_DIR")).join("../crates").join(path);
+    let crates = Path::new(env!("CARGO_MANIFEST_DIR")).join("../crates");
+    let places = [crates.join(path), crates.join(path.replace("/specs/", "/proofs/"))];
+    let path = places.iter().find(|place| place.is_file()).unwrap_or(&places[0]);
     let text = read_to_string(&path).unwrap_or_else(|error| panic!("{}: {error}", path.display()));
     text.split_whitespace().collect::<Vec<_>>().join(" ")
 }
@@ -81,17 +94,16 @@ fn contracts<'a>(source: &'a str, begin: &str) -> Vec<(&'a str, &'a str)> {
     functions
         .map(|text| {
             let name = text.split('(').next().unwrap_or_default();
-            let contract = text.split_once("ensures { λ r. ⌜ ").and_then(|(_, rest)| rest.split_once(" ⌝ }"));
+            let contract = text.split_once("ensures { ").and_then(|(_, rest)| rest.split_once(" }"));
             (name, contract.unwrap_or_else(|| panic!("{name} has no contract")).0)
         })
         .collect()
 }
 
-/// A contract with other words for what it names: first for lent memory, then for single words.
-fn renamed(contract: &str, lent: &[(&str, &str)], words: &[(&str, &str)]) -> String {
-    let named = lent.iter().fold(contract.to_string(), |text, (from, to)| text.replace(from, to));
+/// A contract with other words for what it names.
+fn renamed(contract: &str, words: &[(&str, &str)]) -> String {
     let mut text = String::new();
-    for word in named.split_inclusive([' ', '(', ')']) {
+    for word in contract.split_inclusive([' ', '(', ')']) {
         let end = word.len() - usize::from(word.ends_with([' ', '(', ')']));
         let found = words.iter().find(|(from, _)| *from == &word[..end]);
         text.push_str(found.map_or(&word[..end], |(_, to)| to));
@@ -102,13 +114,13 @@ fn renamed(contract: &str, lent: &[(&str, &str)], words: &[(&str, &str)]) -> Str
 
 /// The premise of a function's lemma.
 fn premise(contract: &str) -> String {
-    renamed(contract, &IN_A_RUN, &[("t", "(s .table)")])
+    renamed(contract, &IN_A_RUN)
 }
 
 /// What an entry's line says that it leaves: the right side of its contract.
 fn line(contract: &str) -> String {
     let (_, leaves) = contract.split_once(" ≡ ").expect("an equation");
-    format!(" = {} ", renamed(leaves, &AT_AN_ENTRY, &[("mtu", "ourMtu"), ("mps", "ourMps"), ("spsm", "number")]))
+    format!(" = {} ", renamed(leaves, &AT_AN_ENTRY))
 }
 
 /// The left side of an entry's contract: the number, and every slice that it is lent, at its end. A table that it may only read stands as it did.
@@ -117,10 +129,10 @@ fn end(source: &str, entry: &str) -> String {
     let (parameters, _) = behind.split_once(") -> ").expect("parameters");
     let lent = |names: &[&str]| {
         let name = names.iter().find(|name| parameters.contains(&format!("{name}: &mut [u8]")));
-        name.map_or("[]".to_string(), |name| format!("(now ({name} .exit))"))
+        name.map_or("[]".to_string(), |name| format!("{name}.new"))
     };
-    let table = if parameters.contains("table: &[u8]") { "(now (table .entry))".to_string() } else { lent(&["table"]) };
-    format!("edge r {table} {} {} {} {}", lent(&["answer"]), lent(&["room"]), lent(&["signal", "out", "buffer"]), lent(&["job"]))
+    let table = if parameters.contains("table: &[u8]") { "table.now".to_string() } else { lent(&["table"]) };
+    format!("edge result {table} {} {} {} {}", lent(&["answer"]), lent(&["room"]), lent(&["signal", "out", "buffer"]), lent(&["job"]))
 }
 
 #[test]
@@ -177,7 +189,7 @@ fn twins_have_one_contract() {
 #[test]
 fn another_contract_is_none_of_them() {
     let holding = read("call_hold/src/lib.rt");
-    let wrong = premise(&contracts(&holding, " pub fn ")[0].1.replace("incRef", "decRef"));
+    let wrong = premise(&contracts(&holding, " pub fn ")[0].1.replace("inc_ref", "dec_ref"));
     assert!(!read("rules_code/specs/Functions.antt").contains(&wrong));
     let entries = read("entries/src/lib.rt");
     let (_, opened) = contracts(&entries, " pub extern \"C\" fn ").into_iter().find(|(name, _)| *name == "l2cap_opened").expect("an entry");

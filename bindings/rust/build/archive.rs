@@ -5,7 +5,7 @@ pub const VERSION: u32 = 4;
 
 /// How an archive is made.
 pub const HOW: &str =
-    "at the repository's root `rt staticlib entries` makes the proved archive (target/staticlib/libentries.a), and `bindings/unproved` in \
+    "at the repository's root `bindings/proved` makes the proved archive (target/staticlib/libentries.a), and `bindings/unproved` in \
     seconds one to try (target/unproved/libentries.a, for L2CAP_CHANNELS_ARCHIVE to name)";
 
 const ARCHIVE: &[u8] = b"!<arch>\n";

@@ -1,5 +1,7 @@
 // A pending connection accepted (the original's name). The contract is the equation with the definition of that call, for the answer, the
 // table and every lent slice.
+#![tactic(auto)]
+
 mod behind;
 
 ghost use Rattle.std.specs.Prelude.{◌≡◌, [], length};

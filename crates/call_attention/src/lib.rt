@@ -1,4 +1,6 @@
 // The attention call: which slots call, how many, and the lowest of them (N when none calls), behind the gate.
+#![tactic(auto)]
+
 ghost use Rattle.std.specs.Prelude.{◌≡◌};
 ghost use Rattle.definition.specs.Ending.{served_of};
 ghost use Rattle.definition.specs.Asking.{attention};

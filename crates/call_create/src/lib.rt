@@ -1,4 +1,6 @@
 // A connection that we ask for (`create` in the original). The contract is the equation with the definition of the call.
+#![tactic(auto)]
+
 mod behind;
 
 ghost use Rattle.std.specs.Prelude.{◌≡◌, [], length};

@@ -1,4 +1,6 @@
 // Disconnects that we ask for (`disconnect`, `disconnect_by_cid` in the original). Each contract is the equation with the definition of that call.
+#![tactic(auto)]
+
 mod behind;
 
 ghost use Rattle.std.specs.Prelude.{◌≡◌, [], length};

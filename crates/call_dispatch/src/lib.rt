@@ -1,5 +1,7 @@
 // Frame in (`dispatch` in the original): the gate, and `behind` behind it. The contract is the equation with the definition of that call,
 // for every payload: its length octets and its job octets are split as in a run of the definition.
+#![tactic(auto)]
+
 mod behind;
 
 ghost use Rattle.std.specs.Prelude.{◌≡◌, [], length};

@@ -1,5 +1,7 @@
 // A pending connection dropped without a response (drop in the original). The contract is the equation with the definition of that call, for
 // the answer, the table and every lent slice.
+#![tactic(auto)]
+
 ghost use Rattle.std.specs.Prelude.{◌≡◌, [], length};
 ghost use Rattle.definition.specs.Ending.{end, end_of};
 ghost use Rattle.definition.specs.Pending.{drop_pending};

@@ -1,4 +1,6 @@
 // A portion of an open job (document 02): what it does to the slot is `slot_portion`'s. The contract is the equation with the definition of that call.
+#![tactic(auto)]
+
 ghost use Rattle.std.specs.Prelude.{◌≡◌, [], length};
 ghost use Rattle.definition.specs.Ending.{end, end_of};
 ghost use Rattle.definition.specs.Portions.{give_portion, portion_on};

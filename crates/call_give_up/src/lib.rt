@@ -1,5 +1,7 @@
 // A connection that we asked for given up (the clean-up of `poll_created` in the original). The contract is the equation with the definition
 // of that call.
+#![tactic(auto)]
+
 ghost use Rattle.std.specs.Prelude.{◌≡◌, [], length};
 ghost use Rattle.definition.specs.Ending.{end, end_of};
 ghost use Rattle.definition.specs.Opening.{give_up};

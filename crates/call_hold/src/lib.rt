@@ -1,4 +1,6 @@
 // A hold on a slot (`inc_ref` in the original); `release` gives one back. The contract is the equation with the definition of that call.
+#![tactic(auto)]
+
 mod release;
 
 ghost use Rattle.std.specs.Prelude.{◌≡◌};

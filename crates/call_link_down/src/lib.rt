@@ -1,4 +1,6 @@
 // A link that is gone (`disconnected` in the original). The contract is the equation with the definition of that call.
+#![tactic(auto)]
+
 ghost use Rattle.std.specs.Prelude.{◌≡◌, [], length};
 ghost use Rattle.definition.specs.Ending.{end, end_of};
 ghost use Rattle.definition.specs.Closing.{disconnected};

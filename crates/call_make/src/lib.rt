@@ -1,5 +1,7 @@
 // Making a table over a room that the caller lends. The contract of `make` is the equation with the definition of that name, for the answer,
 // the table and every octet of the room.
+#![tactic(auto)]
+
 ghost use Rattle.std.specs.Prelude.{◌≡◌, [], map};
 ghost use Rattle.lists.specs.Choose.{choose};
 ghost use Rattle.definition.specs.Ending.{end, served_made, end_made};

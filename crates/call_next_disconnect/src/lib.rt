@@ -1,4 +1,6 @@
 // The next disconnect to be told to the peer (`poll_disconnecting` in the original). The contract is the equation with the definition of that call.
+#![tactic(auto)]
+
 mod behind;
 
 ghost use Rattle.std.specs.Prelude.{◌≡◌, [], length};

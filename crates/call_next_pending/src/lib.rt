@@ -1,4 +1,6 @@
 // A connection that the peer asks for: next pending (the original's name). The contract is the equation with the definition of that call.
+#![tactic(auto)]
+
 ghost use Rattle.std.specs.Prelude.{◌≡◌};
 ghost use Rattle.definition.specs.Ending.{served_of};
 ghost use Rattle.definition.specs.Pending.{next_pending};

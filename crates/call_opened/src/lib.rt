@@ -1,5 +1,7 @@
 // A connection that we asked for: the opened query (`poll_created` in the original). The contract is the equation with the definition of that
 // call.
+#![tactic(auto)]
+
 mod behind;
 
 ghost use Rattle.std.specs.Prelude.{◌≡◌, [], length};

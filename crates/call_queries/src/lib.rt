@@ -1,5 +1,7 @@
 // The five queries of a slot (`spsm`, `mtu`, `mps`, `peer_mtu`, `peer_mps` in the original) and those of its four tallies (`metrics`): the number is read from the slot, and told
 // where the gate lets the call pass (`query`). Each contract is the equation with the definition of that call.
+#![tactic(auto)]
+
 mod query;
 
 ghost use Rattle.std.specs.Prelude.{◌≡◌};

@@ -1,5 +1,7 @@
 // A finished job taken from a slot (`receive` in the original): what it does to the slot, its part of the room and the lent buffers is `slot_take`'s. The contract is
 // the equation with the definition of that call.
+#![tactic(auto)]
+
 ghost use Rattle.std.specs.Prelude.{◌≡◌, [], ◌≤◌, ◌<◌, length};
 ghost use Rattle.channel.specs.Limits.{signal_most};
 ghost use Rattle.definition.specs.Ending.{end, end_of};

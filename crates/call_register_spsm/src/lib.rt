@@ -1,4 +1,6 @@
 // Registering an SPSM (`register_spsm` in the original). The contract is the equation with the definition of that call.
+#![tactic(auto)]
+
 ghost use Rattle.std.specs.Prelude.{◌≡◌};
 ghost use Rattle.definition.specs.Ending.{served_of};
 ghost use Rattle.definition.specs.Asking.{register_spsm};

@@ -1,5 +1,7 @@
 // The rejection of a pending whose result comes as a number, for callers that have numbers only. Defined in Pending.antt of `definition`; it rests on
 // `call_reject::coded::reject_pending`.
+#![tactic(auto)]
+
 pub mod coded;
 
 ghost use Rattle.std.specs.Prelude.{◌≡◌, [], length};

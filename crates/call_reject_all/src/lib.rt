@@ -1,5 +1,7 @@
 // The pending connections of a link rejected, one a call (the original's reject-all step). The contract is the equation with the definition of
 // that call, for the answer, the table and every lent slice.
+#![tactic(auto)]
+
 ghost use Rattle.std.specs.Prelude.{◌≡◌, [], length};
 ghost use Rattle.definition.specs.Ending.{end, end_of};
 ghost use Rattle.definition.specs.Pending.{reject_all_pending};

@@ -1,4 +1,6 @@
 // A job sent on a slot (`send` in the original): what it does to the slot is `slot_send`'s. The contract is the equation with the definition of that call.
+#![tactic(auto)]
+
 ghost use Rattle.std.specs.Prelude.{◌≡◌, [], length};
 ghost use Rattle.definition.specs.Ending.{end, end_of};
 ghost use Rattle.definition.specs.Frames.{send, sent_on};

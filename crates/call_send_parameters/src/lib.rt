@@ -1,5 +1,7 @@
 // The two parameter senders under the original's names: a parameter request and a parameter response of ours, each with the next identifier.
 // Each contract is the equation with the definition of that call. Both come to one function that writes any form, and no caller reaches that.
+#![tactic(auto)]
+
 ghost use Rattle.std.specs.Prelude.{◌≡◌, [], length};
 ghost use Rattle.definition.specs.Ending.{end, end_of};
 ghost use Rattle.definition.specs.Asking.{send_signal, send_conn_param_update_req, send_conn_param_update_res};

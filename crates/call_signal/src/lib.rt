@@ -2,6 +2,8 @@
 // is the equation with the definition. A whole PDU is fed one call a signal: call `signal`, hand out the reply that it wrote, and go on with
 // `signal_headers::rest` of the PDU until that is empty. It is shorter each time, so that this ends, and its headers are good (signal_laws,
 // specs/Feeding.antt).
+#![tactic(auto)]
+
 mod behind;
 
 ghost use Rattle.std.specs.Prelude.{◌≡◌, [], length};

@@ -1,5 +1,7 @@
 // The types of the channel table: slots, table, what a call is given and what it answers. No functions: what they mean is in
 // the crate `definition`, and the code over them stands in the crates above it.
+#![tactic(auto)]
+
 pub use codes::SIZE_LEAST;
 use codes::{LeCreditConnResultCode, Refusal};
 use credit::{CreditFlowControl, CreditFlowPolicy};

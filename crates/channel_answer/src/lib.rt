@@ -1,5 +1,7 @@
 // What a call's answer tells, in numbers: its kind, its refusal and what it carries. Defined in specs/Tells.antt. `edge_answer` writes it for
 // callers in other languages, `row_answer` and `row_call` as a row. It rests on `codes` for the numbers of refusals and result codes.
+#![tactic(auto)]
+
 ghost use Rattle.std.specs.Prelude.{◌≡◌};
 ghost use Rattle.channel.specs.declared.Answer.TheVariants.{Refused, Number};
 ghost use Rattle.lists.specs.Bits as Bits;

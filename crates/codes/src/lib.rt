@@ -1,5 +1,7 @@
 // The numbers of document 01 that every crate above uses: the refusals, the result codes of a connect response (Core Vol 3 Part A 4.23), and the least
 // MTU and MPS. What each stands for is in specs/.
+#![tactic(auto)]
+
 ghost use Rattle.std.specs.Prelude.{◌≡◌};
 ghost use Rattle.codes.specs.Codes.{result_number, result_of, refusal_number, result_in};
 

@@ -1,5 +1,7 @@
 // The credit account of one channel (`CreditFlowControl` in the original's channel manager; Core Vol 3 Part A 10.1): by value.
 // What each method gives is defined in specs/Account.antt; it rests on no other crate.
+#![tactic(auto)]
+
 ghost use Rattle.std.specs.Prelude.{◌≡◌, ◌+◌, ◌-◌, min};
 ghost use Rattle.credit.specs.Account.{credits_most, new_account, received, granted, grant_of};
 

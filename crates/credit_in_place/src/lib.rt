@@ -1,5 +1,7 @@
 // The credit account changed where it stands, behind `&mut`: thin functions over the proved by-value methods of `credit`, each with a
-// bridge for callers that have the account by value. Their proofs are walks of the code by hand: proofs/InPlace.antt explains one.
+// bridge for callers that have the account by value.
+#![tactic(auto)]
+
 ghost use Rattle.std.specs.Prelude.{◌≡◌};
 ghost use Rattle.credit.specs.Account.{received, granted};
 

@@ -1,5 +1,7 @@
 // The read cursor of cursor.rs by value: a cursor is the position alone, and the octets are lent at each call.
 // It stands on octets; a position past the end has nothing available.
+#![tactic(auto)]
+
 ghost use Rattle.std.specs.Prelude.{◌≡◌, ◌-◌, length, drop};
 ghost use Rattle.cursor_read.specs.ReadCursor.{read_number, read_slice, read_past};
 

@@ -1,5 +1,7 @@
 // The write cursor of cursor.rs by value: a cursor is the position alone, and the octets are lent at each call.
 // It stands on octets; a position past the end has no room.
+#![tactic(auto)]
+
 ghost use Rattle.std.specs.Prelude.{◌≡◌, ◌-◌, min, length, take};
 ghost use Rattle.octets.specs.Octets.{le16};
 ghost use Rattle.cursor_write.specs.WriteCursor.{Appends, committed};

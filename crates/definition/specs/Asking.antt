@@ -15,7 +15,7 @@ use Rattle.channel.specs.declared.Given.TheVariants.{Nothing, Is}
 use Rattle.channel.specs.declared.Slot.{Slot}
 use Rattle.channel.specs.declared.Table.{Table}
 use Rattle.definition.specs.Mem.{given}
-use Rattle.definition.specs.Table.{if◌then◌else◌, sizes_fit, fresh, live, slot_at, is_free, calls, room_size, registered, next_id, spent}
+use Rattle.definition.specs.Table.{when◌then◌else◌, sizes_fit, fresh, live, slot_at, is_free, calls, room_size, registered, next_id, spent}
 use Rattle.definition.specs.Outcome.{Outcome, still, refuse, gate}
 
 -- ---- making
@@ -40,8 +40,8 @@ not_made r room = record { answer = Refused r; table = no_slots; room = room }
 -- Row 1: "sizes outside the limits"; row 2: "room length wrong". "making a table zeroes the room"
 unfoldable pub make : (n d m : ℕ) (room : List ℕ) → Made
 make n d m room =
-    if not (sizes_fit n d m) then not_made BadTable room
-    else if not (eqb (length room) (room_size (blank n d m))) then not_made BadRoom room
+    when not (sizes_fit n d m) then not_made BadTable room
+    else when not (eqb (length room) (room_size (blank n d m))) then not_made BadRoom room
     else record { answer = Done; table = blank n d m; room = map (λ _. 0) room }
 
 -- ---- row 5: "registering outside 1..=255"
@@ -49,7 +49,7 @@ make n d m room =
 unfoldable pub register_spsm : Table → (spsm : ℕ) → Outcome
 register_spsm t spsm =
     gate t Nothing Nothing Nothing Nothing
-    (if not (leb 1 spsm && leb spsm spsm_most) then refuse t BadSpsm
+    (when not (leb 1 spsm && leb spsm spsm_most) then refuse t BadSpsm
     else still (registered t spsm) Done [])
 
 -- ---- "The attention set has one bit per slot, set exactly when a job waits, a disconnect is due or ConnectFailed stands; the number
@@ -68,7 +68,7 @@ lowest_free = first is_free
 
 -- "answers slot or none", in whatever words a caller has for these two.
 abbrev pub free_among : {A : Type 0} → (slot : ℕ → A) (none : A) → List Slot → A
-free_among slot none l = if ltb (lowest_free l) (length l) then slot (lowest_free l) else none
+free_among slot none l = when ltb (lowest_free l) (length l) then slot (lowest_free l) else none
 
 -- ---- the five queries of a slot, in any state
 

@@ -14,7 +14,7 @@ use Rattle.channel.specs.declared.Table.{Table}
 use Rattle.definition.specs.Mem.{given}
 use Rattle.definition.specs.States.{is_connected, is_peer_disconnecting, identifier_of}
 use Rattle.definition.specs.Slots.{in_state, with_hold}
-use Rattle.definition.specs.Table.{if◌then◌else◌, slot_at, found, of_link, due_slot, index, cid_of, is_cid, slot_of, next_id, spent}
+use Rattle.definition.specs.Table.{when◌then◌else◌, slot_at, found, of_link, due_slot, index, cid_of, is_cid, slot_of, next_id, spent}
 use Rattle.definition.specs.Outcome.{Outcome, change, sweep, refuse, done, freeing, leaving, gate}
 
 -- "Adding a hold at 255, or releasing at 0, gives 22."
@@ -22,7 +22,7 @@ unfoldable pub inc_ref : Table → (slot : ℕ) → Outcome
 inc_ref t s =
     gate t Nothing Nothing Nothing (Is s)
     (let x = slot_at t s in
-    if leb holds_most x.hold then refuse t Held
+    when leb holds_most x.hold then refuse t Held
     else change t s (with_hold (x.hold + 1) x) [] Done [])
 
 -- "Releasing to hold 0 turns Connected into Disconnecting"
@@ -30,15 +30,15 @@ unfoldable pub dec_ref : Table → (room slot : ℕ) → Outcome
 dec_ref t room s =
     gate t (Is room) Nothing Nothing (Is s)
     (let x = slot_at t s in
-    if eqb x.hold 0 then refuse t Held
-    else if is_connected x.state && eqb x.hold 1 then leaving t s (with_hold 0 x) (Disconnecting false) Done
+    when eqb x.hold 0 then refuse t Held
+    else when is_connected x.state && eqb x.hold 1 then leaving t s (with_hold 0 x) (Disconnecting false) Done
     else change t s (with_hold (x.hold - 1) x) [] Done [])
 
 -- Our side turns Connected into Disconnecting; nothing in another state.
 unfoldable pub disconnecting : Table → (slot : ℕ) → Outcome
 disconnecting t s =
     let x = slot_at t s in
-    if is_connected x.state then leaving t s x (Disconnecting false) Done
+    when is_connected x.state then leaving t s x (Disconnecting false) Done
     else done t
 
 -- "so does a disconnect by slot or by CID, which does nothing in other states or for a CID of no slot"
@@ -48,7 +48,7 @@ disconnect t room s = gate t (Is room) Nothing Nothing (Is s) (disconnecting t s
 unfoldable pub disconnect_by_cid : Table → (room cid : ℕ) → Outcome
 disconnect_by_cid t room cid =
     gate t (Is room) Nothing Nothing Nothing
-    (if is_cid t cid then disconnecting t (slot_of cid)
+    (when is_cid t cid then disconnecting t (slot_of cid)
     else done t)
 
 -- "Link down frees all its slots; holds stay until released"
@@ -78,6 +78,6 @@ next_disconnect t room signal =
     gate t (Is room) (Is signal) Nothing Nothing
     (let s = found due_slot t in
     let x = slot_at t s in
-    if leb t.n s then done t
-    else if is_peer_disconnecting x.state then responded t s x
+    when leb t.n s then done t
+    else when is_peer_disconnecting x.state then responded t s x
     else requested t s x)

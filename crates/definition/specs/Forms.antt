@@ -23,7 +23,7 @@ use Rattle.channel.specs.declared.Slot.{Slot}
 use Rattle.channel.specs.declared.Table.{Table}
 use Rattle.definition.specs.Mem.{Fill, Move, wipe}
 use Rattle.definition.specs.States.{is_disconnected}
-use Rattle.definition.specs.Table.{gap, freed, slot_at, live, width, found, is_free, is_cid, slot_of, spent, registered, well_formed}
+use Rattle.definition.specs.Table.{gap, freed, slot_at, live, width, found, is_free, spent, registered, well_formed}
 use Rattle.definition.specs.Outcome.{Outcome, still, only, change, filling, sweep, verdict, passed, gate}
 use Rattle.definition.specs.Calls.{nobody, by, holder_in, holder}
 use Rattle.definition.specs.Tells.{not_stopped}

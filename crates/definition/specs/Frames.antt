@@ -27,7 +27,7 @@ use Rattle.channel.specs.declared.Table.{Table}
 use Rattle.definition.specs.Mem.{Fill, zeros, given, job, held, Move, put}
 use Rattle.definition.specs.States.{is_disconnected, is_connecting, is_peer_connecting, is_connected, is_connect_failed}
 use Rattle.definition.specs.Slots.{with_account, with_peer_credits, with_assembly, with_queue, count_sent, count_received, count_blocked_send, count_blocked_receive, blocks}
-use Rattle.definition.specs.Table.{if◌then◌else◌, place_of, width, slot_at, is_open, cid_of, is_cid, slot_of, next_id, spent}
+use Rattle.definition.specs.Table.{when◌then◌else◌, place_of, width, slot_at, is_open, cid_of, is_cid, slot_of, next_id, spent}
 use Rattle.definition.specs.Outcome.{Outcome, change, handout, refuse, done, unassembled, leaving, gate}
 
 -- ---- frame in
@@ -40,7 +40,7 @@ queued len q = record { count = q.count + 1; lens = set q.lens q.count len }
 -- the assembly place, then this frame's octets. The assembly place of a joined job is zeroed; a first frame that is complete never touches it.
 abbrev pub finish_moves : (size : ℕ) → Assembly → (queued count : ℕ) → List Move
 finish_moves size a queued count =
-    if is_idle a then put (queue_at size queued) (job 0 count) ∷ []
+    when is_idle a then put (queue_at size queued) (job 0 count) ∷ []
     else put (queue_at size queued) (held 0 a.have) ∷ put (queue_at size queued + a.have) (job 0 count) ∷ unassembled size ∷ []
 
 -- What the join step (crate sar_join) moves there. (A refusal moves nothing by itself: the slot leaves Connected, which zeroes the assembly place.)
@@ -88,10 +88,10 @@ abbrev pub admitted : Table → (link cid : ℕ) (head : List ℕ) (count : ℕ)
 admitted t link cid head count =
     let s = slot_of cid in
     let x = slot_at t s in
-    if not (is_cid t cid) then refuse t InvalidChannelId
-    else if not (is_connected x.state) then done t
-    else if not (eqb x.link link) then refuse t NotFound
-    else if eqb x.account.credits 0 then change t s (count_blocked_receive x) [] (Refused OutOfMemory) []
+    when not (is_cid t cid) then refuse t InvalidChannelId
+    else when not (is_connected x.state) then done t
+    else when not (eqb x.link link) then refuse t NotFound
+    else when eqb x.account.credits 0 then change t s (count_blocked_receive x) [] (Refused OutOfMemory) []
     else joined t s (count_received (with_account (received x.account 1) x)) count (step_of (arriving t x head count))
 
 unfoldable pub dispatch : Table → (room link cid : ℕ) (head : List ℕ) (count : ℕ) → Outcome
@@ -122,7 +122,7 @@ frames cid mps l n =
 -- A send or a start that its plan refuses: "a refusal by 14 .. counts as blocked, and row[] 14 .. change[s] that tally" (document 02).
 abbrev pub unsent : Table → (slot : ℕ) → Slot → Refusal → Outcome
 unsent t s x r =
-    if blocks r then change t s (count_blocked_send x) [] (Refused r) []
+    when blocks r then change t s (count_blocked_send x) [] (Refused r) []
     else refuse t r
 
 -- "On success peer credits fall by n." "A send adds n when its credits are taken".
@@ -134,8 +134,8 @@ planned t s x l (Plan.Frames n octets) = change t s (count_sent n (with_peer_cre
 abbrev pub sent_on : Table → (slot l out : ℕ) → Outcome
 sent_on t s l out =
     let x = slot_at t s in
-    if not (is_connected x.state) then refuse t ChannelClosed
-    else if is_open x.job then refuse t JobOpen
+    when not (is_connected x.state) then refuse t ChannelClosed
+    else when is_open x.job then refuse t JobOpen
     else planned t s x l (plan_send l x.peer.mtu x.peer.mps x.peer.credits out)
 
 unfoldable pub send : Table → (slot l out : ℕ) → Outcome
@@ -168,7 +168,7 @@ handing t s x signal = handout t s (with_queue (shifted x.queue) x) (moving_up t
 
 -- "Connected only: Every(k) grants all received when received ≥ k, MinThreshold(t) when credits < t, never 0 credits."
 unfoldable pub grant_in : Slot → Grant
-grant_in x = if is_connected x.state then grant_of x.account else Grant.Nothing
+grant_in x = when is_connected x.state then grant_of x.account else Grant.Nothing
 
 -- The signal that grants n credits to slot s's peer (Core Vol 3 Part A 4.24).
 abbrev pub crediting : (slot n : ℕ) → LeCreditFlowInd
@@ -187,9 +187,9 @@ closed k = is_disconnected k || (is_connecting k || (is_peer_connecting k || is_
 abbrev pub taken_on : Table → (slot size : ℕ) → Outcome
 taken_on t s size =
     let x = slot_at t s in
-    if closed x.state then refuse t ChannelClosed
-    else if eqb x.queue.count 0 then done t
-    else if ltb size (oldest x) then refuse t InsufficientSpace
+    when closed x.state then refuse t ChannelClosed
+    else when eqb x.queue.count 0 then done t
+    else when ltb size (oldest x) then refuse t InsufficientSpace
     else taken t s x (grant_in x)
 
 unfoldable pub receive : Table → (room signal slot size : ℕ) → Outcome

@@ -15,7 +15,7 @@ use Rattle.channel.specs.declared.Table.{Table}
 use Rattle.definition.specs.Mem.{given}
 use Rattle.definition.specs.States.{is_disconnected, is_connecting, is_connected, is_connect_failed, is_peer_disconnecting, is_disconnecting, failure_of}
 use Rattle.definition.specs.Slots.{with_hold}
-use Rattle.definition.specs.Table.{if◌then◌else◌, slot_at, found, fresh, is_free, index, cid_of, next_id, spent}
+use Rattle.definition.specs.Table.{when◌then◌else◌, slot_at, found, fresh, is_free, index, cid_of, next_id, spent}
 use Rattle.definition.specs.Outcome.{Outcome, change, refuse, done, freeing, gate}
 use Rattle.definition.specs.Pending.{mtu_of, mps_of, credits_of, mps_too_large, mtu_too_large}
 
@@ -56,9 +56,9 @@ unfoldable pub create : Table → (signal link spsm : ℕ) → L2capChannelConfi
 create t signal link spsm c =
     gate t Nothing (Is signal) (Is link) Nothing
     (let s = found is_free t in
-    if mps_too_large t c then refuse (spent t) InsufficientSpace
-    else if mtu_too_large t c then refuse (spent t) InsufficientSpace
-    else if leb t.n s then refuse (spent t) NoChannelAvailable
+    when mps_too_large t c then refuse (spent t) InsufficientSpace
+    else when mtu_too_large t c then refuse (spent t) InsufficientSpace
+    else when leb t.n s then refuse (spent t) NoChannelAvailable
     else started t s link spsm c)
 
 -- "Opened query: slot free → 18; another link's → 8; link down or disconnecting → 18, freed; failed → 17, freed; Connected with a
@@ -67,19 +67,19 @@ create t signal link spsm c =
 -- Of slot s, as x, which is in use and of the link that asks.
 abbrev pub polled : Table → (slot : ℕ) → Slot → (up : Bool) → Outcome
 polled t s x up =
-    if not up then freeing t s x (Refused Disconnected) []
-    else if is_peer_disconnecting x.state || is_disconnecting x.state then freeing t s x (Refused Disconnected) []
-    else if is_connect_failed x.state then freeing t s x (Refused (ConnectError (failure_of x.state))) []
-    else if not (is_connected x.state) then done t
-    else if not (eqb x.hold 0) then refuse t Held
+    when not up then freeing t s x (Refused Disconnected) []
+    else when is_peer_disconnecting x.state || is_disconnecting x.state then freeing t s x (Refused Disconnected) []
+    else when is_connect_failed x.state then freeing t s x (Refused (ConnectError (failure_of x.state))) []
+    else when not (is_connected x.state) then done t
+    else when not (eqb x.hold 0) then refuse t Held
     else change t s (with_hold 1 x) [] Opened []
 
 unfoldable pub opened : Table → (room slot link : ℕ) (up : Bool) → Outcome
 opened t room s link up =
     gate t (Is room) Nothing (Is link) (Is s)
     (let x = slot_at t s in
-    if is_disconnected x.state then refuse t Disconnected
-    else if not (eqb x.link link) then refuse t NotFound
+    when is_disconnected x.state then refuse t Disconnected
+    else when not (eqb x.link link) then refuse t NotFound
     else polled t s x up)
 
 -- "Give-up frees Connecting, ConnectFailed, or Connected without holds, else 8 (added)."
@@ -87,6 +87,6 @@ unfoldable pub give_up : Table → (room slot : ℕ) → Outcome
 give_up t room s =
     gate t (Is room) Nothing Nothing (Is s)
     (let x = slot_at t s in
-    if is_connecting x.state || (is_connect_failed x.state || (is_connected x.state && eqb x.hold 0))
+    when is_connecting x.state || (is_connect_failed x.state || (is_connected x.state && eqb x.hold 0))
     then freeing t s x Done []
     else refuse t NotFound)

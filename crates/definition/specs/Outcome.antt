@@ -17,7 +17,7 @@ use Rattle.channel.specs.declared.Slot.{Slot}
 use Rattle.channel.specs.declared.Table.{Table}
 use Rattle.definition.specs.Mem.{Fill, zeros, Move, put, wipe, sizes}
 use Rattle.definition.specs.Slots.{left}
-use Rattle.definition.specs.Table.{if◌then◌else◌, place_of, room_size, live, with_slots, put_slot, freed, well_formed}
+use Rattle.definition.specs.Table.{when◌then◌else◌, place_of, room_size, live, with_slots, put_slot, freed, well_formed}
 
 pub record Outcome : Type 0 where
   pub answer : Answer
@@ -96,11 +96,11 @@ fails bad (Is x) = bad x
 
 unfoldable pub verdict : Table → (room signal link slot : Given) → Verdict
 verdict t room signal link slot =
-    if not (well_formed t) then Stop BadTable
-    else if fails (λ size. not (eqb size (room_size t))) room then Stop BadRoom
-    else if fails (λ size. ltb size signal_most) signal then Stop NoRoom
-    else if fails (λ l. ltb handle_most l) link then Stop BadHandle
-    else if fails (λ s. leb t.n s) slot then Stop BadSlot
+    when not (well_formed t) then Stop BadTable
+    else when fails (λ size. not (eqb size (room_size t))) room then Stop BadRoom
+    else when fails (λ size. ltb size signal_most) signal then Stop NoRoom
+    else when fails (λ l. ltb handle_most l) link then Stop BadHandle
+    else when fails (λ s. leb t.n s) slot then Stop BadSlot
     else Pass
 
 -- what follows is done only where the verdict lets it pass

@@ -23,7 +23,7 @@ use Rattle.channel.specs.declared.Table.{Table}
 use Rattle.definition.specs.Mem.{Fill, given}
 use Rattle.definition.specs.States.{is_peer_connecting, is_connected, identifier_of}
 use Rattle.definition.specs.Slots.{with_hold}
-use Rattle.definition.specs.Table.{if◌then◌else◌, place_of, mps_most, slot_at, found, pending_of, unheld_pending_of, index, cid_of}
+use Rattle.definition.specs.Table.{when◌then◌else◌, place_of, mps_most, slot_at, found, pending_of, unheld_pending_of, index, cid_of}
 use Rattle.definition.specs.Outcome.{Outcome, change, refuse, done, freeing, gate}
 
 -- ---- "Defaults: credits D, MTU M-6, MPS M-4."
@@ -60,8 +60,8 @@ unfoldable pub next_pending : Table → (link : ℕ) (up : Bool) → Outcome
 next_pending t link up =
     gate t Nothing Nothing (Is link) Nothing
     (let s = found (pending_of link) t in
-    if leb t.n s then (if up then done t else refuse t Disconnected)
-    else if not (eqb (slot_at t s).hold 0) then refuse t Held
+    when leb t.n s then (when up then done t else refuse t Disconnected)
+    else when not (eqb (slot_at t s).hold 0) then refuse t Held
     else change t s (with_hold 1 (slot_at t s)) [] (At (index s)) [])
 
 -- ---- "Rejecting all pendings goes one slot a call: the link's lowest PeerConnecting slot without holds gets response 4 and is freed"
@@ -70,7 +70,7 @@ unfoldable pub reject_all_pending : Table → (room signal link : ℕ) → Outco
 reject_all_pending t room signal link =
     gate t (Is room) (Is signal) (Is link) Nothing
     (let s = found (unheld_pending_of link) t in
-    if leb t.n s then done t
+    when leb t.n s then done t
     else freeing t s (slot_at t s) (At (index s)) (refused_response (identifier_of (slot_at t s).state) NoResources))
 
 -- ---- "Accept: MPS and MTU (12), state (8), hold 0 (22, added)."
@@ -110,10 +110,10 @@ unfoldable pub accept_pending : Table → (signal slot : ℕ) → L2capChannelCo
 accept_pending t signal s c =
     gate t Nothing (Is signal) Nothing (Is s)
     (let x = slot_at t s in
-    if mps_too_large t c then refuse t InsufficientSpace
-    else if mtu_too_large t c then refuse t InsufficientSpace
-    else if not (is_peer_connecting x.state) then refuse t NotFound
-    else if eqb x.hold 0 then refuse t Held
+    when mps_too_large t c then refuse t InsufficientSpace
+    else when mtu_too_large t c then refuse t InsufficientSpace
+    else when not (is_peer_connecting x.state) then refuse t NotFound
+    else when eqb x.hold 0 then refuse t Held
     else agreed t s x c)
 
 -- ---- "Reject: state, hold."
@@ -122,8 +122,8 @@ unfoldable pub reject_pending : Table → (room signal slot : ℕ) → LeCreditC
 reject_pending t room signal s result =
     gate t (Is room) (Is signal) Nothing (Is s)
     (let x = slot_at t s in
-    if not (is_peer_connecting x.state) then refuse t NotFound
-    else if eqb x.hold 0 then refuse t Held
+    when not (is_peer_connecting x.state) then refuse t NotFound
+    else when eqb x.hold 0 then refuse t Held
     else freeing t s (with_hold (x.hold - 1) x) (Link x.link) (refused_response (identifier_of x.state) result))
 
 -- A reject whose result comes as a number. "Result codes: 0, 2 and 4 to 11; another number is Decode": 15, behind the first refusals and
@@ -145,7 +145,7 @@ unfoldable pub drop_pending : Table → (room slot : ℕ) → Outcome
 drop_pending t room s =
     gate t (Is room) Nothing Nothing (Is s)
     (let x = slot_at t s in
-    if is_connected x.state then done t
-    else if eqb x.hold 0 then refuse t Held
-    else if is_peer_connecting x.state then freeing t s (with_hold (x.hold - 1) x) Done []
+    when is_connected x.state then done t
+    else when eqb x.hold 0 then refuse t Held
+    else when is_peer_connecting x.state then freeing t s (with_hold (x.hold - 1) x) Done []
     else change t s (with_hold (x.hold - 1) x) [] Done [])

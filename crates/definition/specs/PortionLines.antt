@@ -1,6 +1,6 @@
 -- Worked lines of jobs handed over in portions (Portions.antt): a table of two slots, a call, what it answers and leaves; in them every test of the three
 -- calls decides, and every clause of document 02 (i) that older calls got.
-use Rattle.std.specs.Prelude.{◌≡◌, refl, Bool, true, false, List, [], ◌∷◌, ◌++◌, map, ℕ, replicate}
+use Rattle.std.specs.Prelude.{◌≡◌, refl, Bool, true, false, List, [], ◌∷◌, ◌++◌, ℕ, replicate}
 use Rattle.lists.specs.Choose.{choose}
 use Rattle.lists.specs.Every as Each
 use Rattle.lists.specs.First.{first}
@@ -12,9 +12,8 @@ use Rattle.signal_bodies.specs.LeCreditBodies.{le_credit_flow_ind}
 use Rattle.channel.specs.declared.Answer.TheVariants.{Done, Frames, Portion}
 use Rattle.channel.specs.declared.ChannelState.TheVariants.{PeerDisconnecting, Connected, Disconnecting}
 use Rattle.channel.specs.declared.OpenJob.{OpenJob}
-use Rattle.channel.specs.declared.Peer.{Peer}
 use Rattle.channel.specs.declared.Slot.{Slot}
-use Rattle.definition.specs.Mem.{Fill, given, sizes, size, fill, move, moves, parts, fills, written}
+use Rattle.definition.specs.Mem.{given, sizes, size, fill, move, moves, parts, fills, written}
 use Rattle.definition.specs.Slots.{with_job}
 use Rattle.definition.specs.Table.{slot_fits, well_formed}
 use Rattle.definition.specs.Outcome.{only, verdict}
@@ -23,8 +22,8 @@ use Rattle.definition.specs.Signals.{on_disconnection_req, on_credits, handled, 
 use Rattle.definition.specs.Frames.{send, planned}
 use Rattle.definition.specs.Portions.{start_planned, start_job, give_portion, cancel_job}
 use Rattle.definition.specs.Calls.{Call, portions, down, signals, releases, leaves, starts, cancels, jobs, bare, serve, decide}
-use Rattle.definition.specs.Run.{State, outcome, after}
-use Rattle.definition.specs.Line.{◌⊢◌⇒◌, ◌&◌, Hold, Agree, Told, refused, answered, told, ask, start, window, two, no, yes, slots, writes, cleared0, wiped0, peer, every, idle, none, free, channel, tallied, telling, quiet, connected, credits, leaving}
+use Rattle.definition.specs.Run.{after}
+use Rattle.definition.specs.Line.{◌⊢◌⇒◌, ◌&◌, Hold, Agree, Told, refused, answered, told, ask, window, two, no, yes, slots, writes, cleared0, wiped0, peer, every, idle, none, free, channel, tallied, telling, quiet, connected, credits, leaving}
 
 -- ---- slots with a job open
 

@@ -16,7 +16,7 @@ use Rattle.channel.specs.declared.Table.{Table}
 use Rattle.definition.specs.Mem.{Fill, given, job}
 use Rattle.definition.specs.States.{is_connected}
 use Rattle.definition.specs.Slots.{with_peer_credits, with_job, no_job, count_sent}
-use Rattle.definition.specs.Table.{if◌then◌else◌, slot_at, is_open}
+use Rattle.definition.specs.Table.{when◌then◌else◌, slot_at, is_open}
 use Rattle.definition.specs.Outcome.{Outcome, change, filling, refuse, leaving, gate}
 use Rattle.definition.specs.Frames.{header, first_header, unsent}
 
@@ -49,15 +49,15 @@ unfoldable pub start_planned : Table → (slot : ℕ) → Slot → (l size : ℕ
 start_planned t s x l size (Plan.Refused r) = unsent t s x r
 start_planned t s x l size (Plan.Frames n octets) =
     let mps = x.peer.mps in
-    if ltb size (buffer_size mps l) then refuse t NoRoom
+    when ltb size (buffer_size mps l) then refuse t NoRoom
     else filling t s (with_job (begun l n) (count_sent n (with_peer_credits (x.peer.credits - n) x))) (Frames x.link n) 0 (given (first_header x.peer.cid (longest mps l) l) ∷ []) 0
 
 -- 11, 24, then a send's 12, 23, 20, 14: its plan, for an output that suffices. Behind the first refusals:
 abbrev pub start_on : Table → (slot l size : ℕ) → Outcome
 start_on t s l size =
     let x = slot_at t s in
-    if not (is_connected x.state) then refuse t ChannelClosed
-    else if is_open x.job then refuse t JobOpen
+    when not (is_connected x.state) then refuse t ChannelClosed
+    else when is_open x.job then refuse t JobOpen
     else start_planned t s x l size (plan_send l x.peer.mtu x.peer.mps x.peer.credits (frames_length l x.peer.mps))
 
 unfoldable pub start_job : Table → (slot l size : ℕ) → Outcome
@@ -77,8 +77,8 @@ full_with mps j count = eqb (j.filled + taking mps j count) (frame_size mps j)
 abbrev pub filled_by : (mps : ℕ) → OpenJob → (count : ℕ) → OpenJob
 filled_by mps j count =
     let taken = j.taken + taking mps j count in
-    if not (full_with mps j count) then record { length = j.length; taken = taken; filled = j.filled + taking mps j count; aside = j.aside }
-    else if eqb (given_out j + frame_size mps j) (j.length + 2) || eqb j.aside 1 then no_job
+    when not (full_with mps j count) then record { length = j.length; taken = taken; filled = j.filled + taking mps j count; aside = j.aside }
+    else when eqb (given_out j + frame_size mps j) (j.length + 2) || eqb j.aside 1 then no_job
     else record { length = j.length; taken = taken; filled = 0; aside = j.aside - 1 }
 
 -- Does a frame begin with this portion? Its header comes with its first octet, or with a frame that is given out empty.
@@ -87,16 +87,16 @@ begins mps j count = eqb j.filled 0 && (ltb 0 (taking mps j count) || full_with 
 
 -- Where the portion's octets go: with the header, to the buffer's start; else behind those that stand there.
 abbrev pub filled_from : (mps : ℕ) → OpenJob → (count : ℕ) → ℕ
-filled_from mps j count = if begins mps j count then 0 else frame_head + j.filled
+filled_from mps j count = when begins mps j count then 0 else frame_head + j.filled
 
 abbrev pub filled_with : (cid mps : ℕ) → OpenJob → (count : ℕ) → List Fill
 filled_with cid mps j count =
-    if begins mps j count then given (header cid (frame_size mps j)) ∷ job 0 (taking mps j count) ∷ []
+    when begins mps j count then given (header cid (frame_size mps j)) ∷ job 0 (taking mps j count) ∷ []
     else job 0 (taking mps j count) ∷ []
 
 -- The octets that are given out, from the buffer's start: the frame, where it is full.
 abbrev pub frame_out : (mps : ℕ) → OpenJob → (count : ℕ) → ℕ
-frame_out mps j count = if full_with mps j count then frame_head + frame_size mps j else 0
+frame_out mps j count = when full_with mps j count then frame_head + frame_size mps j else 0
 
 abbrev pub portioned : Table → (slot : ℕ) → Slot → (count : ℕ) → Outcome
 portioned t s x count =
@@ -110,10 +110,10 @@ portioned t s x count =
 abbrev pub portion_on : Table → (slot count size : ℕ) → Outcome
 portion_on t s count size =
     let x = slot_at t s in
-    if not (is_connected x.state) then refuse t ChannelClosed
-    else if not (is_open x.job) then refuse t NotFound
-    else if ltb size (buffer_size x.peer.mps x.job.length) then refuse t NoRoom
-    else if ltb (x.job.length - x.job.taken) count then refuse t WrongLength
+    when not (is_connected x.state) then refuse t ChannelClosed
+    else when not (is_open x.job) then refuse t NotFound
+    else when ltb size (buffer_size x.peer.mps x.job.length) then refuse t NoRoom
+    else when ltb (x.job.length - x.job.taken) count then refuse t WrongLength
     else portioned t s x count
 
 unfoldable pub give_portion : Table → (slot count size : ℕ) → Outcome
@@ -127,9 +127,9 @@ returned x = with_job no_job (with_peer_credits (x.peer.credits + x.job.aside) x
 abbrev pub cancel_on : Table → (slot : ℕ) → Outcome
 cancel_on t s =
     let x = slot_at t s in
-    if not (is_connected x.state) then refuse t ChannelClosed
-    else if not (is_open x.job) then refuse t NotFound
-    else if eqb (given_out x.job) 0 then change t s (returned x) [] Done []
+    when not (is_connected x.state) then refuse t ChannelClosed
+    else when not (is_open x.job) then refuse t NotFound
+    else when eqb (given_out x.job) 0 then change t s (returned x) [] Done []
     else leaving t s x (Disconnecting false) Done
 
 unfoldable pub cancel_job : Table → (room slot : ℕ) → Outcome

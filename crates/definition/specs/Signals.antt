@@ -25,7 +25,7 @@ use Rattle.definition.specs.Readers.{command_reject_res, disconnection_req, disc
 use Rattle.definition.specs.Mem.{Fill, given}
 use Rattle.definition.specs.States.{is_disconnecting}
 use Rattle.definition.specs.Slots.{in_state, with_peer, with_peer_credits}
-use Rattle.definition.specs.Table.{if◌then◌else◌, slot_at, found, fresh, is_free, of_link, attempt_of, attempt_by, connected_to, uses_peer, below_least, is_cid, slot_of, is_registered}
+use Rattle.definition.specs.Table.{when◌then◌else◌, slot_at, found, fresh, is_free, of_link, attempt_of, attempt_by, connected_to, uses_peer, below_least, is_cid, slot_of, is_registered}
 use Rattle.definition.specs.Outcome.{Outcome, still, change, sweep, refuse, done, freeing, leaving, gate}
 use Rattle.definition.specs.Pending.{refused_response}
 
@@ -73,11 +73,11 @@ unfoldable pub on_conn_req : Table → (link : ℕ) (listening : Bool) (id : ℕ
 on_conn_req t link listening id b =
     on_body t id (conn_req_body b) λ req.
     let s = found is_free t in
-    if not (is_registered t req.spsm) then still t Done (refused_response id Result.SpsmNotSupported)
-    else if not listening then still t Done (refused_response id Result.NoResources)
-    else if below_least (requester req) then still t Done (refused_response id Result.UnacceptableParameters)
-    else if ltb (found (uses_peer link req.scid) t) t.n then still t Done (refused_response id Result.ScidAlreadyAllocated)
-    else if leb t.n s then still t Done (refused_response id Result.NoResources)
+    when not (is_registered t req.spsm) then still t Done (refused_response id Result.SpsmNotSupported)
+    else when not listening then still t Done (refused_response id Result.NoResources)
+    else when below_least (requester req) then still t Done (refused_response id Result.UnacceptableParameters)
+    else when ltb (found (uses_peer link req.scid) t) t.n then still t Done (refused_response id Result.ScidAlreadyAllocated)
+    else when leb t.n s then still t Done (refused_response id Result.NoResources)
     else change t s (pending link id req) [] Done []
 
 -- ---- 0x15 (4.23): "matched to the lowest Connecting slot with that identifier and link"; row 8: "unmatched connect response frees all
@@ -92,15 +92,15 @@ abbrev pub answered : Table → (slot : ℕ) → LeCreditConnRes → Outcome
 answered t s res =
     let x = slot_at t s in
     let y = with_peer (responder res) x in
-    if not (eqb (result_number res.result) 0) then change t s (in_state (ConnectFailed res.result) x) [] (Refused (ConnectError res.result)) []
-    else if below_least (responder res) then change t s (in_state (Disconnecting false) y) [] (Refused InvalidValue) []
+    when not (eqb (result_number res.result) 0) then change t s (in_state (ConnectFailed res.result) x) [] (Refused (ConnectError res.result)) []
+    else when below_least (responder res) then change t s (in_state (Disconnecting false) y) [] (Refused InvalidValue) []
     else change t s (in_state Connected y) [] Done []
 
 unfoldable pub on_conn_res : Table → (link id : ℕ) → LeCreditConnResRead → Outcome
 on_conn_res t link id b =
     on_body t id (conn_res_body b) λ res.
     let s = found (attempt_by link id) t in
-    if leb t.n s then sweep t (attempt_of link) (Refused NotFound)
+    when leb t.n s then sweep t (attempt_of link) (Refused NotFound)
     else answered t s res
 
 -- ---- 0x16 (4.24): "first Connected slot of this link with that peer CID. A sum above 65,535: Disconnecting, credits kept." "0x16's sum counts
@@ -111,8 +111,8 @@ on_credits t link id b =
     on_body t id (credits_body b) λ ind.
     let s = found (connected_to link ind.cid) t in
     let x = slot_at t s in
-    if leb t.n s then refuse t NotFound
-    else if ltb credits_most (x.peer.credits + x.job.aside + ind.credits) then leaving t s x (Disconnecting false) (Refused InvalidValue)
+    when leb t.n s then refuse t NotFound
+    else when ltb credits_most (x.peer.credits + x.job.aside + ind.credits) then leaving t s x (Disconnecting false) (Refused InvalidValue)
     else change t s (with_peer_credits (x.peer.credits + ind.credits) x) [] Done []
 
 -- ---- 0x06 (4.6): "slot with that CID, this link, not Disconnected → PeerDisconnecting; else reject reason 2"
@@ -121,8 +121,8 @@ unfoldable pub on_disconnection_req : Table → (link id : ℕ) → Disconnectio
 on_disconnection_req t link id b =
     on_body t id (disconnection_req_body b) λ req.
     let s = slot_of req.dcid in
-    if not (is_cid t req.dcid) then still t Done (reject_reply id 2)
-    else if not (of_link link (slot_at t s)) then still t Done (reject_reply id 2)
+    when not (is_cid t req.dcid) then still t Done (reject_reply id 2)
+    else when not (of_link link (slot_at t s)) then still t Done (reject_reply id 2)
     else leaving t s (slot_at t s) (PeerDisconnecting id) Done
 
 -- ---- 0x07 (4.7): "SCID names a Disconnecting slot of this link: freed; else nothing."
@@ -131,8 +131,8 @@ unfoldable pub on_disconnection_res : Table → (link id : ℕ) → Disconnectio
 on_disconnection_res t link id b =
     on_body t id (disconnection_res_body b) λ res.
     let s = slot_of res.scid in
-    if not (is_cid t res.scid) then done t
-    else if not (is_disconnecting (slot_at t s).state && eqb (slot_at t s).link link) then done t
+    when not (is_cid t res.scid) then done t
+    else when not (is_disconnecting (slot_at t s).state && eqb (slot_at t s).link link) then done t
     else freeing t s (slot_at t s) Done []
 
 -- ---- 0x12 (4.20): "not Central → reject, answer 0, before the body is read. .. Invalid → response 1; valid → an event, no reply."
@@ -140,12 +140,12 @@ on_disconnection_res t link id b =
 unfoldable pub on_parameters : Table → (id : ℕ) → ConnParamUpdateReqRead → Outcome
 on_parameters t id b =
     on_body t id (parameters_body b) λ req.
-    if parameters_valid req then still t (Event req.min req.max req.latency req.timeout) []
+    when parameters_valid req then still t (Event req.min req.max req.latency req.timeout) []
     else still t Done (given (encode_of id (Signal.ConnParamUpdateRes (record { result = 1 }))) ∷ [])
 
 -- "not Central → reject, answer 0, before the body is read"
 abbrev pub on_update : Table → (central : Bool) (id : ℕ) (body : List ℕ) → Outcome
-on_update t central id body = if central then on_parameters t id (conn_param_update_req body) else still t Done (reject_reply id 0)
+on_update t central id body = when central then on_parameters t id (conn_param_update_req body) else still t Done (reject_reply id 0)
 
 -- ---- "0x01 and 0x13: read, no reply, answer 0." (4.1, 4.21)
 
@@ -159,14 +159,14 @@ on_parameter_response t id b = on_body t id (parameter_response_body b) λ res. 
 
 unfoldable pub handled : Table → (link : ℕ) (listening central : Bool) (code id : ℕ) (body : List ℕ) → Outcome
 handled t link listening central code id body =
-    if eqb code 0x01 then on_reject t id (command_reject_res body)
-    else if eqb code 0x06 then on_disconnection_req t link id (disconnection_req body)
-    else if eqb code 0x07 then on_disconnection_res t link id (disconnection_res body)
-    else if eqb code 0x12 then on_update t central id body
-    else if eqb code 0x13 then on_parameter_response t id (conn_param_update_res body)
-    else if eqb code 0x14 then on_conn_req t link listening id (le_credit_conn_req body)
-    else if eqb code 0x15 then on_conn_res t link id (le_credit_conn_res body)
-    else if eqb code 0x16 then on_credits t link id (le_credit_flow_ind body)
+    when eqb code 0x01 then on_reject t id (command_reject_res body)
+    else when eqb code 0x06 then on_disconnection_req t link id (disconnection_req body)
+    else when eqb code 0x07 then on_disconnection_res t link id (disconnection_res body)
+    else when eqb code 0x12 then on_update t central id body
+    else when eqb code 0x13 then on_parameter_response t id (conn_param_update_res body)
+    else when eqb code 0x14 then on_conn_req t link listening id (le_credit_conn_req body)
+    else when eqb code 0x15 then on_conn_res t link id (le_credit_conn_res body)
+    else when eqb code 0x16 then on_credits t link id (le_credit_flow_ind body)
     else still t (Refused NotSupported) (reject_reply id 0)
 
 -- "One call first checks every header in the octets given, then handles the first signal .. Empty input does nothing."
@@ -175,7 +175,7 @@ unfoldable pub checked : Table → (link : ℕ) (listening central : Bool) (pdu 
 checked t link listening central pdu Cut = refuse t Decode
 checked t link listening central pdu (Past id) = still t (Refused InvalidValue) (reject_reply id 0)
 checked t link listening central pdu Good =
-    if eqb (length pdu) 0 then done t
+    when eqb (length pdu) 0 then done t
     else handled t link listening central (get_or pdu 0 0) (get_or pdu 1 0) (body_in pdu)
 
 unfoldable pub signalled : Table → (room signal link : ℕ) (listening central : Bool) (pdu : List ℕ) → Outcome

@@ -20,9 +20,9 @@ pub use Rattle.definition.specs.States.{is_disconnected, is_connecting, is_peer_
 pub use Rattle.definition.specs.Slots.{in_state, with_hold, with_account, with_peer, with_peer_credits, with_assembly, with_queue, with_job, with_tallies, with_sends, with_receives, no_job, no_tally, no_tallies, counted, more, blocked_more, count_sent, count_received, count_blocked_send, count_blocked_receive, blocks, blocked_by, tallies_left, left}
 
 -- A test, an answer, and what else: read it aloud.
-infixr 5 if◌then◌else◌
-abbrev pub if◌then◌else◌ : {A : Type 0} → Bool → A → A → A
-if◌then◌else◌ = choose
+infixr 5 when◌then◌else◌
+abbrev pub when◌then◌else◌ : {A : Type 0} → Bool → A → A → A
+when◌then◌else◌ = choose
 
 -- ---- sizes
 

@@ -6,16 +6,14 @@ use Rattle.lists.specs.Every as Each
 use Rattle.lists.specs.First.{first}
 use Rattle.lists.specs.Fuel.{whole}
 use Rattle.codes.specs.declared.LeCreditConnResultCode.TheVariants.{NoResources}
-use Rattle.sar_join.specs.Joining.{join_step, first_step, reached, assembled}
+use Rattle.sar_join.specs.Joining.{join_step, first_step, reached}
 use Rattle.sar_cut.specs.Cutting.{ceil, frame_count, frames_length, plan_send}
 use Rattle.signal_headers.specs.Headers.{headers_of}
 use Rattle.signal_bodies.specs.Bodies.{disconnection_req, disconnection_res}
 use Rattle.signal_bodies.specs.LeCreditBodies.{le_credit_flow_ind}
 use Rattle.signal_write.specs.Writer.{encode_of}
 use Rattle.channel.specs.declared.Answer.TheVariants.{Number}
-use Rattle.channel.specs.declared.ChannelState.{ChannelState}
 use Rattle.channel.specs.declared.ChannelState.TheVariants.{Disconnected, Connecting, PeerConnecting, Connected, ConnectFailed, PeerDisconnecting, Disconnecting}
-use Rattle.channel.specs.declared.OpenJob.{OpenJob}
 use Rattle.channel.specs.declared.Slot.{Slot}
 use Rattle.channel.specs.declared.Tallies.{Tallies}
 use Rattle.definition.specs.Slots.{with_job}
@@ -25,12 +23,12 @@ use Rattle.definition.specs.Pending.{drop_pending}
 use Rattle.definition.specs.Opening.{opened, give_up}
 use Rattle.definition.specs.Closing.{dec_ref, disconnecting, disconnect, disconnect_by_cid, disconnected, next_disconnect}
 use Rattle.definition.specs.Signals.{on_disconnection_req, on_disconnection_res, on_credits, handled, checked, signalled}
-use Rattle.definition.specs.Frames.{dispatch, joined, send, planned, frames, later_frames}
+use Rattle.definition.specs.Frames.{dispatch, joined, send, planned}
 use Rattle.definition.specs.Portions.{start_planned, start_job, give_portion, cancel_job}
 use Rattle.definition.specs.Asking.{query, tally_sent, tally_received, tally_blocked_sends, tally_blocked_receives}
-use Rattle.definition.specs.Calls.{Call, frame, down, signals, drops, opens, gives, releases, leaves, leaves_cid, announces, jobs, bare, serve, decide}
-use Rattle.definition.specs.Run.{outcome, after}
-use Rattle.definition.specs.Line.{Agree, answered, refused, told, ask, start, two, every, idle, partly, none, one, both, peer, free, channel, quiet, connected, tallied, untold, telling, credits, leaving, gone}
+use Rattle.definition.specs.Calls.{Call, down, signals, drops, opens, gives, releases, leaves, leaves_cid, announces, jobs, bare, serve, decide}
+use Rattle.definition.specs.Run.{outcome}
+use Rattle.definition.specs.Line.{Agree, answered, refused, told, ask, start, two, every, idle, none, both, peer, free, channel, quiet, connected, tallied, untold, telling, credits, leaving, gone}
 
 -- what slot 0 has counted after a call
 abbrev of : Outcome → Tallies

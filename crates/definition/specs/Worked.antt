@@ -896,7 +896,7 @@ making_lines = record { limits = refl; short = refl; no-slots = refl; left = ref
 
 -- ---- every test, and the lines that break when it is dropped, or swapped with the next ("a > b": a line in which both hold and a decides)
 --
--- all calls      table > room > signal buffer > link > slot > the call's own: Gate-lines, a row a call; what a row-1 table is: unfit, fit
+-- all calls      table > room > signal buffer > link > slot > the call's own: Gate_lines, a row a call; what a row-1 table is: unfit, fit
 -- making         sizes > room: limits 2 to 6; sizes: limits; room: short
 -- register       1 ≤ SPSM: registers 1; SPSM ≤ 255: 2; registered already: 3
 -- next pending   PeerConnecting 2; link 5; none > held 1; link down 2, and only if none 4; held 6
@@ -909,14 +909,14 @@ making_lines = record { limits = refl; short = refl; no-slots = refl; left = ref
 --                failed > nothing yet > hold 12; nothing yet 14, > hold 13; hold 15
 -- give-up        Connecting 1; ConnectFailed 2; Connected 3, and no hold 4; no other state 5 to 8
 -- add hold       255: 1, 2. Release: hold 0 2; Connected 5, to 0 4, both 3
--- disconnect     Connected: by-slot 1 to 4; CID ≥ 0x40: by-CID 2; CID < 0x40 + N: 3
+-- disconnect     Connected: by-slot 1 to 4; CID ≥ 0x40: by_CID 2; CID < 0x40 + N: 3
 -- link down      not Disconnected 3; link 2
 -- next disconnect  announced 1; none > PeerDisconnecting 2; PeerDisconnecting 3, 5
 -- headers        empty 1; under 4 > past 3; past 4. Codes: each in its own lines; unknown codes 6, 7
 -- 0x14           body > all 18; SPSM 1, spsms, > listening 2; listening 3, > peer CID 4; peer CID 5, 13, > no slot 6, not Disconnected 11, link 10, 12; no slot 14.
---                least-request: MTU 1, MPS 2, neither at 23 3; SPSM > least 4; listening > least 5; least > peer CID 6, > no slot 7
+--                least_request: MTU 1, MPS 2, neither at 23 3; SPSM > least 4; listening > least 5; least > peer CID 6, > no slot 7
 -- 0x15           body, code > match 9, 8; Connecting 7; link 1, 5; identifier 2; none > result 6; result 4; freed: link 5, Connecting 7.
---                least-response: MTU 1, MPS 2, neither at 23 3; an assembly 4; result > least 5; none > least 6
+--                least_response: MTU 1, MPS 2, neither at 23 3; an assembly 4; result > least 5; none > least 6
 -- 0x16           body 8; Connected 5; link 1; peer CID 4; none > sum 5; sum 6, 7
 -- 0x06           body 8; CID 4, 5; link 6; not Disconnected 7. 0x07: body 9; CID 3, 4; Disconnecting 5, 6, 8; link 7
 -- 0x12           Central 1, > body 2; body 3; the seven conditions: invalid, and their limits 4 to 6. 0x01, 0x13: bodies codes 1 to 5
@@ -926,8 +926,8 @@ making_lines = record { limits = refl; short = refl; no-slots = refl; left = ref
 -- send           11 1, > 12 2; 12 3, > 23 4; 23 5, > 20 6; 20 7, > 14 8; 14 9, > 3 10; 3 11
 -- take           each state > none: states 1 to 4; none 5; grants Connected only 7, 8; never 0 policies 3, 6; Every 1, 2; MinThreshold 4, 5.
 --                short: 12 1 to 5, at the job's length jobs-out 1; signal buffer > 12 signal-first; state > 12 6; none > 12 7, none into 0 octets 8; 0 octets into 0 9
--- attention      a job 3; a disconnect due 2, 5; ConnectFailed 4. Lowest free: Disconnected, no hold: lowest-free
--- every state    of each test of a state, in each of the states: State-lines
+-- attention      a job 3; a disconnect due 2, 5; ConnectFailed 4. Lowest free: Disconnected, no hold: lowest_free_lem
+-- every state    of each test of a state, in each of the states: State_lines
 --
 -- What no line can tell, on any table: where two neighbours give one answer and leave the same (MPS and MTU, of ours and of a peer's; link down and disconnecting in the
 -- opened query; CID and link of 0x06; CID and state of 0x07; a frame above our MPS, an SDU length above the MTU and more octets than it; the two reasons for no

@@ -1,6 +1,6 @@
 -- What a call from another language leaves: its number, the table's octets, the answer's octets, and the lent buffers. It is the end of the
 -- call (Ending.antt of `definition`), lifted through the table's layout and the answer's.
-use Rattle.std.specs.Prelude.{◌≡◌, refl, Bool, not, List, [], ℕ, eqb, ltb, length}
+use Rattle.std.specs.Prelude.{◌≡◌, Bool, not, List, [], ℕ, eqb, ltb, length}
 use Rattle.std.proofs.Common.{sym, ap, ◌∙◌}
 use Rattle.std.proofs.lemmas.List.Edits.{sets}
 use Rattle.lists.specs.Choose.{choose}
@@ -9,9 +9,8 @@ use Rattle.credit.specs.declared.CreditFlowPolicy.TheVariants.{Every, MinThresho
 use Rattle.channel.specs.declared.L2capChannelConfig.{L2capChannelConfig}
 use Rattle.channel.specs.declared.Served.{Served}
 use Rattle.channel.specs.declared.Setting.{Setting}
-use Rattle.channel.specs.declared.Setting.TheVariants as Setting
 use Rattle.channel.specs.declared.Table.{Table}
-use Rattle.definition.specs.Table.{if◌then◌else◌}
+use Rattle.definition.specs.Table.{when◌then◌else◌}
 use Rattle.definition.specs.Ending.{End, end}
 use Rattle.edge_layout.specs.Layout.{read, written, table_octets}
 use Rattle.edge_layout.specs.Back.{written_back}
@@ -105,11 +104,11 @@ flag n = not (eqb n 0)
 
 -- a setting above 65,535 is the default
 unfoldable pub setting_of : ℕ → Setting
-setting_of n = if ltb 65535 n then Setting.Default else Setting.Is n
+setting_of n = when ltb 65535 n then Setting.Default else Setting.Is n
 
 -- kind 0 is Every, another MinThreshold
 unfoldable pub policy_by : (kind value : ℕ) → CreditFlowPolicy
-policy_by kind value = if eqb kind 0 then Every value else MinThreshold value
+policy_by kind value = when eqb kind 0 then Every value else MinThreshold value
 
 abbrev pub config_of : (mtu mps kind value credits : ℕ) → L2capChannelConfig
 config_of mtu mps kind value credits = record { mtu = setting_of mtu; mps = setting_of mps; policy = policy_by kind value; credits = setting_of credits }

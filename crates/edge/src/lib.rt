@@ -1,5 +1,7 @@
 // What every entry does at the edge to another language: the table written back, the answer written, and numbers read as what they stand for.
 // Defined in specs/Edge.antt. It rests on `edge_layout_encode` and `edge_answer`.
+#![tactic(auto)]
+
 ghost use Rattle.std.specs.Prelude.{◌≡◌, List, ℕ};
 ghost use Rattle.lists.specs.Choose.{choose};
 ghost use Rattle.definition.specs.Ending.{end};

@@ -4,7 +4,7 @@
 --   octets 2..6    how many octets the call wrote at the start of the signal buffer or frame output
 --   octets 6..14   four numbers: what the answer carries, in its fields' order, then zeros; of refusal 17 the result code
 --   octets 14, 15  zeros
-use Rattle.std.specs.Prelude.{List, [], ◌∷◌, ◌++◌, ℕ, ◌/◌, ◌%◌, min}
+use Rattle.std.specs.Prelude.{List, ◌∷◌, ◌++◌, ℕ, ◌/◌, ◌%◌, min}
 use Rattle.octets.specs.Octets.{le16}
 use Rattle.channel.specs.declared.Served.{Served}
 use Rattle.channel_answer.specs.declared.Told.{Told}

@@ -1,5 +1,7 @@
 // A call's answer as octets in a lent slice, for callers in other languages. The layout is in specs/Answers.antt. A slice of fewer octets gets as
 // many as it has. It rests on `octets`, and on `channel_answer` for what the answer tells.
+#![tactic(auto)]
+
 ghost use Rattle.std.specs.Prelude.{◌≡◌};
 ghost use Rattle.std.proofs.lemmas.List.Edits.{sets};
 ghost use Rattle.channel_answer.specs.Tells.{tells, answer_number};

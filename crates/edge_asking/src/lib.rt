@@ -1,6 +1,8 @@
 // Making a table, the questions, and the two senders, each on octets: the table read, the call, the table and the answer written back. Each is
 // defined in specs/Asking.antt, by the call's own definition lifted through the two layouts. A question is lent the table to read alone: its contract is
 // of the same form, with the octets as they were for those at its end. The exported names are in `entries`.
+#![tactic(auto)]
+
 ghost use Rattle.std.specs.Prelude.{◌≡◌, []};
 ghost use Rattle.edge.specs.Edge.{edge};
 ghost use Rattle.edge_asking.specs.Asking.{make_edge, register_spsm_edge, spsm_edge, mtu_edge, mps_edge, peer_mtu_edge, peer_mps_edge, tally_sent_edge, tally_received_edge, tally_blocked_sends_edge, tally_blocked_receives_edge, attention_edge, send_conn_param_update_req_edge, send_conn_param_update_res_edge};

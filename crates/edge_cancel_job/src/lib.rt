@@ -1,5 +1,7 @@
 // A job that is given up, on octets. It is defined in specs/Frames.antt of `edge_placed`, by the call's own definition lifted through the two layouts, and works where the octets stand: one row read,
 // `slot_portion` done on its slot and its part of the room, and the row written. The exported name is in `entries`.
+#![tactic(auto)]
+
 ghost use Rattle.std.specs.Prelude.{◌≡◌, true, [], ◌+◌, ◌≤◌, ◌<◌, length};
 ghost use Rattle.channel.specs.Limits.{slots_most, credits_most};
 ghost use Rattle.table_room.specs.Placed.{Placed};

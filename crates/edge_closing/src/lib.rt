@@ -1,5 +1,7 @@
 // The calls that end a channel, each on octets: the table read, the call, the table and the answer written back. Each is defined
 // in specs/Closing.antt, by the call's own definition lifted through the two layouts. The exported names are in `entries`.
+#![tactic(auto)]
+
 mod hold;
 
 ghost use Rattle.std.specs.Prelude.{◌≡◌, []};

@@ -6,7 +6,7 @@ use Rattle.signal_headers.specs.declared.Checked.TheVariants.{Good, Cut, Past}
 use Rattle.signal_bodies.specs.declared.le_credit.LeCreditFlowIndRead.{LeCreditFlowIndRead}
 use Rattle.signal_bodies.specs.declared.le_credit.LeCreditFlowIndRead.TheVariants as Flow
 use Rattle.signal_bodies.specs.LeCreditBodies.{le_credit_flow_ind}
-use Rattle.definition.specs.Table.{if◌then◌else◌}
+use Rattle.definition.specs.Table.{when◌then◌else◌}
 
 -- the credits that the PDU's first signal gives, where every header is good, its code is 0x16 and its body is one
 abbrev pub behind_headers : (pdu : List ℕ) → Checked → LeCreditFlowIndRead
@@ -15,4 +15,4 @@ behind_headers pdu Cut = Flow.Decode
 behind_headers pdu (Past id) = Flow.Decode
 
 unfoldable pub credits_in : (pdu : List ℕ) → LeCreditFlowIndRead
-credits_in pdu = if not (eqb (get_or pdu 0 0) 0x16) then Flow.Decode else behind_headers pdu (headers_of pdu)
+credits_in pdu = when not (eqb (get_or pdu 0 0) 0x16) then Flow.Decode else behind_headers pdu (headers_of pdu)

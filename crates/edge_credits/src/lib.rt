@@ -1,5 +1,7 @@
 // A credit signal on a table's octets where they stand: the first refusals told from the octets, the row searched for in three columns, `slot_credits` done on its slot, and the columns
 // written that it changes. What is right stands in specs/CreditsIn.antt, and in specs/Credited.antt of `edge_placed`.
+#![tactic(auto)]
+
 ghost use Rattle.std.specs.Prelude.{◌≡◌, true, List, [], ℕ, ◌≤◌, ◌<◌, length};
 ghost use Rattle.channel.specs.Limits.{slots_most};
 ghost use Rattle.definition.specs.Table.{connected_to};

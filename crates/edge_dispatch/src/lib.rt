@@ -1,5 +1,7 @@
 // A frame in, on octets. It is defined in specs/Frames.antt of `edge_placed`, by the call's own definition lifted through the two layouts, and works where the octets stand (`incoming`). The exported name is in
 // `entries`.
+#![tactic(auto)]
+
 pub mod incoming;
 
 ghost use Rattle.std.specs.Prelude.{◌≡◌, []};

@@ -1,5 +1,7 @@
 // A run of frames on a table's octets where they stand: the table and the room are tested once, then each frame is a frame in (`incoming` of `edge_dispatch`). Defined in specs/Frames.antt, by the
 // definition of one frame. The exported name is in `entries`.
+#![tactic(auto)]
+
 ghost use Rattle.std.specs.Prelude.{◌≡◌, true, [], ◌+◌, ◌≤◌, ◌<◌, leb, length};
 ghost use Rattle.codes.specs.Codes.{refusal_number};
 ghost use Rattle.octets.specs.Octets.{part};

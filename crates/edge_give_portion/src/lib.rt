@@ -1,5 +1,7 @@
 // A portion of an open job, on octets. It is defined in specs/Frames.antt of `edge_placed`, by the call's own definition lifted through the two layouts, and works where the octets stand: one row
 // read, `slot_portion` done on its slot, and the open job's numbers written: the rest of the row stays, and other rows. The exported name is in `entries`.
+#![tactic(auto)]
+
 ghost use Rattle.std.specs.Prelude.{◌≡◌, true, [], length, ◌≤◌, ◌<◌};
 ghost use Rattle.channel.specs.Limits.{slots_most};
 ghost use Rattle.edge.specs.Edge.{edge};

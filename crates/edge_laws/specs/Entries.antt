@@ -24,7 +24,7 @@ use Rattle.edge_closing.specs.Holding.{inc_ref_edge, dec_ref_edge}
 use Rattle.edge_closing.specs.Closing.{disconnect_edge, disconnect_by_cid_edge, disconnected_edge, next_disconnect_edge}
 use Rattle.edge_placed.specs.Frames.{dispatch_edge, send_edge, receive_edge, start_edge, portion_edge, cancel_edge}
 use Rattle.edge_signals.specs.Signals.{signal_edge}
-use Rattle.edge_laws.specs.NoTable.{shut, is_request, is_call, serve_refuses, decide_refuses, no-slots, none-ends, left_alone, on_none}
+use Rattle.edge_laws.specs.NoTable.{is_request, is_call, serve_refuses, decide_refuses, no-slots, none-ends, left_alone, on_none}
 
 none_serves : (r : Request) → is_request r ≡ true → (room out job : ℕ) → serve no_slots r room out job ≡ refuse no_slots BadTable
 none_serves = serve_refuses no_slots no-slots

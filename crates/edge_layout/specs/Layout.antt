@@ -5,7 +5,6 @@
 -- A number of 16 bits takes two columns, one of 64 bits eight, the lower octets first. A table has ONE spelling; other octets are refusal 1.
 use Rattle.std.specs.Prelude.{Bool, true, false, ◌&&◌, List, [], ◌∷◌, ◌++◌, map, ℕ, zero, suc, ◌+◌, ◌*◌, ◌/◌, ◌%◌, eqb, ltb, length, get_or, replicate}
 use Rattle.std.proofs.lemmas.List.Edits.{sets}
-use Rattle.lists.specs.Choose.{choose}
 use Rattle.lists.specs.Bits.{bit}
 use Rattle.octets.specs.Octets.{part, u16_at, le16}
 use Rattle.octets.specs.Limbs.{of_limbs, le64}
@@ -26,7 +25,7 @@ use Rattle.channel.specs.declared.Slot.{Slot}
 use Rattle.channel.specs.declared.Table.{Table}
 use Rattle.channel.specs.declared.Tallies.{Tallies}
 use Rattle.channel.specs.declared.Tally.{Tally}
-use Rattle.definition.specs.Table.{if◌then◌else◌}
+use Rattle.definition.specs.Table.{when◌then◌else◌}
 use Rattle.definition.specs.Asking.{no_slots}
 use Rattle.edge_layout.specs.declared.Decoded.{Decoded}
 
@@ -143,16 +142,16 @@ failed_by Unknown = Disconnected
 
 unfoldable pub state_of : (kind value : ℕ) → ChannelState
 state_of kind value =
-    if eqb kind 1 then Connecting value
-    else if eqb kind 2 then PeerConnecting value
-    else if eqb kind 3 then Connected
-    else if eqb kind 4 then failed_by (result_of value)
-    else if eqb kind 5 then PeerDisconnecting value
-    else if eqb kind 6 then Disconnecting (eqb value 1)
+    when eqb kind 1 then Connecting value
+    else when eqb kind 2 then PeerConnecting value
+    else when eqb kind 3 then Connected
+    else when eqb kind 4 then failed_by (result_of value)
+    else when eqb kind 5 then PeerDisconnecting value
+    else when eqb kind 6 then Disconnecting (eqb value 1)
     else Disconnected
 
 unfoldable pub policy_of : (kind value : ℕ) → CreditFlowPolicy
-policy_of kind value = if eqb kind 1 then MinThreshold value else Every value
+policy_of kind value = when eqb kind 1 then MinThreshold value else Every value
 
 -- the octet of slot i in column c
 abbrev pub cell : List ℕ → ℕ → ℕ → ℕ
@@ -218,9 +217,9 @@ same (x ∷ xs) (y ∷ ys) = eqb x y && same xs ys
 -- octets are read where they are exactly the spelling of the table that they say; otherwise a table of no slots stands for them
 unfoldable pub read : List ℕ → Decoded
 read o =
-    if same (spell (taken o)) o then record { ok = true; table = taken o }
+    when same (spell (taken o)) o then record { ok = true; table = taken o }
     else record { ok = false; table = no_slots }
 
 -- a table goes to the start of the lent octets, or nowhere where they are too few
 unfoldable pub written : List ℕ → Table → List ℕ
-written o t = if ltb (length o) table_octets then o else sets o 0 (spell t)
+written o t = when ltb (length o) table_octets then o else sets o 0 (spell t)

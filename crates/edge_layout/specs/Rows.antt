@@ -7,7 +7,6 @@ use mathlib.Core.List.{List, [], ◌∷◌}
 use Rattle.std.proofs.Math.ListN.{get_or}
 use Rattle.lists.specs.Choose.{choose, if_cases}
 use Rattle.lists.specs.Both.{both}
-use Rattle.octets.specs.Octets.{le16}
 use Rattle.octets.specs.Limbs.{limb₀, limb₁, limb₂, limb₃, of_limbs, limbs_back, limb₀_back, limb₁_back, limb₂_back, limb₃_back}
 use Rattle.octets.specs.Numbers.{le16_back, lo_back, hi_back}
 use Rattle.codes.specs.Codes.{result_number, result_of, result_back}

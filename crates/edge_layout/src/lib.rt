@@ -1,5 +1,7 @@
 // The table as octets: where each column is, and states and policies as octets. What the octets mean is in specs/Layout.antt.
 // It stands on the table's types; `edge_layout_read` and `edge_layout_write` read and write one row, `edge_layout_decode` and `edge_layout_encode` whole tables.
+#![tactic(auto)]
+
 pub mod cells;
 
 ghost use Rattle.std.specs.Prelude.{◌≡◌};

@@ -1,4 +1,6 @@
 // A whole table read from its octets, where they are exactly its spelling. It stands on `edge_layout_read`, which reads one row.
+#![tactic(auto)]
+
 ghost use Rattle.std.specs.Prelude.{◌≡◌, ◌≤◌, length};
 ghost use Rattle.edge_layout.specs.Layout.{table_octets, taken, read};
 ghost use Rattle.edge_layout.specs.Spelled.{head_spelled, rows_spelled};

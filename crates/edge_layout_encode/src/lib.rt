@@ -1,4 +1,6 @@
 // The whole table written as its octets. It stands on `edge_layout`, whose specs/Layout.antt says what they are, on `head` and on `edge_layout_write`.
+#![tactic(auto)]
+
 mod head;
 
 ghost use Rattle.std.specs.Prelude.{◌≡◌, ◌≤◌, leb, length};

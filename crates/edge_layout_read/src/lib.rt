@@ -1,5 +1,7 @@
 // A slot read from its row of the table's octets; `edge_layout_decode` reads the whole table. It stands on `edge_layout::cells`, and on `edge_layout`, whose
 // specs/Layout.antt says what the octets mean.
+#![tactic(auto)]
+
 ghost use Rattle.std.specs.Prelude.{◌≡◌, ◌+◌, ◌*◌, ◌≤◌, ◌<◌, length};
 ghost use Rattle.channel.specs.Limits.{slots_most};
 ghost use Rattle.edge_layout.specs.Layout.{table_octets, cell, tally_at, slot_in};

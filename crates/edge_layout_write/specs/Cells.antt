@@ -1,6 +1,6 @@
 -- What stands in each row once octets are written into one (Puts). The laws rest on those of one store (lib.Seq).
 use Rattle.std.specs.Prelude.{◌≡◌, refl, List, [], ◌∷◌, map, ℕ, zero, suc, ◌+◌, ◌*◌, ◌≤◌, ◌<◌, length, get_or, set}
-use Rattle.std.proofs.Common.{sym, ap, ◌∙◌, add-zero, add-suc, suc-add, zero-add, arith, length-set, get_or-set_same, get_or-set_other}
+use Rattle.std.proofs.Common.{◌∙◌, add-zero, add-suc, suc-add, zero-add, arith, length-set, get_or-set_same, get_or-set_other}
 use Rattle.channel.specs.Limits.{slots_most}
 use Rattle.channel.specs.declared.Slot.{Slot}
 use Rattle.edge_layout.specs.Layout.{head_octets, column_count, table_octets, cell, state_octets, local_octets, account_octets, peer_octets, assembly_octets, queue_octets, job_octets, tallies_octets, row}

@@ -5,7 +5,7 @@ use Rattle.octets.specs.Limbs.{limb₀, limb₁, limb₂, limb₃}
 use Rattle.channel.specs.Limits.{slots_most}
 use Rattle.channel.specs.declared.Slot.{Slot}
 use Rattle.channel.specs.declared.Tally.{Tally}
-use Rattle.definition.specs.Table.{if◌then◌else◌, is_connected}
+use Rattle.definition.specs.Table.{when◌then◌else◌, is_connected}
 use Rattle.edge_layout.specs.Layout.{head_octets, state_octets, account_octets, assembly_octets, queue_octets, job_octets, tally_octets, tallies_octets}
 
 -- octets for row i, one to a column, from column c on
@@ -37,7 +37,7 @@ left_row o i x = puts (puts (joined_row o i x) i 39 (job_octets x.job)) i 47 (ta
 
 -- those that a frame can change
 abbrev pub framed_row : List ℕ → ℕ → Slot → List ℕ
-framed_row o i x = if is_connected x.state then kept_row o i x else left_row o i x
+framed_row o i x = when is_connected x.state then kept_row o i x else left_row o i x
 
 -- those that a send can change: the peer's credits, and what is counted of sends
 abbrev pub sent_row : List ℕ → ℕ → Slot → List ℕ

@@ -1,5 +1,7 @@
 // A slot written into its row of the table's octets: our side (`local`), then the peer's, what is held and what waits. `edge_layout_encode`
 // writes the whole table. It stands on `edge_layout`, whose specs/Layout.antt says what the octets mean.
+#![tactic(auto)]
+
 mod local;
 
 ghost use Rattle.std.specs.Prelude.{◌≡◌, ◌≤◌, ◌<◌, length};

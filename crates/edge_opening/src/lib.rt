@@ -1,5 +1,7 @@
 // The calls of our own attempts, each on octets: the table read, the call, the table and the answer written back.
 // Each is defined in specs/Opening.antt, by the call's own definition lifted through the two layouts. The exported names are in `entries`.
+#![tactic(auto)]
+
 ghost use Rattle.std.specs.Prelude.{◌≡◌, []};
 ghost use Rattle.edge.specs.Edge.{edge};
 ghost use Rattle.edge_opening.specs.Opening.{create_edge, opened_edge, give_up_edge};

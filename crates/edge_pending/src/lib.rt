@@ -1,5 +1,7 @@
 // The calls of connections that the peer asks for, each on octets: the table read, the call, the table and the answer written back.
 // Each is defined in specs/Pending.antt, by the call's own definition lifted through the two layouts. The exported names are in `entries`.
+#![tactic(auto)]
+
 ghost use Rattle.std.specs.Prelude.{◌≡◌, []};
 ghost use Rattle.edge.specs.Edge.{edge};
 ghost use Rattle.edge_pending.specs.Pending.{next_pending_edge, accept_pending_edge, reject_pending_edge, reject_all_pending_edge, drop_pending_edge};

@@ -5,23 +5,21 @@ use Rattle.std.proofs.Common.{◌∙◌}
 use mathlib.Core.List.{List, []}
 use Rattle.octets.specs.Octets.{u16_at}
 use Rattle.codes.specs.declared.Refusal.{Refusal}
-use Rattle.channel.specs.Limits.{slots_most}
 use Rattle.channel.specs.declared.Answer.TheVariants.{Refused}
 use Rattle.channel.specs.declared.Given.TheVariants.{Nothing, Is}
-use Rattle.channel.specs.declared.Slot.{Slot}
 use Rattle.channel.specs.declared.Table.{Table}
 use Rattle.channel.specs.declared.Verdict.{Verdict}
 use Rattle.channel.specs.declared.Verdict.TheVariants.{Pass, Stop}
 use Rattle.channel_answer.specs.Tells.{answer_number}
 use Rattle.definition.specs.Mem.{sizes, parts}
 use Rattle.definition.specs.Table.{place_size, place_of, part_width, slot_at, put_slot}
-use Rattle.definition.specs.Outcome.{verdict, passed, gate, only}
+use Rattle.definition.specs.Outcome.{verdict, passed, only}
 use Rattle.definition.specs.Ending.{itself, end, end_of, gave, written_none}
 use Rattle.definition.specs.Portions.{cancel_job, cancel_on}
 use Rattle.slot_work.specs.Work.{Work, worked_of, works_in}
 use Rattle.slot_portion.specs.Cancelling.{cancel_of, cancel_quiet}
 use Rattle.slot_portion.specs.Into.{cancel_into}
-use Rattle.edge_layout.specs.Layout.{cell, row, slot_in, read, written}
+use Rattle.edge_layout.specs.Layout.{cell, row, slot_in, read}
 use Rattle.edge_layout_write.specs.Puts.{puts}
 use Rattle.edge.specs.Edge.{Edge, edge}
 use Rattle.edge_scan.specs.Scan.{valid_octets}

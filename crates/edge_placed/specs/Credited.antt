@@ -24,7 +24,7 @@ use Rattle.channel.specs.declared.Verdict.{Verdict}
 use Rattle.channel.specs.declared.Verdict.TheVariants.{Pass, Stop}
 use Rattle.channel_answer.specs.Tells.{answer_number}
 use Rattle.definition.specs.Mem.{sizes, parts}
-use Rattle.definition.specs.Table.{if◌then◌else◌, gap, place_size, place_of, part_width, slot_at, found, is_connected, connected_to, put_slot}
+use Rattle.definition.specs.Table.{when◌then◌else◌, gap, place_size, place_of, part_width, slot_at, found, is_connected, connected_to, put_slot}
 use Rattle.definition.specs.Outcome.{verdict, passed, gate, only}
 use Rattle.definition.specs.Ending.{itself, end, end_of, gave, end-still, written_none}
 use Rattle.definition.specs.Signals.{on_credits}
@@ -97,7 +97,7 @@ module _ (o : List ℕ) where
 
 -- the columns of row i that a credit signal changes, with those of slot x: the peer's credits, or of a channel that is left those that change then
 abbrev pub credited_row : List ℕ → ℕ → Slot → List ℕ
-credited_row o i x = if is_connected x.state then puts o i 24 (le16 x.peer.credits) else left_row o i x
+credited_row o i x = when is_connected x.state then puts o i 24 (le16 x.peer.credits) else left_row o i x
 
 -- THE TABLE WITH THAT SLOT PUT
 credited_written : (o : List ℕ) → (read o).ok ≡ true → (s : ℕ) → s < slots_most → (place more : ℕ) → is_connected (slot_at (read o).table s).state ≡ true

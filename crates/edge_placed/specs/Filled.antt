@@ -1,10 +1,9 @@
 -- A start and a portion on the table's octets where they stand: one row read, the work on its slot and on the job's frame buffer, and what it changes of the row written.
-use Rattle.std.specs.Prelude.{◌≡◌, refl, true, false, ℕ, ◌<◌, leb, length, get_or}
+use Rattle.std.specs.Prelude.{◌≡◌, refl, true, false, ℕ, leb, length, get_or}
 use Rattle.std.proofs.Common.{sym, ◌∙◌}
 use Rattle.std.proofs.Math.Path.{ap}
 use mathlib.Core.List.{List, []}
 use Rattle.codes.specs.declared.Refusal.{Refusal}
-use Rattle.channel.specs.Limits.{slots_most}
 use Rattle.channel.specs.declared.Answer.TheVariants.{Refused}
 use Rattle.channel.specs.declared.Given.TheVariants.{Nothing, Is}
 use Rattle.channel.specs.declared.OpenJob.{OpenJob}

@@ -1,14 +1,12 @@
 -- A frame in and a send leave a valid table's octets valid, whatever they answer: so a run of them tests its table once.
-use Rattle.std.specs.Prelude.{◌≡◌, refl, Bool, true, false, not, ◌&&◌, List, [], ◌∷◌, ℕ, zero, suc, ◌+◌, ◌-◌, ◌≤◌, ◌<◌, eqb, leb, ltb, get_or}
+use Rattle.std.specs.Prelude.{◌≡◌, refl, Bool, true, false, not, List, ℕ, ◌+◌, ◌-◌, ◌≤◌, ◌<◌, eqb, leb, ltb, get_or}
 use Rattle.std.proofs.Common.{sym, ap, ◌∙◌, subst, add-one, arith, length-take, get_or-take}
-use Rattle.std.proofs.lemmas.Bool.{false≢true}
 use Rattle.std.proofs.Math.ListN.{length, length-set}
 use borrow.Author.Tests.{eqb-false, le-leb, leb-true, leb-false, ltb-true, ltb-false}
-use Rattle.lists.specs.Choose.{choose, if_cases}
+use Rattle.lists.specs.Choose.{if_cases}
 use Rattle.lists.specs.Both.{and_left, and_right, and_both}
-use Rattle.lists.specs.Every.{every, every-passes}
+use Rattle.lists.specs.Every.{every-passes}
 use Rattle.octets.specs.Octets.{u16_at}
-use Rattle.codes.specs.declared.Refusal.{Refusal}
 use Rattle.codes.specs.declared.Refusal.TheVariants.{BadRoom, BadHandle, BadSlot}
 use Rattle.credit.specs.Account.{credit_sum, received}
 use Rattle.credit_laws.specs.AccountLaws.{received-sum}
@@ -16,7 +14,7 @@ use Rattle.sar_cut.specs.declared.Plan.{Plan}
 use Rattle.sar_cut.specs.declared.Plan.TheVariants as Plan
 use Rattle.sar_join.specs.declared.Joined.{Joined}
 use Rattle.sar_join.specs.declared.Joined.TheVariants as Joined
-use Rattle.sar_join.specs.Joining.{idle, reached, first_step, join_step}
+use Rattle.sar_join.specs.Joining.{reached, first_step, join_step}
 use Rattle.channel.specs.Limits.{slots_most, depth_most, handle_most, credits_most}
 use Rattle.channel.specs.declared.Given.TheVariants.{Nothing, Is}
 use Rattle.channel.specs.declared.Slot.{Slot}
@@ -30,7 +28,7 @@ use Rattle.slot_work.specs.Work.{Work}
 use Rattle.slot_send.specs.Sending as Sending
 use Rattle.slot_send.specs.Sending.{planned_from, sent_from}
 use Rattle.slot_send.specs.Into.{sends_alone}
-use Rattle.slot_frame.specs.FrameIn.{joined_to, join_of, frame_of}
+use Rattle.slot_frame.specs.FrameIn.{joined_to, frame_of}
 use Rattle.edge_layout.specs.Layout.{cell, read, slot_in}
 use Rattle.edge.specs.Edge.{Edge}
 use Rattle.edge_scan.specs.Scan.{valid_octets}

@@ -18,7 +18,7 @@ use Rattle.channel.specs.declared.Table.{Table}
 use Rattle.channel.specs.declared.Verdict.{Verdict}
 use Rattle.channel.specs.declared.Verdict.TheVariants.{Pass, Stop}
 use Rattle.channel_answer.specs.Tells.{tells, answer_number}
-use Rattle.definition.specs.Table.{if◌then◌else◌, place_of, room_width, live, sizes_fit, slot_fits, well_formed}
+use Rattle.definition.specs.Table.{when◌then◌else◌, place_of, room_width, live, sizes_fit, slot_fits, well_formed}
 use Rattle.definition.specs.Asking.{no_slots}
 use Rattle.definition.specs.Outcome.{Outcome, fails, verdict, passed, gate}
 use Rattle.definition.specs.Ending.{End, end, end_of, gave, end-still}
@@ -104,10 +104,10 @@ refused_1 o e roomed signal link slot = rw (not_valid o e)
 -- the gate behind refusal 1, by the sizes alone, in its one order
 unfoldable pub sized_verdict : (n d m : ℕ) (roomed signal link slot : Given) → Verdict
 sized_verdict n d m roomed signal link slot =
-    if fails (λ size. not (eqb size (room_width n d m))) roomed then Stop BadRoom
-    else if fails (λ size. ltb size signal_most) signal then Stop NoRoom
-    else if fails (λ l. ltb handle_most l) link then Stop BadHandle
-    else if fails (λ s. leb n s) slot then Stop BadSlot
+    when fails (λ size. not (eqb size (room_width n d m))) roomed then Stop BadRoom
+    else when fails (λ size. ltb size signal_most) signal then Stop NoRoom
+    else when fails (λ l. ltb handle_most l) link then Stop BadHandle
+    else when fails (λ s. leb n s) slot then Stop BadSlot
     else Pass
 
 -- THE GATE, TOLD FROM THE OCTETS: the sizes stand in line 0

@@ -1,5 +1,5 @@
 -- A slot that a send or a start has changed, in its table's octets: the peer's credits and what is counted of sends are written, for a start the open job too, and that is its whole row.
-use Rattle.std.specs.Prelude.{◌≡◌, true, List, ◌++◌, ℕ, ◌+◌, ◌<◌, length, get_or, take}
+use Rattle.std.specs.Prelude.{◌≡◌, true, List, ◌++◌, ℕ, ◌+◌, ◌<◌, get_or, take}
 use Rattle.std.proofs.Math.Path.{refl}
 use Rattle.std.proofs.Common.{sym, ap, ◌∙◌, zero-add, arith, length-take, get_or-drop, get_or-take}
 use Rattle.std.proofs.Math.ListN.{get_or-append}

@@ -1,5 +1,5 @@
 -- A valid table's octets with one slot put are a valid table's, if that slot is one that refusal 1 lets pass: so a run of calls tests its table once.
-use Rattle.std.specs.Prelude.{◌≡◌, refl, Bool, true, false, List, [], ◌∷◌, ℕ, zero, suc, ◌+◌, ◌≤◌, ◌<◌, eqb, leb, length, get_or, set, take}
+use Rattle.std.specs.Prelude.{◌≡◌, refl, Bool, true, false, List, [], ◌∷◌, ℕ, zero, suc, ◌<◌, eqb, leb, length, get_or, set, take}
 use Rattle.std.proofs.Common.{sym, ap, ◌∙◌, arith, length-set, get_or-set_same, get_or-set_other, eqb-true, leb-true}
 use Rattle.std.proofs.lemmas.Bool.{eqb-false}
 use Rattle.lists.specs.Both.{and_left, and_right, and_both}
@@ -7,9 +7,8 @@ use Rattle.lists.specs.Every.{every}
 use Rattle.channel.specs.Limits.{slots_most, depth_most}
 use Rattle.channel.specs.declared.Slot.{Slot}
 use Rattle.channel.specs.declared.Table.{Table}
-use Rattle.definition.specs.Table.{fresh, place_of, gap, slot_at, put_slot, live, sizes_fit, slot_fits, well_formed}
-use Rattle.edge_layout.specs.declared.Decoded.{Decoded}
-use Rattle.edge_layout.specs.Layout.{row, cell, slot_in, spell, read, written}
+use Rattle.definition.specs.Table.{place_of, gap, slot_at, put_slot, sizes_fit, slot_fits, well_formed}
+use Rattle.edge_layout.specs.Layout.{row, slot_in, spell, read, written}
 use Rattle.edge_layout.specs.Back.{Sized, read_back}
 use Rattle.edge_layout_write.specs.Puts.{puts}
 use Rattle.edge_scan.specs.Scan.{valid_octets}

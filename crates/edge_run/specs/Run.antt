@@ -9,7 +9,7 @@ use Rattle.codes.specs.Codes.{refusal_number}
 use Rattle.channel.specs.declared.Verdict.{Verdict}
 use Rattle.channel.specs.declared.Verdict.TheVariants.{Pass, Stop}
 use Rattle.channel_answer.specs.Tells.{told_by}
-use Rattle.definition.specs.Table.{if◌then◌else◌}
+use Rattle.definition.specs.Table.{when◌then◌else◌}
 use Rattle.edge_answer.specs.Answers.{told_octets}
 use Rattle.edge_run.specs.declared.Ended.{Ended}
 
@@ -45,9 +45,9 @@ module _ (items : List ℕ) (size : (from : ℕ) → ℕ) (call : (from at : ℕ
   unfoldable pub ran : (turns count used : ℕ) → Lent → Ran
   ran zero count used l = ended 0 count used l
   ran (suc turns) count used l =
-      if leb (length items) used then ended 0 count used l
-      else if ltb (length items) (used + size used) then ended (refusal_number Decode) count used l
-      else if ltb (length l.answers) (answer_size * suc count) then ended (refusal_number NoRoom) count used l
+      when leb (length items) used then ended 0 count used l
+      else when ltb (length items) (used + size used) then ended (refusal_number Decode) count used l
+      else when ltb (length l.answers) (answer_size * suc count) then ended (refusal_number NoRoom) count used l
       else ran turns (suc count) (used + size used) (call used (answer_size * count) (part l.answers (answer_size * count) answer_size) l)
 
 -- Of a table or a room that the first refusals stop, no call is made.

@@ -1,4 +1,6 @@
 // A run of calls: what it told in the end, and that written as its answer. What a run is stands in specs/Run.antt; the runs of frames and of jobs are in `edge_dispatch_run` and `edge_send_run`.
+#![tactic(auto)]
+
 ghost use Rattle.std.specs.Prelude.{◌≡◌};
 ghost use Rattle.std.proofs.lemmas.List.Edits.{sets};
 ghost use Rattle.edge_run.specs.Run.{ran_octets, ended_as, low, high};

@@ -4,7 +4,6 @@
 use Rattle.std.specs.Prelude.{◌≡◌, refl, ◌&&◌, List, [], ◌∷◌, map, ℕ, zero, suc, eqb, ltb, length, take}
 use Rattle.std.proofs.Common.{sym, ap, ap₂, ◌∙◌, subst, subst₂, arith, ltb-false}
 use Rattle.lists.specs.Choose.{choose, if_cases}
-use Rattle.channel.specs.declared.Answer.{Answer}
 use Rattle.channel.specs.declared.Answer.TheVariants as Answer
 use Rattle.channel.specs.declared.Table.{Table}
 use Rattle.definition.specs.Calls.{Call}
@@ -56,7 +55,7 @@ apart_alike : (k j over : ℕ) (s : EdgeState) (es fs : List Asked) → AlikeEnt
 apart_alike k j over s [] [] e h = tt
 apart_alike k j over s [] (b ∷ fs) e h = absurd e
 apart_alike k j over s (a ∷ es) [] e h = absurd e
-apart_alike k j over s (a ∷ es) (b ∷ fs) e h = (rw (out_alike e.0.0, job_alike e.0.0) h.0, apart_alike k j _ _ es fs e.1 h.1)
+apart_alike k j over s (a ∷ es) (b ∷ fs) e h = (rw (out_alike e.0.0, job_alike e.0.0) h.0, apart_alike k j (over_at k over (call_in a) (edge_of s a)) (entered s a) es fs e.1 h.1)
 
 -- what is told hangs on the answers and on how much is lent
 tellings_alike : (memory : List ℕ) (k j over : ℕ) (s : EdgeState) (es fs : List Asked) → AlikeEntries k j over s es fs → (os : List Outcome) (hs : List Handed) → tellings memory es os hs ≡ tellings memory fs os hs
@@ -66,7 +65,7 @@ tellings_alike memory k j over s [] (b ∷ fs) e os hs = absurd e
 tellings_alike memory k j over s (a ∷ es) [] e os hs = absurd e
 tellings_alike memory k j over s (a ∷ es) (b ∷ fs) e [] hs = refl
 tellings_alike memory k j over s (a ∷ es) (b ∷ fs) e (o ∷ os) [] = refl
-tellings_alike memory k j over s (a ∷ es) (b ∷ fs) e (o ∷ os) (x ∷ hs) = rw (out_alike e.0.0, signal_alike e.0.0 x.out, e.0.1, tellings_alike memory k j _ _ es fs e.1 os hs) refl
+tellings_alike memory k j over s (a ∷ es) (b ∷ fs) e (o ∷ os) (x ∷ hs) = rw (out_alike e.0.0, signal_alike e.0.0 x.out, e.0.1, tellings_alike memory k j (over_at k over (call_in a) (edge_of s a)) (entered s a) es fs e.1 os hs) refl
 
 pub over_is : (k over : ℕ) (s : State) (w : Sized s.table) (a : Asked) → over_at k over (call_in a) (edge_of (spelled s) a) ≡ over_after k over (outcome s (call_in a)) (call_in a)
 unfolding over_after

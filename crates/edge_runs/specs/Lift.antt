@@ -12,7 +12,6 @@ use Rattle.std.proofs.lemmas.List.Edits.{sets}
 use Rattle.std.proofs.Math.Seq.{length-sets}
 use Rattle.lists.specs.Choose.{choose, choose_false}
 use Rattle.octets.specs.Sets.{sets-out, sets-before, sets-after, sets-whole}
-use Rattle.channel.specs.declared.Answer.{Answer}
 use Rattle.channel.specs.declared.Answer.TheVariants as Answer
 use Rattle.channel.specs.declared.Table.{Table}
 use Rattle.definition.specs.Mem.{fills, written}

@@ -14,7 +14,7 @@ use Rattle.octets.specs.Sets.{sets-out, sets-append, part_length}
 use Rattle.channel.specs.declared.Table.{Table}
 use Rattle.channel.specs.declared.Verdict.{Verdict}
 use Rattle.channel.specs.declared.Verdict.TheVariants.{Pass, Stop}
-use Rattle.definition.specs.Table.{if◌then◌else◌}
+use Rattle.definition.specs.Table.{when◌then◌else◌}
 use Rattle.definition.specs.Mem.{Fill, fills, written}
 use Rattle.definition.specs.Ending.{End, itself}
 use Rattle.definition.specs.Run.{out_window, job_window}
@@ -52,9 +52,9 @@ module _ (items : List ℕ) (size : (from : ℕ) → ℕ) (call : (from at : ℕ
   unfoldable pub made : (turns count used : ℕ) → Lent → List Asked
   made zero count used l = []
   made (suc turns) count used l =
-      if leb (length items) used then []
-      else if ltb (length items) (used + size used) then []
-      else if ltb (length l.answers) (answer_size * suc count) then []
+      when leb (length items) used then []
+      else when ltb (length items) (used + size used) then []
+      else when ltb (length l.answers) (answer_size * suc count) then []
       else
       let answer = part l.answers (answer_size * count) answer_size in
       asked used answer l ∷ made turns (suc count) (used + size used) (call used (answer_size * count) answer l)

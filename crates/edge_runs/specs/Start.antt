@@ -1,6 +1,6 @@
 -- A making that returns 0 starts a run of the definition, spelled: whatever the table's octets, the answer's and the room's were before.
 use Rattle.std.specs.Prelude.{◌≡◌, refl, Bool, true, false, not, List, ℕ, eqb, length}
-use Rattle.std.proofs.Common.{sym, ap, ◌∙◌, eqb-true}
+use Rattle.std.proofs.Common.{ap, eqb-true}
 use Rattle.std.proofs.lemmas.Bool.{eqb-false}
 use Rattle.lists.specs.Choose.{choose, if_cases}
 use Rattle.channel.specs.declared.Answer.TheVariants.{Done}

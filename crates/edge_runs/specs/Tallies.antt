@@ -43,7 +43,7 @@ all_fit (a ∷ es) o = (entry_fits a.entry o.0, all_fit es o.1)
 pub entries-state : {s : EdgeState} → ReachedAt s → (es : List Asked) → BuffersApart es → AllInOctets es → state_of (entries s es) ≡ run (state_of s) (calls_in es)
 unfolding entries run
 entries-state r [] a o = refl
-entries-state r (e ∷ es) a o = entries-state (next e r a.0 o.0) es a.1 o.1 ∙ ap (λ (x : State). run x (calls_in es)) (entered-state r e a.0 o.0)
+entries-state {s = s} r (e ∷ es) a o = entries-state {s = entered s e} (next e r a.0 o.0) es a.1 o.1 ∙ ap (λ (x : State). run x (calls_in es)) (entered-state r e a.0 o.0)
 
 module _ {s : EdgeState} (r : ReachedAt s) (es : List Asked) (a : BuffersApart es) (o : AllInOctets es) (i : ℕ) (h : i < (state_of s).table.n) (u : Unreset i (state_of s) (calls_in es)) where
   -- UNTIL A RESET: what stood before, and what the calls add, modulo 2^64

@@ -1,1 +1,2 @@
 // Runs of the entries, over octets: they are the definition's runs, spelled; and demand 3 of them. In specs/. No code.
+#![tactic(auto)]

@@ -1,5 +1,7 @@
 // Refusal 1 by one pass over the table's octets, without a table made of them: are they the spelling of a well-formed table? Numbers are compared octet by octet, for every row, with no
 // branch, so that the compiler can take all rows at once. What is tested is in specs/Scan.antt, and that it is refusal 1 in specs/Valid.antt.
+#![tactic(auto)]
+
 ghost use Rattle.std.specs.Prelude.{◌≡◌, ◌||◌, ◌+◌, ◌-◌, ◌/◌, ◌%◌, ◌≤◌, ◌<◌, leb, length, get_or};
 ghost use Rattle.channel.specs.Limits.{slots_most};
 ghost use Rattle.edge_layout.specs.Layout.{table_octets, cell};

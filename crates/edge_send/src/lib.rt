@@ -1,5 +1,7 @@
 // A send, on octets. It is defined in specs/Frames.antt of `edge_placed`, by the call's own definition lifted through the two layouts, and works where the octets stand (`outgoing`). The exported name is in
 // `entries`.
+#![tactic(auto)]
+
 pub mod outgoing;
 
 ghost use Rattle.std.specs.Prelude.{◌≡◌, []};

@@ -1,5 +1,7 @@
 // A run of jobs on a table's octets where they stand: the table is tested once, then each job is a send (`outgoing` of `edge_send`). Defined in specs/Jobs.antt, by the definition of one send. The
 // exported name is in `entries`.
+#![tactic(auto)]
+
 ghost use Rattle.std.specs.Prelude.{◌≡◌, true, []};
 ghost use Rattle.edge_scan.specs.Scan.{valid_octets};
 ghost use Rattle.edge_run.specs.Run.{run_edge};

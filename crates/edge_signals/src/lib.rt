@@ -1,6 +1,8 @@
 // A signal PDU's first signal, on octets. It is defined in specs/Signals.antt, by the call's own definition lifted through the two layouts. A credit signal, which comes with every few
 // frames, works where the octets stand (`edge_credits`); of every other the table is read, the call made, the table and the answer written back. The exported name is in
 // `entries`.
+#![tactic(auto)]
+
 ghost use Rattle.std.specs.Prelude.{◌≡◌, []};
 ghost use Rattle.edge.specs.Edge.{edge};
 ghost use Rattle.edge_signals.specs.Signals.{signal_edge};

@@ -10,11 +10,8 @@ use Rattle.lists.specs.Both.{and_left, and_right}
 use Rattle.codes.specs.declared.ResultRead.{ResultRead}
 use Rattle.codes.specs.declared.ResultRead.TheVariants.{Known, Unknown}
 use Rattle.credit.specs.declared.Grant.{Grant}
-use Rattle.credit.specs.declared.Grant.TheVariants as Grant
 use Rattle.sar_cut.specs.declared.Plan.{Plan}
-use Rattle.sar_cut.specs.declared.Plan.TheVariants as Plan
 use Rattle.sar_join.specs.declared.Joined.{Joined}
-use Rattle.sar_join.specs.declared.Joined.TheVariants as Joined
 use Rattle.signal_headers.specs.declared.Checked.{Checked}
 use Rattle.signal_headers.specs.declared.Checked.TheVariants.{Good, Cut, Past}
 use Rattle.signal_bodies.specs.declared.CommandRejectResRead.{CommandRejectResRead}

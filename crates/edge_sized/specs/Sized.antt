@@ -11,12 +11,9 @@ use Rattle.channel.specs.Limits.{slots_most, depth_most, packet_least, packet_mo
 use Rattle.codes.specs.declared.ResultRead.{ResultRead}
 use Rattle.codes.specs.declared.ResultRead.TheVariants.{Known, Unknown}
 use Rattle.credit.specs.declared.Grant.{Grant}
-use Rattle.credit.specs.declared.Grant.TheVariants as Grant
 use Rattle.credit.specs.Account.{granted}
 use Rattle.sar_join.specs.declared.Joined.{Joined}
-use Rattle.sar_join.specs.declared.Joined.TheVariants as Joined
 use Rattle.sar_cut.specs.declared.Plan.{Plan}
-use Rattle.sar_cut.specs.declared.Plan.TheVariants as Plan
 use Rattle.signal_headers.specs.declared.Checked.{Checked}
 use Rattle.signal_headers.specs.declared.Checked.TheVariants.{Good, Cut, Past}
 use Rattle.signal_bodies.specs.declared.CommandRejectResRead.{CommandRejectResRead}

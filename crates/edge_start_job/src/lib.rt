@@ -1,5 +1,7 @@
 // The start of a job that is handed over in portions, on octets. It is defined in specs/Frames.antt of `edge_placed`, by the call's own definition lifted through the two layouts, and works where the
 // octets stand: one row read, `slot_portion` done on its slot, and the peer's credits, the open job's numbers and what is counted of sends written: the rest of the row stays, and other rows. The exported name is in `entries`.
+#![tactic(auto)]
+
 ghost use Rattle.std.specs.Prelude.{◌≡◌, true, []};
 ghost use Rattle.edge.specs.Edge.{edge};
 ghost use Rattle.edge_scan.specs.Scan.{valid_octets};

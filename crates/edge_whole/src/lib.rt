@@ -1,5 +1,7 @@
 // Calls that work on the table's octets where they stand, made by value: the whole table read, the call, the table and the answer written back. Their contracts are the entries' own, word for word. Nothing here is in
 // the archive of `entries`: bindings/c/forged.c links both, and holds one to the other on tables that no call wrote.
+#![tactic(auto)]
+
 ghost use Rattle.std.specs.Prelude.{◌≡◌, []};
 ghost use Rattle.edge.specs.Edge.{edge};
 ghost use Rattle.edge_placed.specs.Frames.{dispatch_edge, send_edge, receive_edge};

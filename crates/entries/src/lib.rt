@@ -2,6 +2,8 @@
 // answer back, or for a question the answer alone, and returns 0 or the refusal's number; a frame in, a send, a take, a credit signal and the two runs read and write one row where it stands. It is the
 // function of that name in `edge_asking`, `edge_pending`, `edge_opening`, `edge_closing`, `edge_signals`, `edge_dispatch`, `edge_send`, `edge_receive`, `edge_dispatch_run` or `edge_send_run`, whose definition is
 // the entry's too. It is the call's own, lifted through the two layouts (Edge.antt of `edge`); of a run the calls', one after the other (Run.antt of `edge_run`).
+#![tactic(auto)]
+
 ghost use Rattle.std.specs.Prelude.{◌≡◌, [], length};
 ghost use Rattle.signal_headers.specs.Headers.{rest_of};
 ghost use Rattle.edge.specs.Edge.{edge};

@@ -27,7 +27,7 @@ use Rattle.definition.specs.Calls as Calls
 use Rattle.definition.specs.Numbers.{answer_number}
 use Rattle.definition.specs.Run.{State, after, made, run, outcomes}
 use Rattle.isolation.specs.Statement.{jobs, carries, frames_out, job_out, over_after, portioned, same, exchanged, AlikeRuns, marked, marks_from, handed, Demand3}
-use Rattle.isolation.specs.Lives.{window, unlent, opening, Row, row, standing, rows, trail, each, gives}
+use Rattle.isolation.specs.Lives.{window, unlent, opening, row, standing, rows, trail, each}
 
 -- ---- the run
 

@@ -72,12 +72,13 @@ module _ {A B C : Type 0} (R : A → B → C → Type 0) where
     pub rel_moves : {la : List A} {lb : List B} {lc : List C} → Rel R la lb lc → (ms : List Move) → Rel R (moves f ja la ms) (moves g jb lb ms) (moves h jc lc ms)
     unfolding moves
     rel_moves r [] = r
-    rel_moves r (m ∷ ms) = rel_moves (rel_move r m) ms
+    rel_moves {la = la} {lb = lb} {lc = lc} r (m ∷ ms) = rel_moves {la = move f ja la m} {lb = move g jb lb m} {lc = move h jc lc m} (rel_move r m) ms
 
     pub rel_parts : (w : ℕ) {la : List A} {lb : List B} {lc : List C} → Rel R la lb lc → (mss : List (List Move)) → Rel R (parts f ja w mss la) (parts g jb w mss lb) (parts h jc w mss lc)
     unfolding parts
     rel_parts w r [] = r
-    rel_parts w r (ms ∷ mss) = rel_append (rel_moves (rel_take w r) ms) (rel_parts w (rel_drop w r) mss)
+    rel_parts w {la = la} {lb = lb} {lc = lc} r (ms ∷ mss) =
+        rel_append (rel_moves (rel_take w r) ms) (rel_parts w {la = drop w la} {lb = drop w lb} {lc = drop w lc} (rel_drop w r) mss)
 
     pub rel_fills : {la : List A} {lb : List B} {lc : List C} → Rel R la lb lc → (xs : List Fill) → Rel R (fills f ja la xs) (fills g jb lb xs) (fills h jc lc xs)
     unfolding fills

@@ -1,1 +1,2 @@
 // Only definitions and laws on lists, choices and loops: see specs/.
+#![tactic(auto)]

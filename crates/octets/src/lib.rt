@@ -1,5 +1,7 @@
 // Octets in lent slices: zeroed and moved down here; copied (`octets_copy`), and read and written as numbers of two octets (`octets_numbers`), which are
 // passed on. Every function is total: a place past the end reads as 0 and takes no store, as in the list terms of the contracts.
+#![tactic(auto)]
+
 ghost use Rattle.std.specs.Prelude.{◌≡◌, ◌≤◌, replicate};
 ghost use Rattle.std.proofs.lemmas.List.Edits.{sets};
 ghost use Rattle.lists.specs.Sets.{part};

@@ -1,4 +1,6 @@
 // Octets copied from one lent slice to another, as far as both reach.
+#![tactic(auto)]
+
 mod eight;
 
 ghost use Rattle.std.specs.Prelude.{◌≡◌, ◌+◌, ◌≤◌, ◌<◌, length};

@@ -1,5 +1,7 @@
 // Single octets and numbers of two octets, the lower first, read from lent slices and written to them; a number of 64 bits in four of 16; and the two
 // lengths that every loop over octets asks for. Every function is total: a place past the end reads as 0 and takes no store, as in the list terms of the contracts.
+#![tactic(auto)]
+
 ghost use Rattle.std.specs.Prelude.{◌≡◌, ◌-◌, min, get_or, set};
 ghost use Rattle.std.proofs.lemmas.List.Edits.{sets};
 ghost use Rattle.octets_numbers.specs.Octets.{u16_at, le16};

@@ -1,5 +1,7 @@
 // Connect requests of the peer: code 0x14 (`handle_connect_request` in the original). They stand behind the gate, which has found the signal
 // buffer to be long enough; `on_conn_req` is `pub` for the signal call alone. Its contract is the equation with the definition's handler.
+#![tactic(auto)]
+
 ghost use Rattle.std.specs.Prelude.{◌≡◌, List, [], ℕ, ◌≤◌, length};
 ghost use Rattle.channel.specs.Limits.{signal_most};
 ghost use Rattle.channel.specs.declared.Table.{Table as TableOf};

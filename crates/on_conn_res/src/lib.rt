@@ -1,6 +1,8 @@
 // Connect responses of the peer: code 0x15 (`handle_connect_response` in the original). They stand behind the gate, which has found room and
 // signal buffer to be as long as the table says; `on_conn_res` is `pub` for the signal call alone. Its contract is the equation with the
 // definition's handler.
+#![tactic(auto)]
+
 ghost use Rattle.std.specs.Prelude.{◌≡◌, List, [], ℕ, ◌≤◌, length};
 ghost use Rattle.channel.specs.Limits.{signal_most};
 ghost use Rattle.channel.specs.declared.Table.{Table as TableOf};

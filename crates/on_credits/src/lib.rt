@@ -1,6 +1,8 @@
 // The peer's credits: code 0x16 (`handle_credit_flow` in the original). It stands behind the gate, which has found room and signal buffer
 // to be as long as the table says; it is `pub` for the signal call alone. The slot is searched for, `slot_credits` does the signal's work on it and on its part of the room, and it is put
 // back. Its contract is the equation with the definition's handler.
+#![tactic(auto)]
+
 ghost use Rattle.std.specs.Prelude.{◌≡◌, [], ◌≤◌, length};
 ghost use Rattle.channel.specs.Limits.{signal_most};
 ghost use Rattle.definition.specs.Ending.{end, end_of};

@@ -1,6 +1,8 @@
 // The peer's disconnect requests: code 0x06 (`handle_disconnect_request` in the original). They stand behind the gate, which has found room
 // and signal buffer to be as long as the table says; `on_disconnection_req` is `pub` for the signal call alone. Its contract is the equation
 // with the definition's handler.
+#![tactic(auto)]
+
 mod response;
 
 ghost use Rattle.std.specs.Prelude.{◌≡◌, [], ◌≤◌, length};

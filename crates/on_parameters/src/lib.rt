@@ -1,5 +1,7 @@
 // The peer's parameter requests: code 0x12. A central alone takes parameters. They stand behind the gate, which has found the signal buffer to be
 // long enough; `on_update` is `pub` for the signal call alone. Its contract is the equation with the definition's `on_update`.
+#![tactic(auto)]
+
 mod body;
 
 ghost use Rattle.std.specs.Prelude.{◌≡◌, List, [], ℕ, ◌≤◌, length};

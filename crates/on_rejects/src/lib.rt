@@ -1,5 +1,7 @@
 // The replies that turn a signal down, with nothing changed: a command reject, a refused connect response, a refused parameter request.
 // They stand behind the gate, which has found the signal buffer long enough; each is `pub` for the handlers above alone.
+#![tactic(auto)]
+
 ghost use Rattle.std.specs.Prelude.{◌≡◌, List, [], ◌∷◌, ℕ, ◌≤◌, length};
 ghost use Rattle.channel.specs.Limits.{signal_most};
 ghost use Rattle.channel.specs.declared.Answer.TheVariants.{Done};

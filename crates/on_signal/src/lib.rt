@@ -1,6 +1,8 @@
 // The first signal of a PDU, to the handler of its code: a match on the code's number. It stands behind the gate, which has found room and
 // signal buffer to be as long as the table says; `handled` is `pub` for the signal call alone. Its contract is the equation with the
 // definition of that name.
+#![tactic(auto)]
+
 ghost use Rattle.std.specs.Prelude.{◌≡◌, [], ◌≤◌, length};
 ghost use Rattle.channel.specs.Limits.{signal_most};
 ghost use Rattle.definition.specs.Ending.{end, end_of};

@@ -1,6 +1,6 @@
 -- The row of a call (docs/CHANRUN.md): "ANSWER OCTETS and the columns listed. ANSWER is 0 or the refusal's number. OCTETS is what the call
 -- wrote, in hex, or `-`."
-use Rattle.std.specs.Prelude.{List, [], ◌∷◌, ◌++◌, ℕ}
+use Rattle.std.specs.Prelude.{List, ◌++◌, ℕ}
 use Rattle.text_write.specs.Text.{text}
 use Rattle.text_decimal.specs.NumberText.{number_text}
 use Rattle.text_hex_write.specs.HexText.{hex_text}

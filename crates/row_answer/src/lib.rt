@@ -1,6 +1,8 @@
 // The row of a call (docs/CHANRUN.md): the answer's number, the octets, and the columns that the answer tells. Each writer adds its piece to a
 // lent buffer (`Writes` of `text_write`). What is written is defined in specs/Answers.antt; it rests on `text_write`, `text_decimal::write`, `text_hex_write`, `channel_answer`
 // and `columns`.
+#![tactic(auto)]
+
 mod columns;
 
 ghost use Rattle.text_write.specs.Rows.{Writes};

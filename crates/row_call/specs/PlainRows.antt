@@ -1,5 +1,5 @@
 -- The plain rows of docs/CHANRUN.md, each with its newline: "for each call ANSWER OCTETS and the columns listed".
-use Rattle.std.specs.Prelude.{List, [], ◌∷◌, ◌++◌, ℕ}
+use Rattle.std.specs.Prelude.{List, ◌++◌, ℕ}
 use Rattle.text_write.specs.Text.{text}
 use Rattle.row_columns.specs.Columns.{columns_text}
 use Rattle.row_answer.specs.Answers.{answer_text}

@@ -1,6 +1,8 @@
 // The rows of a script's calls (docs/CHANRUN.md), each written at the start of a lent `row` with its newline. Each answers how many octets the row
 // has. The texts are defined in specs/Printed.antt; it rests on `plain`, on `channel_answer` for what an answer tells, and for a
 // job's row on `row_answer`, `text_hex_write` and `text_write`.
+#![tactic(auto)]
+
 mod plain;
 
 ghost use Rattle.std.specs.Prelude.{◌≡◌};

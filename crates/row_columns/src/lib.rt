@@ -1,5 +1,7 @@
 // Columns of a row: numbers, a space before each, written into a lent buffer (`Writes` of `text_write`). What is written is defined in
 // specs/Columns.antt; it rests on `text_write` and `text_decimal::write`.
+#![tactic(auto)]
+
 ghost use Rattle.text_write.specs.Rows.{Writes};
 ghost use Rattle.row_columns.specs.Columns.{columns_text};
 

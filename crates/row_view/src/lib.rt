@@ -1,5 +1,7 @@
 // The view of a table (docs/CHANRUN.md, `V`): its sizes, and a line for each slot. What is shown is defined in specs/View.antt; it rests on
 // `row_view_slot`, `row_answer`, `channel_answer`, `row_columns` and `text_write`.
+#![tactic(auto)]
+
 ghost use Rattle.text_write.specs.Rows.{Writes};
 ghost use Rattle.row_view.specs.View.{sizes_text, view_text};
 

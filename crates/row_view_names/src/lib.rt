@@ -1,5 +1,7 @@
 // The names of a view (docs/CHANRUN.md, `V`): a channel's state and its policy, each with its number. What each is called is defined in
 // specs/Names.antt; it rests on `text_write` and `text_decimal::write`.
+#![tactic(auto)]
+
 ghost use Rattle.std.specs.Prelude.{◌++◌};
 ghost use Rattle.text_decimal.specs.NumberText.{number_text};
 ghost use Rattle.text_write.specs.Rows.{Writes};

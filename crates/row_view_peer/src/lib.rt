@@ -1,5 +1,7 @@
 // The end of a slot's line in a view (docs/CHANRUN.md, `V`): the peer's side, what is held and what waits. What is shown is defined in
 // specs/PeerLine.antt; it rests on `row_columns` and `text_write`.
+#![tactic(auto)]
+
 ghost use Rattle.text_write.specs.Rows.{Writes};
 ghost use Rattle.row_view_peer.specs.PeerLine.{jobs_text, peer_text};
 

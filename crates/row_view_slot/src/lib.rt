@@ -1,5 +1,7 @@
 // The line of one slot in a view (docs/CHANRUN.md, `V`): its state, our side of the channel, and what `row_view_peer` shows. It is defined in
 // specs/SlotLine.antt; it rests on `row_view_names`, `row_view_peer`, `row_columns` and `text_write`.
+#![tactic(auto)]
+
 ghost use Rattle.text_write.specs.Rows.{Writes};
 ghost use Rattle.row_view_slot.specs.SlotLine.{head_text, local_text, slot_text};
 

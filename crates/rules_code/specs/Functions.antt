@@ -1,5 +1,5 @@
--- Each public function of the calls: what its contract says, word for word, is a call of the run. The contract's `now room.entry` is the
--- state's room, `now signal.entry` the window of its memory that is lent, and `.exit` what stands there after. One lemma a function; a
+-- Each public function of the calls: what its contract says, word for word, is a call of the run. The contract's `room.old` is the
+-- state's room, `signal.old` the window of its memory that is lent, and `.new` what stands there after. One lemma a function; a
 -- function that is lent no buffer is called with no window.
 use Rattle.std.specs.Prelude.{◌≡◌, Bool, true, ℕ, length}
 use Rattle.std.proofs.Math.Path.{refl}

@@ -1,6 +1,6 @@
 -- The peer of a channel: as long as its slot is Connected, its CID and its MPS stay what they were, whatever calls come. So of what a portion needs to find as the
 -- job's last call left it (`HandedOn` of crate rules_portions), the manager keeps the peer's numbers here, the job by `job_moved_by` (crate rules_steps), and the caller the buffer.
-use Rattle.std.specs.Prelude.{◌≡◌, refl, Bool, true, false, List, [], ◌∷◌, ℕ, ◌<◌}
+use Rattle.std.specs.Prelude.{◌≡◌, refl, Bool, true, List, [], ◌∷◌, ℕ, ◌<◌}
 use Rattle.std.proofs.Common.{sym, ap, ◌∙◌}
 use Rattle.std.proofs.lemmas.Bool.{false≢true}
 use Rattle.channel.specs.declared.ChannelState.{ChannelState}
@@ -74,5 +74,5 @@ peer_stays_through r [] f i h st = same
 peer_stays_through {s} r (c ∷ cs) f i h st =
     let p = peer-stays r c f.0 i h st.0 (stays-now i (after s c) cs st.1) in
     let n : i < (after s c).table.n = rw (same-sizes s c (reached-good r) f.0).n h in
-    let q = peer_stays_through (next c r f.0) cs f.1 i n st.1 in
+    let q = peer_stays_through {s = after s c} (next c r f.0) cs f.1 i n st.1 in
     record { cid = q.cid ∙ p.cid; mps = q.mps ∙ p.mps }

@@ -403,6 +403,7 @@ module _ (i link : ℕ) (handle : link ≤ handle_most) where
   -- the frames after the first
   rest_arrives : {s s' : State} {done rest : List ℕ} {ps : List (List ℕ)} {c : ℕ} {jobs : ℕ → List ℕ} → Arrives i link ps s s' → Rest rest ps → Reached s → 0 < length rest
       → Open s i link ps done (length (done ++ rest)) c jobs → Rejoined s' i (done ++ rest) c jobs
+  rest_arrives {done = done} {rest = rest} {c = c} {jobs = jobs} (all {s = s}) q r h o = elim q [ ]
   rest_arrives {s} {done = done} {c = c} {jobs = jobs} (between a f u v) q r h o = rest_arrives {done = done} {c = c} {jobs = jobs} v q (next a r f) h (open_kept s (reached-good r) a f i u o)
   rest_arrives {s} {done = done} (comes p v) (last p') r h o =
       let wants : 0 < length (done ++ p) = rw (length-append done p) (omega arith) in
@@ -417,17 +418,31 @@ module _ (i link : ℕ) (handle : link ≤ handle_most) where
       (subst (λ (sdu : List ℕ). Open (after s (framing link i p)) i link ps (done ++ p) (length sdu) c jobs) (sym e)
       (open_as o.count o.olds (next_grows s (reached-good r) i link ps handle o.receiver o.fits.1 done p o.fits.0 (length (done ++ (p ++ rest))) o.assembly wants o.there l))))
 
+  -- from the first frame on
+  from_first : {s s' : State} {sdu q : List ℕ} {ps : List (List ℕ)} → Arrives i link ps (after s (framing link i (le16 (length sdu) ++ q))) s' → Rest sdu (q ∷ ps) → Reached s
+      → Receiver s i link (suc (length ps)) → AllWithin (slot_at s.table i).mps ((le16 (length sdu) ++ q) ∷ ps) → (slot_at s.table i).assembly.want ≡ 0 → length sdu ≤ (slot_at s.table i).mtu
+      → Rejoined s' i sdu (slot_at s.table i).queue.count (job_at s i)
+  from_first {s} v (last sdu') r n b z m =
+      settled v (next (framing link i (le16 (length sdu') ++ sdu')) r tt) (first_finishes s (reached-good r) i link [] handle n tt z sdu' (let y = b.0 in omega arith) m)
+  from_first {s} {sdu = sdu} v (more q {rest} {ps} h w) r n b z m =
+      rest_arrives {done = q} {c = (slot_at s.table i).queue.count} {jobs = job_at s i} v w (next (framing link i (le16 (length sdu) ++ q)) r tt) h (first_grows s (reached-good r) i link ps handle n b.1 z q rest (let y = b.0 in omega arith) m h)
+
+  -- p is the first frame's payload
+  first_arrives : {s s' : State} {sdu q p : List ℕ} {ps : List (List ℕ)} → Arrives i link (p ∷ ps) s s' → p ≡ le16 (length sdu) ++ q → Rest sdu (q ∷ ps) → Reached s
+      → Receiver s i link (suc (length ps)) → AllWithin (slot_at s.table i).mps (p ∷ ps) → (slot_at s.table i).assembly.want ≡ 0 → length sdu ≤ (slot_at s.table i).mtu
+      → Rejoined s' i sdu (slot_at s.table i).queue.count (job_at s i)
+  first_arrives {s} {sdu = sdu} {q} {p} {ps} (between a f u v) e w r n b z m =
+      rejoined_as (ap (λ (x : Slot). x.queue.count) u.slot) (λ k _. job-kept s (reached-good r) a f i u k)
+      (first_arrives v e w (next a r f) (receiver_kept s (reached-good r) a f i u n) (subst (λ (x : Slot). AllWithin x.mps (p ∷ ps)) (sym u.slot) b)
+      (ap (λ (x : Slot). x.assembly.want) u.slot ∙ z)
+      (subst (λ (x : Slot). length sdu ≤ x.mtu) (sym u.slot) m))
+  first_arrives {s} {s'} {sdu = sdu} {q} {ps = ps} (comes p v) e w r n b z m =
+      from_first (subst (λ (x : List ℕ). Arrives i link ps (after s (framing link i x)) s') e v) w r n
+      (subst (λ (x : List ℕ). AllWithin (slot_at s.table i).mps (x ∷ ps)) e b) z m
+
   -- "Rejoining is exact when the receiver is Connected and idle with n credits, a free queue place, MTU ≥ L, .. and the frames arrive in order
   -- on their own link with no other change of that slot between", and "our MPS [is] no less than any frame's payload" (document 02): then the job waits, whole, behind those that waited.
   pub rejoins : {s s' : State} {sdu q : List ℕ} {ps : List (List ℕ)} → Arrives i link ((le16 (length sdu) ++ q) ∷ ps) s s' → Rest sdu (q ∷ ps) → Reached s
       → Receiver s i link (suc (length ps)) → AllWithin (slot_at s.table i).mps ((le16 (length sdu) ++ q) ∷ ps) → (slot_at s.table i).assembly.want ≡ 0 → length sdu ≤ (slot_at s.table i).mtu
       → Rejoined s' i sdu (slot_at s.table i).queue.count (job_at s i)
-  rejoins {s} {sdu = sdu} {q} {ps} (between a f u v) w r n b z m =
-      rejoined_as (ap (λ (x : Slot). x.queue.count) u.slot) (λ k _. job-kept s (reached-good r) a f i u k)
-      (rejoins v w (next a r f) (receiver_kept s (reached-good r) a f i u n) (subst (λ (x : Slot). AllWithin x.mps ((le16 (length sdu) ++ q) ∷ ps)) (sym u.slot) b)
-      (ap (λ (x : Slot). x.assembly.want) u.slot ∙ z)
-      (subst (λ (x : Slot). length sdu ≤ x.mtu) (sym u.slot) m))
-  rejoins {s} (comes p v) (last sdu') r n b z m =
-      settled v (next (framing link i p) r tt) (first_finishes s (reached-good r) i link [] handle n tt z sdu' (let y = b.0 in omega arith) m)
-  rejoins {s} (comes p v) (more q {rest} {ps} h w) r n b z m =
-      rest_arrives {done = q} {c = (slot_at s.table i).queue.count} {jobs = job_at s i} v w (next (framing link i p) r tt) h (first_grows s (reached-good r) i link ps handle n b.1 z q rest (let y = b.0 in omega arith) m h)
+  rejoins v w r n b z m = first_arrives v refl w r n b z m

@@ -177,7 +177,7 @@ module _ (i : ℕ) (sdu : List ℕ) where
   delivered {k = k} {s = s} {s' = s'} {b' = b'} (portion {u = u} {fs = fs} w c link taken full h a d) r =
       let n = next u w c link taken full a (handed h r) in
       let o = given_frames u w c link taken full a in
-      let z = delivered d n.ready in
+      let z = delivered {k = k + length (given_frames u w c link taken full a)} d n.ready in
       let e = slot-after u w c link taken full a in
       let cid-is : (slot_in (after u (portion_of u i sdu w c)) i).peer.cid ≡ (slot_in s i).peer.cid = ap (λ (y : Slot). y.peer.cid) e ∙ h.cid in
       let mps-is : (slot_in (after u (portion_of u i sdu w c)) i).peer.mps ≡ (slot_in s i).peer.mps = ap (λ (y : Slot). y.peer.mps) e ∙ h.mps in

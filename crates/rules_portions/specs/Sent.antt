@@ -1,5 +1,5 @@
 -- The octets that the definition's send writes are the frames of the SDU, as crate sar_cut cuts it. Rests on the frames of a job taken one by one (crate
--- sar_frames: framed-start, framed-turn, count-first).
+-- sar_frames: framed-start, framed_turn, count-first).
 use Rattle.std.specs.Prelude.{◌≡◌, refl, List, [], take, drop}
 use Rattle.std.proofs.Math.Path.{sym}
 use Rattle.std.proofs.Common.{◌∙◌, length-drop, length-take-le}

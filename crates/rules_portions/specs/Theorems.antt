@@ -105,14 +105,14 @@ taken_grows : (i : ℕ) (sdu : List ℕ) {k : ℕ} {s s' : State} {b b' : List �
     → is_open (job_in s' i) ≡ true → somes d + (job_in s i).taken ≤ (job_in s' i).taken
 unfolding somes
 taken_grows i sdu rest r h o = omega arith
-taken_grows i sdu {s = s} {s' = s'} (portion {u = u} w zero link taken full g a d) r h o =
-    let z = taken_grows i sdu d (next i sdu u w 0 link taken full a (handed i sdu g r)).ready h o in
+taken_grows i sdu {k = k} {s = s} {s' = s'} (portion {u = u} w zero link taken full g a d) r h o =
+    let z = taken_grows i sdu {k = k + length (given_frames i sdu u w 0 link taken full a)} d (next i sdu u w 0 link taken full a (handed i sdu g r)).ready h o in
     let t = portion-taken i sdu u w 0 link taken full a (open_back i sdu d o) in
     let q : (job_in u i).taken ≡ (job_in s i).taken = ap (λ (j : OpenJob). j.taken) g.job in
     omega arith
-taken_grows i sdu {s = s} {s' = s'} (portion {u = u} w (suc c) link taken full g a d) r h o =
+taken_grows i sdu {k = k} {s = s} {s' = s'} (portion {u = u} w (suc c) link taken full g a d) r h o =
     let v = handed i sdu g r in
-    let z = taken_grows i sdu d (next i sdu u w (suc c) link taken full a v).ready h o in
+    let z = taken_grows i sdu {k = k + length (given_frames i sdu u w (suc c) link taken full a)} d (next i sdu u w (suc c) link taken full a v).ready h o in
     let t = portion-taken i sdu u w (suc c) link taken full a (open_back i sdu d o) in
     let p = takes_some v.wide (is-filling i sdu u w (suc c) link taken full a v) (suc c) h (omega arith) in
     let q : (job_in u i).taken ≡ (job_in s i).taken = ap (λ (j : OpenJob). j.taken) g.job in

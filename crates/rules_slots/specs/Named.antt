@@ -22,7 +22,7 @@ use Rattle.channel.specs.declared.Table.{Table}
 use Rattle.channel.specs.declared.Verdict.{Verdict}
 use Rattle.channel.specs.declared.Verdict.TheVariants.{Pass, Stop}
 use Rattle.definition.specs.Mem.{Fill, Move}
-use Rattle.definition.specs.Table.{gap, slot_at, well_formed, is_cid, slot_of, spent}
+use Rattle.definition.specs.Table.{gap, slot_at, well_formed, slot_of, spent}
 use Rattle.definition.specs.Outcome.{Outcome, still, change, filling, verdict, passed, gate}
 use Rattle.definition.specs.Pending.{accept_pending, reject_pending, not_code, reject_read, drop_pending}
 use Rattle.definition.specs.Opening.{opened, give_up}

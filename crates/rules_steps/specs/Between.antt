@@ -17,7 +17,7 @@ use Rattle.definition.specs.Portions.{buffer_size}
 use Rattle.definition.specs.Calls.{Window, Call, portions, plain, starts, cancels, jobs}
 use Rattle.definition.specs.Run.{State, lent, out_window, job_window, outcome, after, run}
 use Rattle.definition.specs.Forms.{Fit}
-use Rattle.rules.specs.Run.{Fits, AllFit, Reached, next}
+use Rattle.rules.specs.Run.{AllFit, Reached, next}
 use Rattle.rules.specs.Good.{within, reached-good, same-sizes}
 use Rattle.rules_jobs.specs.Peer.{peer_stays_through, Stays, stays-now}
 use Rattle.rules_portions.specs.Statement.{HandedOn}
@@ -72,7 +72,7 @@ unfolding run
 job_stays_through r [] f i h st none = refl
 job_stays_through {s} r (c ∷ cs) f i h st none =
     let n : i < (after s c).table.n = rw (same-sizes s c (reached-good r) f.0).n h in
-    job_stays_through (next c r f.0) cs f.1 i n st.1 none.1 ∙ job-stays r i h c (stays-now i (after s c) cs st.1) none.0
+    job_stays_through {s = after s c} (next c r f.0) cs f.1 i n st.1 none.1 ∙ job-stays r i h c (stays-now i (after s c) cs st.1) none.0
 
 -- SO THE BUFFER IS THE CALLER'S PART, AND ALL OF IT: where it is long enough and has the frame that is being filled as the job's last call left it, the next portion finds the job as that call left it.
 pub handed_on : {s : State} → Reached s → (cs : List Call) → AllFit cs → (i : ℕ) → i < s.table.n → Stays i s cs → NoJobCall i cs

@@ -13,7 +13,6 @@ use Rattle.channel.specs.declared.OpenJob.{OpenJob}
 use Rattle.channel.specs.declared.Table.{Table}
 use Rattle.definition.specs.Table.{is_disconnected, is_connected, is_disconnecting, is_due, cid_of, is_open}
 use Rattle.definition.specs.Calls.{Window, Call, frame, portions, plain, Request, accepts, rejects, creates, gives, releases, announces}
-use Rattle.rules_steps.specs.Tools.{}
 use Rattle.rules_steps.specs.Steps.{Seen, is, free, Row, is_number, gives-slot, Step, row, stay, link_down, stay_down, overrun, stay-frame, send, stay-send, portion, stay-portion, Fills, part, full, last}
 use Rattle.rules_steps.specs.Steps as Steps
 use Rattle.rules_steps.specs.Stepping.{every_step}

@@ -12,7 +12,7 @@ use Rattle.channel.specs.declared.Table.{Table}
 use Rattle.definition.specs.Mem.{Fill}
 use Rattle.definition.specs.Table.{slot_at, is_disconnecting, spent}
 use Rattle.definition.specs.Calls.{Call, Request}
-use Rattle.rules_steps.specs.Told.{Asks, disconnect, Replies, disconnected, speaks, Uses, request, refused_12, refused_13, Keeps, reply, silent, Told, uses, keeps, IdentifiersUsed}
+use Rattle.rules_steps.specs.Told.{Asks, disconnect, Replies, disconnected, speaks, Uses, request, refused_12, refused_13, Keeps, reply, silent, Told, uses, keeps, IdentifiersUsed, connect, credits, parameters, begin-out, own}
 use Rattle.rules_steps.specs.Telling.{every_call_tells}
 
 -- the slot whose disconnect is due
@@ -33,6 +33,9 @@ due_at (Portion link taken full) = 0
 -- ---- no request is a reply: the one call that writes either, of one slot in one state
 
 asks_replies : {t : Table} {r : Request} {a b : Answer} {id : ℕ} {s u : Signal} → a ≡ b → Asks t r a s → Replies t r b id u → ⊥
+asks_replies e connect x = elim x [ ]
+asks_replies e (credits _ _) x = elim x [ ]
+asks_replies e parameters x = elim x [ ]
 asks_replies {t} e (disconnect {s = i} p) (disconnected {s = j} {id = id} q) =
     let same : i ≡ j = ap due_at e in
     false≢true (sym (ap is_disconnecting (subst (λ (k : ℕ). (slot_at t k).state ≡ PeerDisconnecting id) (sym same) q)) ∙ ap is_disconnecting p)
@@ -45,6 +48,10 @@ some≢none e = let z = ap length e in omega arith
 apart : {t : Table} {c : Call} {a b : Answer} {x y : List Fill} → a ≡ b → x ≡ y → Uses t c a x → Keeps t c b y → ⊥
 apart e o (request p) (reply q) = asks_replies e p q
 apart e o (request p) (silent q) = some≢none o
+apart e o (request p) begin-out = elim p [ ]
+apart e o (request p) own = elim p [ ]
+apart e o refused_12 (reply q) = elim q [ ]
+apart e o refused_13 (reply q) = elim q [ ]
 apart e o refused_12 (silent {r = r} q) = false≢true (sym q ∙ sym (ap (speaks r) e))
 apart e o refused_13 (silent {r = r} q) = false≢true (sym q ∙ sym (ap (speaks r) e))
 

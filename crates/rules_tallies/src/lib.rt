@@ -1,1 +1,2 @@
 // What is counted of a channel: frames sent and received, sends and frames blocked. Laws over the crate `definition`, in specs/. No code.
+#![tactic(auto)]

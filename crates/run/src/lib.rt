@@ -2,6 +2,8 @@
 // `run_table` it is. Defined in specs/Playing.antt, case by case; those others
 // have no row here. `room` is the table's room, no longer and no shorter; `octets` holds a
 // word's octets or a job, `frames` frames.
+#![tactic(auto)]
+
 ghost use Rattle.run_play.specs.Plays.{Plays};
 ghost use Rattle.run.specs.Playing.{play_of};
 

@@ -1,5 +1,7 @@
 // The calls that commands of holds and disconnects, of the attention set and of the parameter signals ask for (docs/CHANRUN.md). Which call each is
 // stands in specs/Called.antt; it rests on the calls.
+#![tactic(auto)]
+
 ghost use Rattle.std.specs.Prelude.{◌≡◌, []};
 ghost use Rattle.definition.specs.Ending.{end};
 ghost use Rattle.run_call_closing.specs.Called.{end_closing};

@@ -1,5 +1,7 @@
 // The calls that commands of pending connections and of attempts ask for, and the registering of an SPSM (docs/CHANRUN.md). Which call each is
 // stands in specs/Called.antt; it rests on the calls.
+#![tactic(auto)]
+
 ghost use Rattle.std.specs.Prelude.{◌≡◌, []};
 ghost use Rattle.definition.specs.Ending.{end};
 ghost use Rattle.run_call_opening.specs.Called.{end_opening};

@@ -1,5 +1,7 @@
 // Signals, frames and jobs, each call with its row (docs/CHANRUN.md): `S`, one signal of the PDU, `F`, `K` and `B`. What each comes to is defined in
 // specs/PlayedFrames.antt; it rests on the calls and on `row_call`.
+#![tactic(auto)]
+
 ghost use Rattle.std.specs.Prelude.{length};
 ghost use Rattle.run_play.specs.Plays.{Plays, spelled_of};
 ghost use Rattle.run_frames.specs.PlayedFrames.{signal_of, frame_of, send_of, take_of};

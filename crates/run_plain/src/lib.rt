@@ -1,6 +1,8 @@
 // The calls of `run_call_opening` and `run_call_closing`, and the opened query, each with its row (docs/CHANRUN.md): the call is made on the table and the lent
 // room, and its row is written at the start of a lent `row`. What each comes to is defined in specs/Played.antt. Signals, frames and jobs are in
 // `run_frames`.
+#![tactic(auto)]
+
 ghost use Rattle.std.specs.Prelude.{◌≡◌, take};
 ghost use Rattle.text_write.specs.Rows.{Writes};
 ghost use Rattle.row_call.specs.Printed.{row_text};

@@ -1,5 +1,7 @@
 // A played call (docs/CHANRUN.md): the table after it, and the octets of its row, which is written at the start of a lent `row`; the octets of a room, and of
 // a word, as calls are given them. What each is, is defined in specs/Plays.antt.
+#![tactic(auto)]
+
 ghost use Rattle.std.specs.Prelude.{◌≡◌, length, take};
 ghost use Rattle.run_play.specs.Plays.{size_of, spelled_of};
 

@@ -6,7 +6,7 @@ use Rattle.codes.specs.declared.Refusal.TheVariants.{BadTable, BadSlot}
 use Rattle.text_write.specs.Rows.{Writes}
 use Rattle.channel.specs.declared.Answer.TheVariants.{Refused}
 use Rattle.channel.specs.declared.Table.{Table}
-use Rattle.definition.specs.Table.{if◌then◌else◌, sizes_fit, slot_at}
+use Rattle.definition.specs.Table.{when◌then◌else◌, sizes_fit, slot_at}
 use Rattle.definition.specs.Ending.{End, end_of}
 use Rattle.definition.specs.Portions.{start_job, give_portion, cancel_job}
 use Rattle.row_call.specs.Printed.{row_text, filling_text}
@@ -54,8 +54,8 @@ cancel_of t room slot = with_none (end_of t [] room [] [] (cancel_job t (length 
 -- `n`: "like `V` and `M` it answers 1 for a table of no slots and 6 for a slot past N"
 unfoldable pub show_of : Table → (slot : ℕ) (buffer : List ℕ) → List ℕ
 show_of t slot buffer =
-    if sizes_fit t.n t.d t.m then
-    if leb t.n slot then row_text (Refused BadSlot) [] else filling_text (slot_at t slot).job buffer
+    when sizes_fit t.n t.d t.m then
+    when leb t.n slot then row_text (Refused BadSlot) [] else filling_text (slot_at t slot).job buffer
     else row_text (Refused BadTable) []
 
 -- ---- the buffers: "One of 4,096 octets for each slot", one behind the other

@@ -1,5 +1,7 @@
 // Jobs handed over in portions, each call with its row (docs/CHANRUN.md): `N`, `p`, `x` and `n`. `buffers` has one buffer a slot, for the frame that is being
 // filled; a call is lent a stretch of its slot's own. What each comes to is defined in specs/PlayedPortions.antt; it rests on the calls and on `row_call`.
+#![tactic(auto)]
+
 ghost use Rattle.std.specs.Prelude.{◌≡◌, ◌+◌, ◌≤◌, length};
 ghost use Rattle.text_write.specs.Rows.{Writes};
 ghost use Rattle.run_play.specs.Plays.{Plays, spelled_of};

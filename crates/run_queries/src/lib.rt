@@ -1,4 +1,6 @@
 // `U` and `t` with their rows (docs/CHANRUN.md): what a slot's five queries answer, and those of its four tallies. Defined in specs/PlayedQueries.antt; it rests on `call_queries` and on `row_call`.
+#![tactic(auto)]
+
 ghost use Rattle.std.specs.Prelude.{◌≡◌};
 ghost use Rattle.text_write.specs.Rows.{Writes};
 ghost use Rattle.definition.specs.Asking.{spsm, mtu, mps, peer_mtu, peer_mps, tally_sent, tally_received, tally_blocked_sends, tally_blocked_receives};

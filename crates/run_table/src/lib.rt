@@ -1,4 +1,6 @@
 // The lines that ask for the table itself, each with its row (docs/CHANRUN.md): `T` makes one, `M` shows a slot's part of the room. What each comes to is defined in specs/PlayedTable.antt; it rests on the calls, on `run_play` and on `row_call`.
+#![tactic(auto)]
+
 ghost use Rattle.text_write.specs.Rows.{Writes};
 ghost use Rattle.run_play.specs.Plays.{Plays};
 ghost use Rattle.run_table.specs.PlayedTable.{made_of, part_of};

@@ -1,5 +1,7 @@
 // Cutting a job into K-frames (Core Vol 3 Part A 3.4): how many frames, and what is planned for a send. What is right stands in
 // specs/Cutting.antt, for the frames written (`sar_frames`) too.
+#![tactic(auto)]
+
 ghost use Rattle.std.specs.Prelude.{◌≡◌, ◌*◌, ◌/◌, ◌<◌};
 ghost use Rattle.sar_cut.specs.Cutting.{frame_count, plan_send};
 

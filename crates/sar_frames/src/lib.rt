@@ -1,5 +1,7 @@
 // The K-frames of a job, written (`encode` and `send` in the original; Core Vol 3 Part A 3.4), over what cutting plans. What is right stands in
 // the specs of cutting; it rests on `octets`.
+#![tactic(auto)]
+
 ghost use Rattle.std.specs.Prelude.{◌≡◌, ◌++◌, ◌+◌, ◌≤◌, ◌<◌, length, take};
 ghost use Rattle.std.proofs.lemmas.List.Edits.{sets};
 ghost use Rattle.octets.specs.Octets.{part, le16};

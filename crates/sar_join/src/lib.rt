@@ -1,5 +1,7 @@
 // Joining the payloads of K-frames to a job (l2cap/sar.rs in the original; Core Vol 3 Part A 3.4): the step that a payload makes, decided from
 // numbers alone. What is right stands in specs/Joining.antt. The same on a slot's part of the room is `sar_join_room`.
+#![tactic(auto)]
+
 ghost use Rattle.std.specs.Prelude.{◌≡◌};
 ghost use Rattle.sar_join.specs.Joining.{reached, join_step};
 

@@ -1,5 +1,7 @@
 // Joining the payloads of K-frames to a job in a slot's part of the room (l2cap/sar.rs in the original; Core Vol 3 Part A 3.4): the step that
 // `sar_join` decides, and what `places` writes for it. What is right stands in specs/SarRoom.antt.
+#![tactic(auto)]
+
 mod places;
 
 ghost use Rattle.std.specs.Prelude.{◌≡◌, ◌+◌, ◌*◌, ◌≤◌, length};

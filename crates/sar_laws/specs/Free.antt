@@ -1,6 +1,6 @@
 -- WHAT A JOIN STEP LEAVES of the room: nothing changes outside the slot's part, and what holds no octet of a job is zero after it as before it.
 -- It rests on where the step writes: in the place for assembly up to what is there, in the job's own place up to its length.
-use Rattle.std.specs.Prelude.{◌≡◌, refl, ◌⊎◌, List, ◌++◌, ℕ, zero, suc, ◌+◌, ◌-◌, ◌*◌, ◌≤◌, ◌<◌, length, get_or, set, replicate}
+use Rattle.std.specs.Prelude.{◌≡◌, refl, ◌⊎◌, List, ◌++◌, ℕ, suc, ◌+◌, ◌-◌, ◌*◌, ◌≤◌, ◌<◌, length, get_or, set, replicate}
 use Rattle.std.proofs.Common.{ap, ◌∙◌, ⊎_elim, zero-add, suc-mul, mul-le-mul_right, add-one, arith, length-append, get_or-set_same, get_or-set_other, eq-eqb, ne_eqb}
 use Rattle.std.proofs.lemmas.List.{length-replicate, get_or-replicate}
 use Rattle.std.proofs.lemmas.List.Edits.{sets}

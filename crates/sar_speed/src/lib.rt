@@ -1,4 +1,6 @@
 // Copying, counting and cutting for C and Rust, on numbers and octets: what oracle/speed measures beside the original (docs/PERFORMANCE.md).
+#![tactic(auto)]
+
 ghost use Rattle.std.specs.Prelude.{◌≡◌, length};
 ghost use Rattle.std.proofs.lemmas.List.Edits.{sets};
 ghost use Rattle.sar_cut.specs.Cutting.{frame_count, plan_send, output_after};

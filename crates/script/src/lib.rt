@@ -1,5 +1,7 @@
 // One line of a script, read as the call that it asks for (docs/CHANRUN.md): `command_of` of specs/Script.antt. It rests on `text_words`, `script_commands` and
 // `script_commands::long`.
+#![tactic(auto)]
+
 ghost use Rattle.std.specs.Prelude.{◌≡◌};
 ghost use Rattle.script.specs.Script.{command_of};
 

@@ -1,6 +1,8 @@
 // The calls of a script (docs/CHANRUN.md), and those of at most three words, by the number of words of their line: the letter, then what the call
 // is given; the longer ones are in `long`. The table of these calls is specs/Commands.antt, which every function here follows test by
 // test. It rests on `text_words`, `script_fields_plain` and `text_hex_words`.
+#![tactic(auto)]
+
 pub mod long;
 
 ghost use Rattle.std.specs.Prelude.{◌≡◌};

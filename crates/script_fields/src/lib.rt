@@ -1,5 +1,7 @@
 // The words of a configuration, one kind each, beside the plain ones (`script_fields_plain`): whether a word is of that kind, and what it then says. A
 // word is tested before it is asked. What each word says is defined in specs/Fields.antt.
+#![tactic(auto)]
+
 ghost use Rattle.std.specs.Prelude.{◌≡◌, drop};
 ghost use Rattle.script_fields.specs.Fields.{is_setting, setting_of, is_policy, policy_of};
 

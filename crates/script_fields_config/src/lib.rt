@@ -1,4 +1,6 @@
 // The four words of a configuration: whether they are one, and what they then say. Defined in specs/Configs.antt; it rests on `script_fields`.
+#![tactic(auto)]
+
 ghost use Rattle.std.specs.Prelude.{◌≡◌};
 ghost use Rattle.script_fields_config.specs.Configs.{is_config, config_of};
 

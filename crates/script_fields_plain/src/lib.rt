@@ -1,5 +1,7 @@
 // The plain words of a call, one kind each: a number, the size of a frame buffer, one character, a flag, a role. Whether a word is of that kind, and what it then says; a
 // word is tested before it is asked. What each word says is defined in specs/PlainFields.antt. It rests on `text_decimal`.
+#![tactic(auto)]
+
 ghost use Rattle.std.specs.Prelude.{◌≡◌};
 ghost use Rattle.script_fields_plain.specs.PlainFields.{is_number, number_of, is_size, is_one, is_flag, flag_of, is_role, central_of};
 

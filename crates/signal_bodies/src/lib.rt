@@ -1,5 +1,7 @@
 // The bodies of the signals, read, but those of LE credit based connections (`le_credit`): the length first, then fields of two octets.
 // A body of another length is Decode (refusal 15).
+#![tactic(auto)]
+
 pub mod le_credit;
 
 ghost use Rattle.std.specs.Prelude.{◌≡◌};

@@ -1,4 +1,6 @@
 // The eight signals, with the names and fields of types/l2cap.rs, fields in Core's order.
+#![tactic(auto)]
+
 ghost use Rattle.std.specs.Prelude.{◌≡◌};
 ghost use Rattle.signal_forms.specs.Forms.{reject_res};
 

@@ -1,5 +1,7 @@
 // The headers of the signals in a PDU (Core Vol 3 Part A 4): the check of every one, and what stands after the first signal, whose header and
 // body `first` reads.
+#![tactic(auto)]
+
 pub mod first;
 
 ghost use Rattle.std.specs.Prelude.{◌≡◌};

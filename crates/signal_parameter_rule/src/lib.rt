@@ -1,4 +1,6 @@
 // The connection parameters that a central takes (Core Vol 3 Part A 4.20, in the ranges of document 01).
+#![tactic(auto)]
+
 ghost use Rattle.std.specs.Prelude.{◌≡◌};
 ghost use Rattle.signal_parameter_rule.specs.Parameters.{parameters_valid};
 

@@ -1,4 +1,6 @@
 // Any signal, read: its body by its code (Core Vol 3 Part A 4).
+#![tactic(auto)]
+
 ghost use Rattle.std.specs.Prelude.{◌≡◌};
 ghost use Rattle.signal_read.specs.SignalRead.{signal_of};
 

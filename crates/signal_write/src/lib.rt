@@ -1,4 +1,6 @@
 // A signal, written: the PDU that its form's code and fields make (Core Vol 3 Part A 3.1 and 4). The one writer of all replies and requests.
+#![tactic(auto)]
+
 ghost use Rattle.signal_write.specs.Writer.{encode_of, Writes};
 
 use signal_forms::{SIGNAL_MOST, Signal};

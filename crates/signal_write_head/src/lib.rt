@@ -1,4 +1,6 @@
 // The head of a signal's PDU, written from the buffer's start: length, CID 0x0005, code, identifier, body length (Core Vol 3 Part A 3.1 and 4).
+#![tactic(auto)]
+
 ghost use Rattle.std.specs.Prelude.{◌≡◌, ◌≤◌};
 ghost use Rattle.std.proofs.lemmas.List.Edits.{sets};
 ghost use Rattle.signal_write_head.specs.SignalHead.{head_of};

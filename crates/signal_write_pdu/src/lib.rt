@@ -1,4 +1,6 @@
 // The PDU of one signal, written from the buffer's start: the head, then as many fields of two octets as the form has.
+#![tactic(auto)]
+
 ghost use Rattle.std.specs.Prelude.{◌≡◌, [], ◌∷◌};
 ghost use Rattle.std.proofs.lemmas.List.Edits.{sets};
 ghost use Rattle.signal_write_pdu.specs.Pdu.{pdu_of};

@@ -1,5 +1,7 @@
 // A credit signal's work on one slot by value and on its part of the room: the peer's credits rise, or the channel is left. `on_credits` does it on a table, `edge_signals` on a table's octets;
 // both have found the slot. It is defined in specs/Crediting.antt; that it is what the definition's handler does to that slot stands in specs/Into.antt.
+#![tactic(auto)]
+
 ghost use Rattle.std.specs.Prelude.{◌≡◌, [], ◌+◌, length};
 ghost use Rattle.definition.specs.Mem.{parts};
 ghost use Rattle.definition.specs.Table.{place_size, part_width};

@@ -10,7 +10,7 @@ use Rattle.sar_join.specs.Joining.{idle, job_octets, join_step}
 use Rattle.channel.specs.declared.Answer.TheVariants.{Done, Refused}
 use Rattle.channel.specs.declared.ChannelState.TheVariants.{Disconnecting}
 use Rattle.channel.specs.declared.Slot.{Slot}
-use Rattle.definition.specs.Table.{if◌then◌else◌, is_connected, with_account, with_assembly, with_queue, count_received, count_blocked_receive, left}
+use Rattle.definition.specs.Table.{when◌then◌else◌, is_connected, with_account, with_assembly, with_queue, count_received, count_blocked_receive, left}
 use Rattle.definition.specs.Outcome.{unassembled}
 use Rattle.definition.specs.Frames.{queued, join_moves}
 use Rattle.slot_work.specs.Work.{Work, kept, becomes}
@@ -30,7 +30,7 @@ join_of d place x payload =
 -- "not Connected: dropped, answer 0; another link's slot 8; no credit 10; one credit used"; a frame without credit is counted, and so is one whose credit is used (document 02)
 unfoldable pub frame_of : (d place : ℕ) → Slot → (link : ℕ) (payload : List ℕ) → Work
 frame_of d place x link payload =
-    if not (is_connected x.state) then kept x Done
-    else if not (eqb x.link link) then kept x (Refused NotFound)
-    else if eqb x.account.credits 0 then becomes (count_blocked_receive x) [] (Refused OutOfMemory)
+    when not (is_connected x.state) then kept x Done
+    else when not (eqb x.link link) then kept x (Refused NotFound)
+    else when eqb x.account.credits 0 then becomes (count_blocked_receive x) [] (Refused OutOfMemory)
     else join_of d place (count_received (with_account (received x.account 1) x)) payload

@@ -1,5 +1,7 @@
 // What a frame makes of the slot that it comes to: whose frame it is, one credit used, and the payload joined (`joining`) in the slot's part of the room. No table
 // is passed: a call on a table and a call on octets both read the slot, have this done and put the slot back. What is right stands in specs/FrameIn.antt.
+#![tactic(auto)]
+
 mod joining;
 
 ghost use Rattle.std.specs.Prelude.{◌≡◌, ◌+◌, ◌*◌, ◌≤◌, length};

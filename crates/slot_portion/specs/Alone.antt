@@ -1,5 +1,5 @@
 -- What a start and a portion leave alone: of a slot a start changes the peer's credits, what is counted of sends and the job, a portion the job; and what they give out is within the buffer.
-use Rattle.std.specs.Prelude.{◌≡◌, refl, Bool, true, false, not, ℕ, ◌+◌, ◌-◌, ◌≤◌, ltb}
+use Rattle.std.specs.Prelude.{◌≡◌, refl, Bool, true, false, not, ℕ, ◌-◌, ◌≤◌, ltb}
 use Rattle.std.proofs.Common.{arith, ltb-false}
 use Rattle.lists.specs.Choose.{choose, if_cases}
 use Rattle.sar_cut.specs.declared.Plan.{Plan}

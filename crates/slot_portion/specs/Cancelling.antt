@@ -12,16 +12,16 @@ use Rattle.channel.specs.declared.Answer.TheVariants.{Done, Refused}
 use Rattle.channel.specs.declared.ChannelState.TheVariants.{Disconnecting}
 use Rattle.channel.specs.declared.Slot.{Slot}
 use Rattle.channel.specs.declared.Table.{Table}
-use Rattle.definition.specs.Table.{if◌then◌else◌, place_of, gap, slot_at, live, is_connected, is_open, job_fits, sizes_fit, slot_fits, well_formed, left}
+use Rattle.definition.specs.Table.{when◌then◌else◌, place_of, gap, slot_at, live, is_connected, is_open, job_fits, sizes_fit, slot_fits, well_formed, left}
 use Rattle.definition.specs.Outcome.{unassembled}
 use Rattle.definition.specs.Portions.{given_out, returned}
 use Rattle.slot_work.specs.Work.{Work, kept, becomes}
 
 unfoldable pub cancel_of : (place : ℕ) → Slot → Work
 cancel_of place x =
-    if not (is_connected x.state) then kept x (Refused ChannelClosed)
-    else if not (is_open x.job) then kept x (Refused NotFound)
-    else if eqb (given_out x.job) 0 then becomes (returned x) [] Done
+    when not (is_connected x.state) then kept x (Refused ChannelClosed)
+    else when not (is_open x.job) then kept x (Refused NotFound)
+    else when eqb (given_out x.job) 0 then becomes (returned x) [] Done
     else becomes (left (Disconnecting false) x) (unassembled place ∷ []) Done
 
 -- it writes nothing to an output

@@ -13,7 +13,7 @@ use Rattle.channel.specs.declared.Answer.TheVariants.{Portion}
 use Rattle.channel.specs.declared.OpenJob.{OpenJob}
 use Rattle.channel.specs.declared.Slot.{Slot}
 use Rattle.definition.specs.Mem.{fill, fills, written}
-use Rattle.definition.specs.Table.{if◌then◌else◌, is_connected, is_open, with_job, no_job}
+use Rattle.definition.specs.Table.{when◌then◌else◌, is_connected, is_open, with_job, no_job}
 use Rattle.definition.specs.Ending.{itself}
 use Rattle.definition.specs.Frames.{header}
 use Rattle.definition.specs.Portions.{given_out, buffer_size, frame_size, taking, full_with, filled_by, begins, filled_from, filled_with, frame_out}
@@ -22,8 +22,8 @@ use Rattle.slot_portion.specs.Filled.{Filled, stays}
 -- The job once so many octets more are in a frame of that size: `filled_by`, of a frame's size and what is taken.
 abbrev pub filled_to : OpenJob → (size taken : ℕ) → OpenJob
 filled_to j size taken =
-    if not (eqb (j.filled + taken) size) then record { length = j.length; taken = j.taken + taken; filled = j.filled + taken; aside = j.aside }
-    else if eqb (given_out j + size) (j.length + 2) || eqb j.aside 1 then no_job
+    when not (eqb (j.filled + taken) size) then record { length = j.length; taken = j.taken + taken; filled = j.filled + taken; aside = j.aside }
+    else when eqb (given_out j + size) (j.length + 2) || eqb j.aside 1 then no_job
     else record { length = j.length; taken = j.taken + taken; filled = 0; aside = j.aside - 1 }
 
 unfoldable pub portioned_of : Slot → (count : ℕ) → Filled
@@ -39,10 +39,10 @@ portioned_of x count =
 
 unfoldable pub portion_of : Slot → (count size : ℕ) → Filled
 portion_of x count size =
-    if not (is_connected x.state) then stays x ChannelClosed
-    else if not (is_open x.job) then stays x NotFound
-    else if ltb size (buffer_size x.peer.mps x.job.length) then stays x NoRoom
-    else if ltb (x.job.length - x.job.taken) count then stays x WrongLength
+    when not (is_connected x.state) then stays x ChannelClosed
+    else when not (is_open x.job) then stays x NotFound
+    else when ltb size (buffer_size x.peer.mps x.job.length) then stays x NoRoom
+    else when ltb (x.job.length - x.job.taken) count then stays x WrongLength
     else portioned_of x count
 
 -- ---- what it writes

@@ -14,7 +14,7 @@ use Rattle.sar_cut.specs.CutLaws.{split, count_small, plan_above_mtu, plan_too_l
 use Rattle.channel.specs.declared.Answer.TheVariants.{Frames}
 use Rattle.channel.specs.declared.Slot.{Slot}
 use Rattle.definition.specs.Mem.{given}
-use Rattle.definition.specs.Table.{if◌then◌else◌, is_connected, is_open, with_peer_credits, with_job, count_sent, blocked_by}
+use Rattle.definition.specs.Table.{when◌then◌else◌, is_connected, is_open, with_peer_credits, with_job, count_sent, blocked_by}
 use Rattle.definition.specs.Frames.{first_header}
 use Rattle.definition.specs.Portions.{longest, buffer_size, begun}
 use Rattle.slot_portion.specs.Filled.{Filled, stays}
@@ -22,7 +22,7 @@ use Rattle.slot_portion.specs.Filled.{Filled, stays}
 unfoldable pub start_planned_of : Slot → (l size : ℕ) → Plan → Filled
 start_planned_of x l size (Plan.Refused r) = stays (blocked_by r x) r
 start_planned_of x l size (Plan.Frames n octets) =
-    if ltb size (buffer_size x.peer.mps l) then stays x NoRoom
+    when ltb size (buffer_size x.peer.mps l) then stays x NoRoom
     else record {
       answer = Frames x.link n;
       slot = with_job (begun l n) (count_sent n (with_peer_credits (x.peer.credits - n) x));
@@ -33,8 +33,8 @@ start_planned_of x l size (Plan.Frames n octets) =
 
 unfoldable pub start_of : Slot → (l size : ℕ) → Filled
 start_of x l size =
-    if not (is_connected x.state) then stays x ChannelClosed
-    else if is_open x.job then stays x JobOpen
+    when not (is_connected x.state) then stays x ChannelClosed
+    else when is_open x.job then stays x JobOpen
     else start_planned_of x l size (plan_send l x.peer.mtu x.peer.mps x.peer.credits (frames_length l x.peer.mps))
 
 -- ---- an output that the frames of any job fit

@@ -7,7 +7,7 @@ use Rattle.sar_cut.specs.declared.Plan.TheVariants as Plan
 use Rattle.sar_cut.specs.Cutting.{frames_of, plan_send}
 use Rattle.channel.specs.declared.Answer.TheVariants.{Refused, Frames}
 use Rattle.channel.specs.declared.Slot.{Slot}
-use Rattle.definition.specs.Table.{if◌then◌else◌, is_connected, with_peer_credits, count_sent, blocked_by, is_open}
+use Rattle.definition.specs.Table.{when◌then◌else◌, is_connected, with_peer_credits, count_sent, blocked_by, is_open}
 use Rattle.slot_work.specs.declared.Worked.{Worked}
 pub use Rattle.slot_work.specs.Work.{worked}
 
@@ -26,6 +26,6 @@ planned_from x sdu out (Plan.Frames n octets) =
 
 unfoldable pub sent_from : Slot → (sdu out : List ℕ) → Work
 sent_from x sdu out =
-    if not (is_connected x.state) then work (worked (Refused ChannelClosed) x 0) out
-    else if is_open x.job then work (worked (Refused JobOpen) x 0) out
+    when not (is_connected x.state) then work (worked (Refused ChannelClosed) x 0) out
+    else when is_open x.job then work (worked (Refused JobOpen) x 0) out
     else planned_from x sdu out (plan_send (length sdu) x.peer.mtu x.peer.mps x.peer.credits (length out))

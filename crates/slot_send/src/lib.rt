@@ -1,5 +1,7 @@
 // A send's work on one slot by value: the job's frames cut into the output, the peer's credits fall by their number, and the tally of frames sent grows by it. `call_send` does it on a table, `edge_send` on a table's octets.
 // It is defined in specs/Sending.antt; that it is what the definition's call does to that slot stands in specs/Into.antt.
+#![tactic(auto)]
+
 ghost use Rattle.std.specs.Prelude.{◌≡◌};
 ghost use Rattle.channel.specs.declared.Answer.TheVariants.{Refused};
 ghost use Rattle.slot_send.specs.Sending.{worked, work, sent_from};

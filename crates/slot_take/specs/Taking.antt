@@ -14,7 +14,7 @@ use Rattle.channel.specs.declared.Answer.TheVariants.{Done, Refused, Job}
 use Rattle.channel.specs.declared.Slot.{Slot}
 use Rattle.channel.specs.declared.Table.{Table}
 use Rattle.definition.specs.Mem.{Fill, given, held, sizes, parts, written}
-use Rattle.definition.specs.Table.{if◌then◌else◌, place_size, part_width, spent, id_after, with_account, with_queue}
+use Rattle.definition.specs.Table.{when◌then◌else◌, place_size, part_width, spent, id_after, with_account, with_queue}
 use Rattle.definition.specs.Outcome.{Outcome, only, handout}
 use Rattle.definition.specs.Ending.{itself}
 use Rattle.definition.specs.Frames.{shifted, upwards, oldest, grant_in, crediting, closed}
@@ -46,9 +46,9 @@ granted_of d m s id x (Grant.Credits n) = hand_of d m s (with_account (granted x
 -- should now be refused" (document 02)
 unfoldable pub take_of : (d m s id : ℕ) → Slot → (size : ℕ) → Take
 take_of d m s id x size =
-    if closed x.state then keeps x (Refused ChannelClosed)
-    else if eqb x.queue.count 0 then keeps x Done
-    else if ltb size (oldest x) then keeps x (Refused InsufficientSpace)
+    when closed x.state then keeps x (Refused ChannelClosed)
+    else when eqb x.queue.count 0 then keeps x Done
+    else when ltb size (oldest x) then keeps x (Refused InsufficientSpace)
     else granted_of d m s id x (grant_in x)
 
 -- The next identifier that a table says, and the table, once so many octets of a signal were written: a signal uses an identifier, and nothing else does.

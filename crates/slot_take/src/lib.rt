@@ -1,6 +1,8 @@
 // What a take makes of the slot that it names: who may take, the grant that is due (`granting`), and the oldest job handed out of the slot's part of the room
 // (`handing`). No table is passed: a call on a table and a call on octets both read the slot, have this done and put the slot back. What is right stands in
 // specs/Taking.antt.
+#![tactic(auto)]
+
 mod granting;
 mod handing;
 mod shift;

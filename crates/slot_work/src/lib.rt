@@ -1,5 +1,7 @@
 // What a call makes of one slot, by value: the slot is the unit of work. A call on a table puts the slot back into the table, a call on octets writes its row.
 // What is right stands in specs/Work.antt.
+#![tactic(auto)]
+
 ghost use Rattle.std.specs.Prelude.{◌≡◌};
 ghost use Rattle.slot_work.specs.Work.{worked};
 

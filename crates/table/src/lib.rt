@@ -1,5 +1,7 @@
 // What a call gives back. Module `slots` has the table's slots, and the crate `table_identifiers` the numbers that name them.
 // Each contract is the equation with the function of that name in the crate `definition`.
+#![tactic(auto)]
+
 mod slots;
 
 ghost use Rattle.std.specs.Prelude.{◌≡◌};

@@ -1,5 +1,7 @@
 // The attention set: a bit for each slot that calls, the number of them, and the lowest (N when none calls).
 // The set is built from the last slot down; the counts are those of its bits (crate lists, Bits).
+#![tactic(auto)]
+
 ghost use Rattle.std.specs.Prelude.{◌≡◌};
 ghost use Rattle.lists.specs.Bits.{bit, bitset, count};
 ghost use Rattle.channel.specs.declared.Answer.TheVariants.{Attention};

@@ -1,16 +1,14 @@
 -- How each form's code comes to the definition's end: from what was given back, what was written and what became of the room.
-use Rattle.std.specs.Prelude.{◌≡◌, refl, Bool, List, [], ◌∷◌, ℕ, length}
-use Rattle.std.proofs.Common.{sym, ◌∙◌}
-use Rattle.std.proofs.lemmas.List.Edits.{sets}
+use Rattle.std.specs.Prelude.{◌≡◌, Bool, List, [], ◌∷◌, ℕ}
+use Rattle.std.proofs.Common.{sym}
 use Rattle.channel.specs.declared.Answer.{Answer}
 use Rattle.channel.specs.declared.Answer.TheVariants.{Done}
-use Rattle.channel.specs.declared.ChannelState.{ChannelState}
 use Rattle.channel.specs.declared.Served.{Served}
 use Rattle.channel.specs.declared.Slot.{Slot}
 use Rattle.channel.specs.declared.Table.{Table}
-use Rattle.definition.specs.Mem.{given, Move, wipe, put, zeros, parts, written, fills, sizes}
-use Rattle.definition.specs.Table.{width, place_of, put_slot, freed, left}
-use Rattle.definition.specs.Outcome.{still, change, only, sweep, freeing, leaving}
+use Rattle.definition.specs.Mem.{given, Move, parts, written, fills, sizes}
+use Rattle.definition.specs.Table.{width, put_slot}
+use Rattle.definition.specs.Outcome.{still, change, only, sweep}
 use Rattle.definition.specs.Ending.{itself, end, end_of, gave, written_given, sizes_given, written_none, end_given, end-slot}
 use Rattle.table_endings.specs.Reply.{Replied, end_slot_given}
 

@@ -1,6 +1,6 @@
 -- What a reply of the octets xs leaves in the buffer l, and how many they are; and how a call's proof reads that off the outcome.
-use Rattle.std.specs.Prelude.{◌≡◌, refl, List, [], ◌∷◌, ℕ, ◌≤◌, length}
-use Rattle.std.proofs.Common.{sym, ap, ◌∙◌, arith, le-ltb}
+use Rattle.std.specs.Prelude.{◌≡◌, List, [], ◌∷◌, ℕ, ◌≤◌, length}
+use Rattle.std.proofs.Common.{sym, ◌∙◌, arith, le-ltb}
 use Rattle.std.proofs.lemmas.List.Edits.{sets}
 use Rattle.lists.specs.Choose.{choose}
 use Rattle.signal_write.specs.declared.SignalWritten.{SignalWritten}

@@ -1,6 +1,8 @@
 // The endings of a call, in code, one for each form that outcomes have: a reply alone, a slot changed, a slot freed, a slot that leaves Connected, all slots of a search
 // freed. Every call ends in one of them, so that freeing and leaving Connected are written once. Each contract is the end of the
 // definition's form, whatever other memory the call was lent.
+#![tactic(auto)]
+
 pub mod reply;
 
 ghost use Rattle.std.specs.Prelude.{◌≡◌, List, [], ◌∷◌, ℕ, ◌≤◌, ◌<◌, length};

@@ -1,5 +1,7 @@
 // Refusals 1, 2, 3, 4 and 6, which come first in every call: one gate, over the validity test of the table (`table_gate_validity`) and its sizes (`table_gate_sizes`).
 // Each contract is the equation with the function of that name in the crate `definition`; specs/Passed.antt says what a call may rely on behind the gate.
+#![tactic(auto)]
+
 ghost use Rattle.std.specs.Prelude.{◌≡◌};
 ghost use Rattle.definition.specs.Outcome.{verdict};
 

@@ -1,4 +1,6 @@
 // What a call was given, a number or nothing, and the tests of the number: nothing given passes each.
+#![tactic(auto)]
+
 ghost use Rattle.std.specs.Prelude.{◌≡◌, not, eqb, leb, ltb};
 ghost use Rattle.definition.specs.Outcome.{fails};
 

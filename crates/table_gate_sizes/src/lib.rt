@@ -1,4 +1,6 @@
 // The sizes of a table and of its room. specs/Sizes.antt says what sizes within the limits tell.
+#![tactic(auto)]
+
 ghost use Rattle.std.specs.Prelude.{◌≡◌, ◌≤◌};
 ghost use Rattle.channel.specs.Limits.{depth_most, packet_most};
 ghost use Rattle.definition.specs.Table.{place_size, part_width, room_width, sizes_fit};

@@ -1,4 +1,6 @@
 // Refusal 1: one validity test of the table, slot by slot. Each contract is the equation with the function of that name in the crate `definition`.
+#![tactic(auto)]
+
 ghost use Rattle.std.specs.Prelude.{◌≡◌, ◌+◌, leb};
 ghost use Rattle.lists.specs.Every.{every};
 ghost use Rattle.credit.specs.Account.{credit_sum};

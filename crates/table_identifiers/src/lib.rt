@@ -1,4 +1,6 @@
 // The identifiers of signals and of channels. Each contract is the equation with the function of that name in the crate `definition`.
+#![tactic(auto)]
+
 ghost use Rattle.std.specs.Prelude.{◌≡◌, ◌<◌, eqb};
 ghost use Rattle.lists.specs.Choose.{choose};
 ghost use Rattle.definition.specs.Table.{index, is_cid, next_id, id_after, spent, cid_at, index_at};

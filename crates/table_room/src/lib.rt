@@ -1,4 +1,6 @@
 // The room: the parts of all slots that are searched for, wiped. One slot's part is in `parts`.
+#![tactic(auto)]
+
 mod parts;
 
 ghost use Rattle.std.specs.Prelude.{◌≡◌, [], ◌∷◌, length};

@@ -7,7 +7,7 @@ use Rattle.lists.specs.Choose.{choose, choose_true, choose_false}
 use Rattle.lists.specs.First.{first, Passed, passed_none, passed-more, passed_hit, passed_all}
 use Rattle.channel.specs.declared.Slot.{Slot}
 use Rattle.channel.specs.declared.Table.{Table}
-use Rattle.definition.specs.Table.{live, found, is_free, gap}
+use Rattle.definition.specs.Table.{live, found, is_free}
 use Rattle.definition.specs.Asking.{lowest_free}
 use Rattle.table_search.specs.declared.Found.TheVariants.{At, Nothing}
 use Rattle.table_search.specs.Found.{found_in}
@@ -18,13 +18,13 @@ Scanned l i = Passed is_free (length l) l i
 pub scan_start : (l : List Slot) → Scanned l 0
 scan_start l = passed_none
 
-pub scan_more : (l : List Slot) (i : ℕ) → Scanned l i → is_free (get_or l i gap) ≡ false → i < length l → Scanned l (i + 1)
-scan_more l i s f h = passed-more s gap f h h
+pub scan_more : (l : List Slot) (d : Slot) (i : ℕ) → Scanned l i → is_free (get_or l i d) ≡ false → i < length l → Scanned l (i + 1)
+scan_more l d i s f h = passed-more s d f h h
 
 -- a free record was met: the lowest
-pub hit_is : (l : List Slot) (i : ℕ) → Scanned l i → is_free (get_or l i gap) ≡ true → i < length l → At i ≡ found_in l
-hit_is l i s f h =
-    let e : i ≡ lowest_free l = passed_hit s gap f h h ∙ ap (first is_free) (take-length l) in
+pub hit_is : (l : List Slot) (d : Slot) (i : ℕ) → Scanned l i → is_free (get_or l i d) ≡ true → i < length l → At i ≡ found_in l
+hit_is l d i s f h =
+    let e : i ≡ lowest_free l = passed_hit s d f h h ∙ ap (first is_free) (take-length l) in
     sym (choose_true (ltb i (length l)) (At i) Nothing (lt-ltb i (length l) h)) ∙ ap (λ k. choose (ltb k (length l)) (At k) Nothing) e
 
 -- the run is over: none is free

@@ -1,5 +1,6 @@
 // The lowest free slot of a run of slot records that the caller lends, of any length, and a bridge for callers that have the records by value.
-// The first is proved by a walk of the code by hand: proofs/lowest_free_in/Proof.antt explains it.
+#![tactic(auto)]
+
 ghost use Rattle.std.specs.Prelude.{◌≡◌};
 ghost use Rattle.table_search.specs.Found.{found_in};
 

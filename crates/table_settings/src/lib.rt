@@ -1,5 +1,7 @@
 // What an accept or a create asks for: our MTU, MPS and initial credits with their defaults, and the slot and the response that come of an
 // accept. Each contract is the equation with the definition of that name.
+#![tactic(auto)]
+
 mod sizing;
 
 ghost use Rattle.std.specs.Prelude.{◌≡◌, ◌≤◌, ◌<◌, ltb};

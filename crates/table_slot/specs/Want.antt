@@ -1,5 +1,5 @@
 -- What a slot is searched for, as a value: each search of the crate `definition` by its name.
-use Rattle.std.specs.Prelude.{Bool, ℕ}
+use Rattle.std.specs.Prelude.{Bool}
 use Rattle.channel.specs.declared.Slot.{Slot}
 use Rattle.definition.specs.Table.{is_free, of_link, pending_of, unheld_pending_of, attempt_of, attempt_by, connected_to, uses_peer, due_slot, calls}
 use Rattle.table_slot.specs.declared.Want.{Want}

@@ -1,5 +1,7 @@
 // One slot by value: what slots are searched for, and what its peer and its open job are asked. The crate `table_slot_changes` has the slot with one thing changed.
 // Each contract is the equation with the function of that name in the crate `definition`.
+#![tactic(auto)]
+
 ghost use Rattle.std.specs.Prelude.{◌≡◌};
 ghost use Rattle.definition.specs.Table.{is_free, of_link, pending_of, unheld_pending_of, attempt_of, attempt_by, connected_to, uses_peer, due_slot, calls, below_least, is_open, job_fits};
 ghost use Rattle.table_slot.specs.Want.{wanted};

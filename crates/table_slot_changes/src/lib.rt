@@ -1,4 +1,6 @@
 // One slot by value with one thing changed. Each contract is the equation with the function of that name in the crate `definition`.
+#![tactic(auto)]
+
 ghost use Rattle.std.specs.Prelude.{◌≡◌};
 ghost use Rattle.definition.specs.Table.{fresh, freed, in_state, with_hold, with_account, with_peer, with_peer_credits, with_assembly, with_queue, with_job, with_tallies, with_sends, with_receives, no_job, no_tallies, more, blocked_more, count_sent, count_received, count_blocked_send, count_blocked_receive, blocked_by, tallies_left, left};
 

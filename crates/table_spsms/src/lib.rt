@@ -1,5 +1,7 @@
 // Registered SPSMs: bit s % 8 of octet s / 8 of the table. Each contract is the equation with the function of that name in the crate
 // `definition`.
+#![tactic(auto)]
+
 ghost use Rattle.std.specs.Prelude.{◌≡◌, false, ◌+◌, ◌/◌, ◌%◌, ◌^◌, ◌≤◌, ◌<◌, eqb};
 ghost use Rattle.channel.specs.Limits.{spsm_most};
 ghost use Rattle.definition.specs.Table.{is_registered, registered};

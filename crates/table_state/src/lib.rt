@@ -1,4 +1,6 @@
 // What a slot's state says. Each contract is the equation with the function of that name in the crate `definition`.
+#![tactic(auto)]
+
 ghost use Rattle.std.specs.Prelude.{◌≡◌};
 ghost use Rattle.definition.specs.Table.{is_disconnected, is_connecting, is_peer_connecting, is_connected, is_connect_failed, is_peer_disconnecting, is_disconnecting, is_due, identifier_of, failure_of};
 

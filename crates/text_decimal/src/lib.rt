@@ -1,5 +1,7 @@
 // Decimal numbers of a script, read from a word; `write` writes them. What a word spells is defined in specs/Decimal.antt; that a number
 // written is read again is a law of specs/DecimalLaws.antt.
+#![tactic(auto)]
+
 mod write;
 
 ghost use Rattle.std.specs.Prelude.{◌≡◌};

@@ -1,5 +1,7 @@
 // Octets of a script as words of hex digits, read into a lent buffer; `text_hex_write` writes them. What a word spells is defined in specs/Hex.antt;
 // the laws of specs/HexLaws.antt go there and back. It rests on `text_hex_words` and `octets`.
+#![tactic(auto)]
+
 ghost use Rattle.std.specs.Prelude.{◌≡◌, true};
 ghost use Rattle.text_hex_words.specs.HexWords.{is_hex};
 ghost use Rattle.text_hex.specs.Hex.{nibble_of, ReadsHex};

@@ -1,4 +1,6 @@
 // Whether a word of a script spells octets, in hex digits. What such a word is is defined in specs/HexWords.antt.
+#![tactic(auto)]
+
 ghost use Rattle.std.specs.Prelude.{◌≡◌};
 ghost use Rattle.text_hex_words.specs.HexWords.{is_hex, is_hex_word};
 

@@ -1,4 +1,6 @@
 // Octets written into a row as a word of hex digits. How octets are written is defined in specs/HexText.antt; it rests on `text_write`.
+#![tactic(auto)]
+
 ghost use Rattle.std.specs.Prelude.{◌≡◌, ◌<◌};
 ghost use Rattle.text_write.specs.Rows.{Writes};
 ghost use Rattle.text_hex_write.specs.HexText.{digit_of, hex_text};

@@ -1,6 +1,6 @@
 -- A line's own octets are the start of the line: how long they are, and that they stand where the line stands.
-use Rattle.std.specs.Prelude.{◌≡◌, refl, Bool, List, ℕ, ◌+◌, ◌-◌, ◌≤◌, ◌<◌, min, take, drop, get_or}
-use Rattle.std.proofs.Common.{sym, ap, ◌∙◌, length-drop, take-take}
+use Rattle.std.specs.Prelude.{◌≡◌, Bool, List, ℕ, ◌+◌, ◌-◌, ◌≤◌, ◌<◌, min, take, drop, get_or}
+use Rattle.std.proofs.Common.{sym, ◌∙◌, length-drop, take-take}
 use Rattle.std.proofs.Math.Bool.{true, false}
 use Prim.Native.Char.{code}
 use native.Mathlib.Omega.{arith}

@@ -6,7 +6,6 @@ use Rattle.lists.specs.Choose.{choose}
 use Rattle.lists.specs.First.{first}
 use Rattle.octets.specs.Octets.{part}
 use Rattle.text_cut.specs.Cut.{is}
-use Rattle.text_words.specs.declared.Word.{Word}
 use Rattle.text_lines.specs.declared.Held.{Held}
 use Rattle.text_lines.specs.declared.Found.{Found}
 use Rattle.text_lines.specs.declared.Found.TheVariants as Found

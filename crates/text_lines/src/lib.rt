@@ -1,6 +1,8 @@
 // Lines out of a buffer that is filled by pieces of any size. `Held` says which octets of the buffer wait to be read; each function answers what
 // is held after it. Empty lines and notes, which begin with `#`, are passed over. A line that the buffer cannot hold is told once and its rest passed
 // over. What comes of a text, whatever its pieces, is defined in specs/Lines.antt; it rests on `text_cut`, `text_words` and `octets`.
+#![tactic(auto)]
+
 ghost use Rattle.std.specs.Prelude.{◌≡◌, false, ◌-◌, length};
 ghost use Rattle.std.proofs.lemmas.List.Edits.{sets};
 ghost use Rattle.octets.specs.Octets.{part};

@@ -1,12 +1,12 @@
 -- A note and its newline tell nothing, however long the note is, and neither does an empty line: a script with its comments is read as the script without
 -- them. (`told` of NextLaws is what the lines are made of.)
-use Rattle.std.specs.Prelude.{◌≡◌, refl, Bool, true, false, List, [], ◌∷◌, ◌++◌, ℕ, suc, ◌+◌, ◌≤◌, ◌<◌, eqb, ltb, length, get_or}
+use Rattle.std.specs.Prelude.{◌≡◌, refl, Bool, true, false, List, [], ◌∷◌, ◌++◌, ℕ, suc, ◌+◌, eqb, ltb, length}
 use Rattle.std.proofs.Common.{sym, ap, ◌∙◌, append_assoc, append-nil, arith}
 use Prim.Native.Char.{code}
 use Rattle.lists.specs.Choose.{choose}
 use Rattle.lists.specs.First.{first}
 use Rattle.text_lines.specs.Lines.{is_newline, is_note, own_of}
-use Rattle.text_lines_laws.specs.Reading.{Event, line, within, passing, line_tells, long_tells, tells, reads, told}
+use Rattle.text_lines_laws.specs.Reading.{line, within, passing, line_tells, long_tells, tells, reads, told}
 
 -- ---- what one octet does
 

@@ -1,7 +1,7 @@
 -- What a text tells, octet by octet: its lines, but for empty ones and notes, and once for each line that a buffer of `most` octets cannot hold that it
 -- was too long, but for notes. Two laws: it does not matter in which pieces the text comes (told-pieces, after-pieces), and what `next_line` answers is what the octets that it
 -- passes tell (next-tells).
-use Rattle.std.specs.Prelude.{◌≡◌, refl, Bool, true, false, List, [], ◌∷◌, ◌++◌, ℕ, zero, suc, ◌+◌, ◌-◌, ◌≤◌, ◌<◌, min, ltb, eqb, length, take, drop}
+use Rattle.std.specs.Prelude.{◌≡◌, refl, Bool, true, false, List, [], ◌∷◌, ◌++◌, ℕ, suc, ◌+◌, ◌-◌, ◌≤◌, ◌<◌, ltb, eqb, length, take, drop}
 use Rattle.std.proofs.Common.{sym, ap, ◌∙◌, append_assoc, append-nil, not-suc-le-zero, arith, length-append, lt-ltb, ltb-true, ltb-false}
 use Rattle.lists.specs.Choose.{choose}
 use Rattle.lists.specs.First.{first}

@@ -1,4 +1,4 @@
--- What stands at the place of word k is word k: going from each word to the next one meets the pieces of the cut one by one (cut-first).
+-- What stands at the place of word k is word k: going from each word to the next one meets the pieces of the cut one by one (cut_first).
 use Rattle.std.specs.Prelude.{◌≡◌, Bool, true, false, ltb, length, get_or}
 use Rattle.std.proofs.Math.Path.{refl}
 use Rattle.std.proofs.Common.{sym, ap, ◌∙◌, add-zero, add-one, arith, ltb-true, ltb-false, lt-ltb, le-ltb, length-drop, drop-drop, get_or-drop}

@@ -1,5 +1,7 @@
 // The words of a line, which exactly one space separates, as places in the caller's line. What the words are is defined in
 // specs/Words.antt; it rests on `text_cut` and the leaves of `octets`.
+#![tactic(auto)]
+
 ghost use Rattle.std.specs.Prelude.{◌≡◌, length};
 ghost use Rattle.text_words.specs.Words.{words_of, word_at, word_after, text_of};
 

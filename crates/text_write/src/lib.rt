@@ -1,5 +1,7 @@
 // Rows of text, written piece by piece into a lent buffer. Each writer answers the place behind its piece, which never passes the
 // buffer's end, so that pieces written one after the other are the row (writes-append). It rests on the leaves of `octets`.
+#![tactic(auto)]
+
 ghost use Rattle.std.specs.Prelude.{◌≡◌, ◌∷◌, [], ◌+◌, min};
 ghost use Rattle.text_write.specs.Rows.{Writes};
 

@@ -1,0 +1,20 @@
+-- `call_dispatch::dispatch` meets its contract: the gate's refusals, and behind them `admitted`.
+use Rattle.definition.specs.Frames.{dispatch}
+use Rattle.table_room.specs.Placed.{room_of}
+use Rattle.table_gate.specs.Behind.{behind, on, stopped, ended}
+use Rattle.call_dispatch.proofs.dispatch.Goals as goal
+
+pub admitted-requires : goal.admitted-requires
+admitted-requires c =
+    let p = behind c.gate.ensures c.in-Pass.is in
+    (room_of p, p.formed)
+
+pub returns-in-Stop : goal.returns-in-Stop
+unfolding dispatch
+returns-in-Stop c =
+    rw (stopped c.gate.ensures c.in-Stop.is) (ended c.refused.ensures _ _)
+
+pub returns-in-Pass : goal.returns-in-Pass
+unfolding dispatch
+returns-in-Pass c =
+    rw (on c.gate.ensures c.in-Pass.is) c.admitted.ensures

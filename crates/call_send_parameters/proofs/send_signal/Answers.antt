@@ -1,0 +1,21 @@
+-- `call_send_parameters::send_signal` meets its contract: behind the gate code and definition make the same tests in the same order.
+use mathlib.Core.List.{[]}
+use Rattle.definition.specs.Asking.{send_signal}
+use Rattle.table_gate.specs.Behind.{behind, on, stopped, ended}
+use Rattle.call_send_parameters.proofs.send_signal.Goals as goal
+
+pub tell-requires : goal.tell-requires
+tell-requires c =
+    let p = behind c.gate.ensures c.in-Pass.is in
+    p.signal-is
+
+pub returns-in-Stop : goal.returns-in-Stop
+unfolding send_signal
+returns-in-Stop c =
+    rw (stopped c.gate.ensures c.in-Stop.is) (ended c.refused.ensures _ _)
+
+pub returns-in-Pass : goal.returns-in-Pass
+unfolding send_signal
+returns-in-Pass c =
+    rw (on c.gate.ensures c.in-Pass.is)
+    (rw (c.next_id-id.ensures, c.spent-u.ensures) at (c.tell.ensures c.args.t [] []))

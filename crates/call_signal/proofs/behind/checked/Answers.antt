@@ -1,0 +1,41 @@
+-- `call_signal::behind::checked` meets its contract: what the check of the headers finds tells which case of the definition it is.
+use mathlib.Core.Path.{sym}
+use mathlib.Core.List.{[]}
+use borrow.Author.Tests.{eq-eqb, ne_eqb}
+use Rattle.lists.specs.Choose.{choose}
+use Rattle.definition.specs.Mem.{sizes}
+use Rattle.definition.specs.Ending.{end-still}
+use Rattle.definition.specs.Signals.{checked}
+use Rattle.call_signal.proofs.behind.checked.Goals as goal
+
+pub returns-then-pdu-eq0 : goal.returns-then-pdu-eq0
+unfolding choose sizes checked
+returns-then-pdu-eq0 c =
+    rw (
+      ← c.check_headers.ensures,
+      c.in-Good.is,
+      eq-eqb _ _ c.if-pdu-eq0.true,
+      c.done.ensures,
+    ) (sym (end-still _ _ _ _ _ _ _))
+
+pub returns-in-Cut : goal.returns-in-Cut
+unfolding choose sizes checked
+returns-in-Cut c =
+    rw (← c.check_headers.ensures, c.in-Cut.is, c.refused.ensures) (sym (end-still _ _ _ _ _ _ _))
+
+pub returns-in-Past : goal.returns-in-Past
+unfolding choose sizes checked
+returns-in-Past c =
+    rw (← c.check_headers.ensures, c.in-Past.is) (c.reject.ensures _ _ [])
+
+pub returns-else-pdu-eq0 : goal.returns-else-pdu-eq0
+unfolding choose sizes checked
+returns-else-pdu-eq0 c =
+    rw (
+      ← c.check_headers.ensures,
+      c.in-Good.is,
+      ne_eqb _ _ c.if-pdu-eq0.false,
+      ← c.octet-code.ensures,
+      ← c.octet-id.ensures,
+      ← c.body-body.ensures,
+    ) c.handled.ensures

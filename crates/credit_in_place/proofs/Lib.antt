@@ -1,3 +1,0 @@
--- The two walks, which the four proofs share.
-mod InPlace
-mod Through

@@ -1,0 +1,13 @@
+-- `cursor_read::ReadCursor::past` meets its contract: `left` tells which arm of the definition it is.
+use borrow.Author.Tests.{lt-ltb, le-ltb}
+use Rattle.lists.specs.Choose.{choose}
+use Rattle.cursor_read.specs.ReadCursor.{read_past}
+use Rattle.cursor_read.proofs.ReadCursor.past.Goals as goal
+
+pub returns-then-left-n : goal.returns-then-left-n
+unfolding read_past choose
+returns-then-left-n c = rw (← c.left.ensures, lt-ltb _ _ c.if-left-n.true)
+
+pub returns-else-left-n : goal.returns-else-left-n
+unfolding read_past choose
+returns-else-left-n c = rw (← c.left.ensures, le-ltb _ _ c.if-left-n.false)

@@ -1,0 +1,7 @@
+-- `edge_asking::register_spsm` meets its contract: the call's own, on the table that the octets spell.
+use mathlib.Core.Path.{ap}
+use Rattle.edge.specs.Edge.{on_table_lem, alone}
+use Rattle.edge_asking.proofs.register_spsm.Goals as goal
+
+pub returns : goal.returns
+returns c = on_table_lem _ _ _ c.decode-d.ensures (c.store.ensures _ _ _) (ap alone c.register_spsm-s.ensures)

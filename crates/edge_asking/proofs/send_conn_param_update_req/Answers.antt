@@ -1,0 +1,6 @@
+-- `edge_asking::send_conn_param_update_req` meets its contract: the call's own, on the table that the octets spell.
+use Rattle.edge.specs.Edge.{on_table_lem}
+use Rattle.edge_asking.proofs.send_conn_param_update_req.Goals as goal
+
+pub returns : goal.returns
+returns c = on_table_lem _ _ _ c.decode-d.ensures (c.store.ensures _ _ _) c.send_conn_param_update_req-s.ensures

@@ -1,0 +1,6 @@
+-- `edge_closing::disconnect_by_cid` meets its contract: the call's own, on the table that the octets spell.
+use Rattle.edge.specs.Edge.{on_table_lem}
+use Rattle.edge_closing.proofs.disconnect_by_cid.Goals as goal
+
+pub returns : goal.returns
+returns c = on_table_lem _ _ _ c.decode-d.ensures (c.store.ensures _ _ _) c.disconnect_by_cid-s.ensures

@@ -1,0 +1,6 @@
+-- `edge_closing::next_disconnect` meets its contract: the call's own, on the table that the octets spell.
+use Rattle.edge.specs.Edge.{on_table_lem}
+use Rattle.edge_closing.proofs.next_disconnect.Goals as goal
+
+pub returns : goal.returns
+returns c = on_table_lem _ _ _ c.decode-d.ensures (c.store.ensures _ _ _) c.next_disconnect-s.ensures

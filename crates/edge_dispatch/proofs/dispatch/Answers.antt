@@ -1,0 +1,22 @@
+-- `edge_dispatch::dispatch` meets its contract: refusal 1 told from the octets, and behind it `incoming`.
+use mathlib.Core.Path.{◌≡◌, sym, ◌∙◌}
+use mathlib.Core.Bool.{false}
+use lib.ListN.{length}
+use borrow.Author.Tests.{not-true, not-false}
+use Rattle.codes.specs.declared.Refusal.TheVariants.{BadTable}
+use Rattle.channel.specs.declared.Given.TheVariants.{Nothing, Is}
+use Rattle.edge_scan.specs.Scan.{valid_octets}
+use Rattle.edge_row.specs.Gate.{refused_1}
+use Rattle.edge_placed.specs.Incoming.{frame_stopped}
+use Rattle.edge_dispatch.proofs.dispatch.Goals as goal
+
+pub returns-then-not-valid : goal.returns-then-not-valid
+returns-then-not-valid c =
+    let g = c.args in
+    let o = g.table.now in
+    let told = c.put_answer.ensures in
+    let bad : valid_octets o ≡ false = sym c.valid.ensures ∙ not-true c.valid.result c.if-not-valid.true-raw in
+    rw (told.value, told.out_after) (frame_stopped o g.answer.now g.room.now g.payload.now g.link g.cid BadTable (refused_1 o bad (Is (length g.room.now)) Nothing (Is g.link) Nothing))
+
+pub admitted-requires : goal.admitted-requires
+admitted-requires c = sym c.valid.ensures ∙ not-false c.valid.result c.if-not-valid.false-raw

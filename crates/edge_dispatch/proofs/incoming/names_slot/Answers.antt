@@ -1,0 +1,9 @@
+-- `edge_dispatch::incoming::names_slot` meets its contract: the two tests of the definition, in its order.
+use Rattle.lists.proofs.Rules.{tests}
+use Rattle.edge_dispatch.proofs.incoming.names_slot.Goals as goal
+
+pub returns-then-cid-lt-CID_BASE : goal.returns-then-cid-lt-CID_BASE
+returns-then-cid-lt-CID_BASE c = search tests
+
+pub returns : goal.returns
+returns c = search tests

@@ -1,0 +1,7 @@
+-- `edge_layout::failed_by` meets its contract: in each arm what the match told is the definition's case.
+use mathlib.Core.Path.{ap, sym}
+use Rattle.edge_layout.specs.Layout.{failed_by}
+use Rattle.edge_layout.proofs.failed_by.Goals as goal
+
+pub returns-in-Known : goal.returns-in-Known
+returns-in-Known c = ap failed_by (sym c.in-Known.is)

@@ -1,0 +1,8 @@
+-- `edge_layout_write::put_job` meets its contract: its stores are the row's, one after the other.
+use Rattle.edge_layout_write.specs.Puts.{puts}
+use Rattle.edge_layout_write.proofs.put_job.Goals as goal
+
+pub returns : goal.returns
+unfolding puts
+returns c =
+    rw (c.put_number-4.ensures, c.put_number-3.ensures, c.put_number-2.ensures, c.put_number.ensures)

@@ -1,0 +1,6 @@
+-- `edge_pending::accept_pending` meets its contract: the call's own, on the table that the octets spell.
+use Rattle.edge.specs.Edge.{on_table_lem}
+use Rattle.edge_pending.proofs.accept_pending.Goals as goal
+
+pub returns : goal.returns
+returns c = on_table_lem _ _ _ c.decode-d.ensures (c.store.ensures _ _ _) (rw c.config-c.ensures at c.accept_pending-s.ensures)

@@ -1,0 +1,5 @@
+-- `edge_scan::aside_fits` meets its contract: `within` ensures it of the octets that were read.
+use Rattle.edge_scan.proofs.aside_fits.Goals as goal
+
+pub returns : goal.returns
+returns c = rw (c.within.ensures, c.octet-high.ensures, c.octet-low.ensures)

@@ -1,0 +1,21 @@
+-- `edge_send::send` meets its contract: refusal 1 told from the octets, and behind it `outgoing`.
+use mathlib.Core.Path.{◌≡◌, sym, ◌∙◌}
+use mathlib.Core.Bool.{false}
+use borrow.Author.Tests.{not-true, not-false}
+use Rattle.codes.specs.declared.Refusal.TheVariants.{BadTable}
+use Rattle.channel.specs.declared.Given.TheVariants.{Nothing, Is}
+use Rattle.edge_scan.specs.Scan.{valid_octets}
+use Rattle.edge_row.specs.Gate.{refused_1}
+use Rattle.edge_placed.specs.Sent.{send_stopped}
+use Rattle.edge_send.proofs.send.Goals as goal
+
+pub returns-then-not-valid : goal.returns-then-not-valid
+returns-then-not-valid c =
+    let a = c.args in
+    let o = a.table.now in
+    let told = c.put_answer.ensures in
+    let bad : valid_octets o ≡ false = sym c.valid.ensures ∙ not-true c.valid.result c.if-not-valid.true-raw in
+    rw (told.value, told.out_after) (send_stopped o a.answer.now a.out.now a.sdu.now a.slot BadTable (refused_1 o bad Nothing Nothing Nothing (Is a.slot)))
+
+pub sent-r-requires : goal.sent-r-requires
+sent-r-requires c = sym c.valid.ensures ∙ not-false c.valid.result c.if-not-valid.false-raw

@@ -1,0 +1,27 @@
+-- `row_call::queried` meets its contract: where the first query answers a number, the four others stand behind it.
+use borrow.Author.Tests.{eq-eqb, ne_eqb}
+use Rattle.lists.specs.Choose.{choose}
+use Rattle.channel_answer.specs.Kinds as Kind
+use Rattle.row_call.specs.Printed.{queries_text}
+use Rattle.row_call.proofs.queried.Goals as goal
+
+pub returns-then-x-eq-NUMBER : goal.returns-then-x-eq-NUMBER
+unfolding queries_text choose
+returns-then-x-eq-NUMBER c =
+    rw (
+      ← c.tells-x.ensures,
+      eq-eqb _ Kind.number c.if-x-eq-NUMBER.true,
+      ← c.tells.ensures,
+      ← c.number_told.ensures,
+      ← c.tells-then-x-eq-NUMBER.ensures,
+      ← c.number_told-then-x-eq-NUMBER.ensures,
+      ← c.tells-then-x-eq-NUMBER-2.ensures,
+      ← c.number_told-then-x-eq-NUMBER-2.ensures,
+      ← c.tells-then-x-eq-NUMBER-3.ensures,
+      ← c.number_told-then-x-eq-NUMBER-3.ensures,
+    )
+    c.told_more.ensures
+
+pub returns-else-x-eq-NUMBER : goal.returns-else-x-eq-NUMBER
+unfolding queries_text choose
+returns-else-x-eq-NUMBER c = rw (← c.tells-x.ensures, ne_eqb _ Kind.number c.if-x-eq-NUMBER.false) c.told.ensures

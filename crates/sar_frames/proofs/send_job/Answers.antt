@@ -1,0 +1,21 @@
+-- `sar_frames::send_job` meets its contract: the plan is `plan_send`'s, which allows `cut_job` what it asks, and the output is `cut_job`'s.
+use mathlib.Core.Path.{refl, sym, ◌∙◌}
+use native.Mathlib.Omega.{arith}
+use lib.ListN.{length}
+use Rattle.sar_cut.specs.Cutting.{output_after}
+use Rattle.sar_cut.specs.CutLaws.{plan_allowed}
+use Rattle.sar_frames.proofs.send_job.Goals as goal
+
+pub cut_job-requires : goal.cut_job-requires
+cut_job-requires c =
+    let a = c.args in
+    let k = plan_allowed (length a.sdu.now) a.mtu a.mps a.credits (length a.out.now) _ _ (sym c.plan_send-plan.ensures ∙ c.in-Frames.is) in
+    omega arith
+
+pub returns-in-Refused : goal.returns-in-Refused
+unfolding output_after
+returns-in-Refused c = (sym c.in-Refused.is ∙ c.plan_send-plan.ensures, refl)
+
+pub returns-in-Frames : goal.returns-in-Frames
+unfolding output_after
+returns-in-Frames c = (sym c.in-Frames.is ∙ c.plan_send-plan.ensures, c.cut_job.ensures)

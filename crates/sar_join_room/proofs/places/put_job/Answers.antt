@@ -1,0 +1,14 @@
+-- `sar_join_room::places::put_job` meets its contract: what its copies leave is one of the two cases of `finish`.
+use mathlib.Core.Path.{◌∙◌}
+use Rattle.sar_join_room.specs.PlaceLaws.{finish-first, finish-joined}
+use Rattle.sar_join_room.proofs.places.put_job.Goals as goal
+
+pub returns-then-a-eq0 : goal.returns-then-a-eq0
+returns-then-a-eq0 c =
+    let x = c.args in
+    c.copy_to.ensures ∙ rw c.left.ensures (finish-first x.a x.places.now x.payload.now x.place x.at c.if-a-eq0.true)
+
+pub returns : goal.returns
+returns c =
+    let x = c.args in
+    c.zero.ensures ∙ rw (c.copy_to-2.ensures, c.lift.ensures) (finish-joined x.a x.places.now x.payload.now x.place x.at c.if-a-eq0.false)

@@ -1,0 +1,49 @@
+-- `slot_frame::joining::join` meets its contract: the part after the join is that of the definition's moves, and each arm gives the slot that the
+-- definition has for its case.
+use mathlib.Core.Path.{sym, ◌∙◌}
+use native.Mathlib.Omega.{arith}
+use Rattle.sar_join.specs.declared.Joined.TheVariants as Joined
+use Rattle.sar_join_room.specs.RoomLaws.{finished-free}
+use Rattle.definition.specs.Mem.{sizes}
+use Rattle.slot_frame.specs.FrameIn.{joined_to}
+use Rattle.slot_frame.specs.Moved.{join_moves_lem, refused-moves}
+use Rattle.slot_frame.proofs.joining.join.Goals as goal
+
+pub queued-requires : goal.queued-requires
+queued-requires c =
+    let g = c.args in
+    let x = g.x in
+    let free = finished-free x.mtu x.mps g.d x.assembly x.queue.count g.payload.now _ (sym c.join_frame-step.ensures.0 ∙ c.in-Finished.is) in
+    omega (arith, c.requires.2)
+
+pub returns-in-Refused : goal.returns-in-Refused
+unfolding joined_to sizes
+returns-in-Refused c =
+    let g = c.args in
+    let x = g.x in
+    let told = c.in-Refused.is in
+    rw (← c.join_frame-step.ensures.0, told) (rw c.left-y.ensures at c.became.ensures, refused-moves g.place x.assembly x.queue.count g.part.now g.payload.now _ (rw told at c.join_frame-step.ensures.1) c.zero.ensures)
+
+pub returns-in-Dropped : goal.returns-in-Dropped
+unfolding joined_to sizes
+returns-in-Dropped c =
+    let g = c.args in
+    let x = g.x in
+    let told = c.in-Dropped.is in
+    rw (← c.join_frame-step.ensures.0, told) (rw c.with_assembly-y.ensures at c.became-in-Dropped.ensures, (rw told at c.join_frame-step.ensures.1) ∙ join_moves_lem g.place x.assembly x.queue.count g.part.now g.payload.now Joined.Dropped)
+
+pub returns-in-Finished : goal.returns-in-Finished
+unfolding joined_to sizes
+returns-in-Finished c =
+    let g = c.args in
+    let x = g.x in
+    let told = c.in-Finished.is in
+    rw (← c.join_frame-step.ensures.0, told) (rw (c.with_queue-z.ensures, c.queued.ensures, c.with_assembly-y-in-Finished.ensures) at c.became-in-Finished.ensures, (rw told at c.join_frame-step.ensures.1) ∙ join_moves_lem g.place x.assembly x.queue.count g.part.now g.payload.now (Joined.Finished _))
+
+pub returns-in-Assembling : goal.returns-in-Assembling
+unfolding joined_to sizes
+returns-in-Assembling c =
+    let g = c.args in
+    let x = g.x in
+    let told = c.in-Assembling.is in
+    rw (← c.join_frame-step.ensures.0, told) (rw c.with_assembly-y-in-Assembling.ensures at c.became-in-Assembling.ensures, (rw told at c.join_frame-step.ensures.1) ∙ join_moves_lem g.place x.assembly x.queue.count g.part.now g.payload.now (Joined.Assembling _))

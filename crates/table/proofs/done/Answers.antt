@@ -1,0 +1,7 @@
+-- `table::done` meets its contract: nothing was written, which is 0 octets.
+use Rattle.definition.specs.Mem.{sizes}
+use Rattle.table.proofs.done.Goals as goal
+
+pub returns : goal.returns
+unfolding sizes
+returns c = c.still.ensures

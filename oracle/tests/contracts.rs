@@ -79,11 +79,9 @@ const AT_AN_ENTRY: [(&str, &str); 16] = [
     ("spsm", "number"),
 ];
 
-/// A file of a crate, its words one space apart. What is a lemma may stand in specs/ or proofs/.
+/// A file of a crate, its words one space apart.
 fn read(path: &str) -> String {
-    let crates = Path::new(env!("CARGO_MANIFEST_DIR")).join("../crates");
-    let places = [crates.join(path), crates.join(path.replace("/specs/", "/proofs/"))];
-    let path = places.iter().find(|place| place.is_file()).unwrap_or(&places[0]);
+    let path = Path::new(env!("CARGO_MANIFEST_DIR")).join("../crates").join(path);
     let text = read_to_string(&path).unwrap_or_else(|error| panic!("{}: {error}", path.display()));
     text.split_whitespace().collect::<Vec<_>>().join(" ")
 }
@@ -137,7 +135,7 @@ fn end(source: &str, entry: &str) -> String {
 
 #[test]
 fn each_contract_is_the_premise_of_its_lemma() {
-    let lemmas = read("rules_code/specs/Functions.antt");
+    let lemmas = read("rules_code/proofs/Functions.antt");
     let mut held = 0;
     for name in SOURCES {
         let source = read(name);
@@ -190,7 +188,7 @@ fn twins_have_one_contract() {
 fn another_contract_is_none_of_them() {
     let holding = read("call_hold/src/lib.rt");
     let wrong = premise(&contracts(&holding, " pub fn ")[0].1.replace("inc_ref", "dec_ref"));
-    assert!(!read("rules_code/specs/Functions.antt").contains(&wrong));
+    assert!(!read("rules_code/proofs/Functions.antt").contains(&wrong));
     let entries = read("entries/src/lib.rt");
     let (_, opened) = contracts(&entries, " pub extern \"C\" fn ").into_iter().find(|(name, _)| *name == "l2cap_opened").expect("an entry");
     assert!(!read("edge_runs/specs/Entries.antt").contains(&line(&opened.replace("slot link", "link slot"))));

@@ -41,8 +41,6 @@ pub mod Numbers
 
 -- what is job and what is public is what document 01 says
 pub mod Public
--- moves keep the length of what they change
-pub mod Lengths
 -- what a test of the definition tells once it has passed
 pub mod Tells
 -- what is said of a call slot by slot, and how it is shown for each form of an outcome
@@ -55,8 +53,6 @@ pub mod Apart
 pub mod Handed
 -- the calls that are not lent the room move and read no octet of it
 pub mod Roomless
--- from a call's contract to the run that it stands in
-pub mod Lift
 -- runs worked out, for any job octets
 pub mod Example
 -- what a worked line is: a table of two slots, a call, what it answers and leaves

@@ -1,28 +1,17 @@
 -- A worked run, and worked lines in which every test of every call decides: drop a test, or swap it with the next, and a line breaks. Two
 -- slots, two links whose peers both use CID 0x40, D 2. Each line stands by itself (Line.antt) and is computed; its note says which test
 -- decides ("a before b": both hold). At the end, test by test, the lines that break, and what no line can tell.
-use Rattle.std.specs.Prelude.{◌≡◌, refl, Bool, true, false, List, [], ◌∷◌, ◌++◌, map, ℕ, replicate, take, drop}
-use Rattle.lists.specs.Bits.{bitset, count}
-use Rattle.lists.specs.Choose.{choose}
+use Rattle.std.specs.Prelude.{◌≡◌, Bool, true, false, List, [], ◌∷◌, ◌++◌, map, ℕ, replicate}
+use Rattle.lists.specs.Bits.{count}
 use Rattle.lists.specs.Every as Each
-use Rattle.lists.specs.First.{first}
-use Rattle.lists.specs.Fuel.{whole}
 use Rattle.codes.specs.Codes.{result_of}
 use Rattle.codes.specs.declared.LeCreditConnResultCode.TheVariants.{Success, NoResources, ScidAlreadyAllocated}
 use Rattle.codes.specs.declared.Refusal.TheVariants.{ConnectError}
 use Rattle.codes.specs.declared.ResultRead.TheVariants.{Known, Unknown}
 use Rattle.credit.specs.declared.CreditFlowPolicy.TheVariants.{Every}
-use Rattle.credit.specs.Account.{due, grant_of}
 use Rattle.credit.specs.declared.CreditFlowControl.{CreditFlowControl}
 use Rattle.sar_join.specs.declared.Assembly.{Assembly}
-use Rattle.sar_join.specs.Joining.{reached, first_step, assembled, join_step}
-use Rattle.sar_cut.specs.Cutting.{ceil, frame_count, frames_length, plan_send}
-use Rattle.signal_headers.specs.Headers.{headers_of}
-use Rattle.signal_bodies.specs.Bodies.{command_reject_res, disconnection_req, disconnection_res, conn_param_update_req, conn_param_update_res}
-use Rattle.signal_bodies.specs.LeCreditBodies.{le_credit_conn_req, le_credit_conn_res, le_credit_flow_ind}
-use Rattle.signal_parameter_rule.specs.Parameters.{parameters_valid}
 use Rattle.signal_forms.specs.declared.Signal.TheVariants as Signal
-use Rattle.signal_write.specs.Writer.{encode_of}
 use Rattle.channel.specs.declared.Answer.TheVariants.{Done, Refused, At, Link, Opened, Due, Frames, Job, Attention, Number, Event}
 use Rattle.channel.specs.declared.ChannelState.{ChannelState}
 use Rattle.channel.specs.declared.ChannelState.TheVariants.{Disconnected, Connecting, PeerConnecting, Connected, ConnectFailed, PeerDisconnecting, Disconnecting}
@@ -31,19 +20,13 @@ use Rattle.channel.specs.declared.Setting.TheVariants as Setting
 use Rattle.channel.specs.declared.Queue.{Queue}
 use Rattle.channel.specs.declared.Slot.{Slot}
 use Rattle.channel.specs.declared.Table.{Table}
-use Rattle.definition.specs.Mem.{fill, move, moves, parts, fills, written}
 use Rattle.definition.specs.Slots.{no_job}
-use Rattle.definition.specs.Table.{index, slot_at, slot_fits, well_formed}
-use Rattle.definition.specs.Outcome.{only, verdict}
-use Rattle.definition.specs.Pending.{next_pending, reject_all_pending, accept_pending, reject_pending, not_code, drop_pending}
-use Rattle.definition.specs.Opening.{create, opened, give_up}
-use Rattle.definition.specs.Closing.{inc_ref, dec_ref, disconnecting, disconnect, disconnect_by_cid, disconnected, next_disconnect}
-use Rattle.definition.specs.Signals.{on_reject, on_disconnection_req, on_disconnection_res, on_parameters, on_parameter_response, on_conn_req, on_conn_res, on_credits, handled, checked, signalled}
-use Rattle.definition.specs.Frames.{joined, dispatch, later_frames, frames, planned, send, grant_in, taken, receive}
-use Rattle.definition.specs.Asking.{make, register_spsm, attention, lowest_free, query, send_signal}
-use Rattle.definition.specs.Calls.{Call, Request, frame, sends, down, plain, register, signals, pends, rejects_all, accepts, rejects, drops, creates, opens, gives, holds, releases, leaves, leaves_cid, announces, takes, attends, asks, sends_signal, jobs, bare, serve, decide}
+use Rattle.definition.specs.Table.{index, slot_at, well_formed}
+use Rattle.definition.specs.Frames.{send}
+use Rattle.definition.specs.Asking.{make, lowest_free}
+use Rattle.definition.specs.Calls.{Call, Request, frame, sends, down, plain, register, signals, pends, rejects_all, accepts, rejects, drops, creates, opens, gives, holds, releases, leaves, leaves_cid, announces, takes, attends, asks, sends_signal, decide}
 use Rattle.definition.specs.Numbers.{answer_number}
-use Rattle.definition.specs.Run.{State, outcome, after, made, run, outcomes}
+use Rattle.definition.specs.Run.{State, outcome, made}
 use Rattle.definition.specs.Line.{◌⊢◌⇒◌, ◌&◌, Hold, Agree, Told, refused, answered, told, ask, start, window, three, two, counting, knowing, place, begins, no, yes, slots, next, part0, part1, wiped0, wiped1, cleared0, cleared1, writes, hands, peer, peer_of, every, threshold, idle, partly, none, one, both, free, wish, asked, attempt, ours, failed, granted, channel, quiet, connected, narrow, tallied, untold, telling, usual, sized, request_of, request, response_of, response, credits, leaving, gone, parameters, reject, refusal}
 
 -- ---- a run: two phones, each on its link, with the same identifier and the same CID. The first's job comes in three frames, the second's
@@ -51,19 +34,19 @@ use Rattle.definition.specs.Line.{◌⊢◌⇒◌, ◌&◌, Hold, Agree, Told, r
 -- own slot alone.
 
 -- with the signal buffer and a job buffer of 5 octets lent
-abbrev now : Request → Call
+abbrev pub now : Request → Call
 now r = plain r (window 0 18) (window 18 5)
 
-abbrev says : (link : ℕ) → List ℕ → Call
+abbrev pub says : (link : ℕ) → List ℕ → Call
 says link pdu = now (signals link true true pdu)
 
-abbrev three-credits : L2capChannelConfig
+abbrev pub three-credits : L2capChannelConfig
 three-credits = record { mtu = Setting.Default; mps = Setting.Default; policy = Every 1; credits = Setting.Is 3 }
 
-abbrev wide : (id spsm scid : ℕ) → List ℕ
+abbrev pub wide : (id spsm scid : ℕ) → List ℕ
 wide id spsm scid = 0x14 ∷ id ∷ 10 ∷ 0 ∷ spsm ∷ 0 ∷ scid ∷ 0 ∷ 64 ∷ 0 ∷ 23 ∷ 0 ∷ 3 ∷ 0 ∷ []
 
-abbrev story : (a b c d e x y : ℕ) → List Call
+abbrev pub story : (a b c d e x y : ℕ) → List Call
 story a b c d e x y =
     now (register 0x80)
     ∷ says 1 (wide 7 0x80 0x40)
@@ -89,76 +72,13 @@ story a b c d e x y =
     ∷ now (releases 0)
     ∷ []
 
-abbrev begin : State
+abbrev pub begin : State
 begin = made 2 2 29 (replicate 138 5) (replicate 82 9)
-
-module _ (a b c d e x y : ℕ) where
-  abbrev when : ℕ → State
-  when n = run begin (take n (story a b c d e x y))
-
-  -- slots 0 and 1: state, hold, credits held and received, peer credits
-  abbrev numbers : Slot → List ℕ
-  numbers s = s.hold ∷ s.account.credits ∷ s.account.received ∷ s.peer.credits ∷ []
-
-  abbrev seen : ℕ → List (ChannelState × List ℕ)
-  seen n = map (λ s. (s.state, numbers s)) (take 2 (when n).table.slots)
-
-  record Story : Type 0 where
-    answers : map (λ o. told o.answer) (outcomes begin (story a b c d e x y))
-        ≡ answered Done ∷ answered Done ∷ answered Done ∷ answered (At (index 0)) ∷ answered (At (index 1)) ∷ answered (Link 1) ∷ answered (Link 2)
-        ∷ answered Done ∷ answered Done ∷ answered Done ∷ answered Done ∷ refused 10 ∷ answered (Job 1 5) ∷ answered (Job 2 1)
-        ∷ answered (Frames 1 3) ∷ refused 14 ∷ answered Done ∷ answered Done ∷ answered Done ∷ answered (Due 2 (index 1)) ∷ answered Done ∷ answered Done ∷ []
-    -- the request of the second phone is no second use of the CID
-    pendings : seen 3 ≡ (PeerConnecting 7, 0 ∷ 0 ∷ 0 ∷ 3 ∷ []) ∷ (PeerConnecting 7, 0 ∷ 0 ∷ 0 ∷ 3 ∷ []) ∷ []
-    channels : seen 7 ≡ (Connected, 1 ∷ 3 ∷ 0 ∷ 3 ∷ []) ∷ (Connected, 1 ∷ 3 ∷ 0 ∷ 3 ∷ []) ∷ []
-    -- after the second frame of the first phone: its half, and the other's job; then the whole, and no octet of the half
-    half_way : (when 10).room ≡ begins (a ∷ b ∷ c ∷ d ∷ []) 0 ++ place 0 ++ place 0 ++ place 0 ++ begins (x ∷ []) 0 ++ place 0
-    whole-job : (when 11).room ≡ place 0 ++ begins (a ∷ b ∷ c ∷ d ∷ e ∷ []) 0 ++ place 0 ++ place 0 ++ begins (x ∷ []) 0 ++ place 0
-    -- three credits used, and none left: the fourth frame is refused and changes a tally alone
-    used : seen 12 ≡ (Connected, 1 ∷ 0 ∷ 3 ∷ 3 ∷ []) ∷ (Connected, 1 ∷ 2 ∷ 1 ∷ 3 ∷ []) ∷ []
-    -- the take copies the job and grants the three
-    taken-job : take 23 (when 13).memory ≡ 8 ∷ 0 ∷ 5 ∷ 0 ∷ 0x16 ∷ 1 ∷ 4 ∷ 0 ∷ 0x40 ∷ 0 ∷ 3 ∷ 0 ∷ 25 ∷ 0 ∷ 3 ∷ 0 ∷ 0 ∷ 0 ∷ a ∷ b ∷ c ∷ d ∷ e ∷ []
-    empty : (when 14).room ≡ replicate 138 0
-    granted-both : seen 14 ≡ (Connected, 1 ∷ 3 ∷ 0 ∷ 3 ∷ []) ∷ (Connected, 1 ∷ 3 ∷ 0 ∷ 3 ∷ []) ∷ []
-    -- 45 octets in frames of 2 + 21, 23 and 1
-    frames-out : drop 23 (when 15).memory
-        ≡ 23 ∷ 0 ∷ 0x40 ∷ 0 ∷ 45 ∷ 0 ∷ replicate 21 y ++ (23 ∷ 0 ∷ 0x40 ∷ 0 ∷ replicate 23 y) ++ (1 ∷ 0 ∷ 0x40 ∷ 0 ∷ y ∷ [])
-    -- the credits that the second phone gives for CID 0x40 are its own channel's
-    given_credits : seen 17 ≡ (Connected, 1 ∷ 3 ∷ 0 ∷ 0 ∷ []) ∷ (Connected, 1 ∷ 3 ∷ 0 ∷ 7 ∷ []) ∷ []
-    -- the first phone may not close the second's slot
-    not_its_own : take 10 (when 18).memory ≡ reject 8 2
-    closed : seen 19 ≡ (Connected, 1 ∷ 3 ∷ 0 ∷ 0 ∷ []) ∷ (PeerDisconnecting 8, 1 ∷ 3 ∷ 0 ∷ 7 ∷ []) ∷ []
-    -- frames sent and blocked sends, frames received and blocked receives: after the refused frame and the refused send; the peer's disconnect leaves them; freed, nothing is left
-    tallies : map (λ n. map (λ s. s.tallies) (take 2 (when n).table.slots)) (16 ∷ 19 ∷ 20 ∷ 21 ∷ [])
-        ≡ (tallied 3 1 3 1 ∷ tallied 0 0 1 0 ∷ []) ∷ (tallied 3 1 3 1 ∷ tallied 0 0 1 0 ∷ []) ∷ (tallied 3 1 3 1 ∷ untold ∷ []) ∷ (untold ∷ untold ∷ []) ∷ []
-    -- freed, both keep their holds until these are released
-    over : seen 22 ≡ (Disconnected, 0 ∷ 0 ∷ 0 ∷ 0 ∷ []) ∷ (Disconnected, 1 ∷ 0 ∷ 0 ∷ 0 ∷ []) ∷ []
-
-  the_story : Story
-  unfolding run outcomes after decide serve jobs bare register_spsm signalled checked headers_of whole handled on_conn_req le_credit_conn_req on_credits le_credit_flow_ind on_disconnection_req disconnection_req next_pending accept_pending dispatch joined join_step first_step reached assembled receive taken grant_in grant_of due send planned plan_send frame_count ceil frames_length frames later_frames next_disconnect disconnected dec_ref make verdict well_formed slot_fits Each.every first only choose parts moves move fill fills written encode_of
-  the_story =
-      record {
-        answers = refl;
-        pendings = refl;
-        channels = refl;
-        half_way = refl;
-        whole-job = refl;
-        used = refl;
-        taken-job = refl;
-        empty = refl;
-        granted-both = refl;
-        frames-out = refl;
-        given_credits = refl;
-        not_its_own = refl;
-        closed = refl;
-        tallies = refl;
-        over = refl;
-      }
 
 -- ---- pendings
 
-record Pending_lines : Type 0 where
-  next-pending : Hold (
+pub record Pending_lines : Type 0 where
+  pub next-pending : Hold (
       two (free 0) (free 0) ⊢ ask (pends 1 true) ⇒ yes Done  -- none (before 22: past N a hold stands)
       ∷ two (ours 1 7 0) (connected 1 0) ⊢ ask (pends 1 false) ⇒ no 18  -- none, and link down
       ∷ two (asked 1 7 0) (asked 1 8 0) ⊢ ask (pends 1 true) ⇒ yes (At (index 0)) & slots (asked 1 7 1) (asked 1 8 0)  -- the lowest
@@ -166,13 +86,13 @@ record Pending_lines : Type 0 where
       ∷ two (asked 2 7 0) (asked 1 7 0) ⊢ ask (pends 1 true) ⇒ yes (At (index 1)) & slots (asked 2 7 0) (asked 1 7 1)  -- of this link
       ∷ two (asked 1 7 1) (asked 1 8 0) ⊢ ask (pends 1 true) ⇒ no 22  -- held: the lowest decides
       ∷ [])
-  reject_all : Hold (
+  pub reject_all : Hold (
       two (ours 1 7 0) (asked 1 8 1) ⊢ ask (rejects_all 1) ⇒ yes Done  -- none
       ∷ two (asked 1 7 0) (asked 1 8 0) ⊢ ask (rejects_all 1) ⇒ yes (At (index 0)) & slots (free 0) (asked 1 8 0) & wiped0 & writes (refusal 7 4)
       ∷ two (asked 1 7 1) (asked 1 8 0) ⊢ ask (rejects_all 1) ⇒ yes (At (index 1)) & slots (asked 1 7 1) (free 0) & wiped1 & writes (refusal 8 4)  -- without holds
       ∷ two (asked 2 7 0) (asked 1 8 0) ⊢ ask (rejects_all 1) ⇒ yes (At (index 1)) & slots (asked 2 7 0) (free 0) & wiped1 & writes (refusal 8 4)  -- of this link
       ∷ [])
-  accept : Hold (
+  pub accept : Hold (
       two (asked 1 7 1) (free 0) ⊢ ask (accepts 0 (sized 23 26)) ⇒ no 12  -- MPS
       ∷ two (asked 1 7 1) (free 0) ⊢ ask (accepts 0 (sized 24 25)) ⇒ no 12  -- MTU
       ∷ two (free 0) (free 0) ⊢ ask (accepts 0 (sized 23 26)) ⇒ no 12  -- MPS before state and hold
@@ -188,7 +108,7 @@ record Pending_lines : Type 0 where
       ⇒ yes (Link 2) & slots (free 0) (telling untold (channel Connected 2 1 (threshold 2 7 0) (peer 3) idle none))
       & writes (14 ∷ 0 ∷ 5 ∷ 0 ∷ 0x15 ∷ 7 ∷ 10 ∷ 0 ∷ 0x41 ∷ 0 ∷ 23 ∷ 0 ∷ 25 ∷ 0 ∷ 7 ∷ 0 ∷ 0 ∷ 0 ∷ [])
       ∷ [])
-  reject-one : Hold (
+  pub reject-one : Hold (
       two (free 1) (free 0) ⊢ ask (rejects 0 (Known Success)) ⇒ no 8  -- state
       ∷ two (ours 1 7 0) (free 0) ⊢ ask (rejects 0 (Known Success)) ⇒ no 8  -- state before hold
       ∷ two (asked 1 7 0) (free 0) ⊢ ask (rejects 0 (Known Success)) ⇒ no 22  -- hold 0
@@ -197,9 +117,9 @@ record Pending_lines : Type 0 where
       ∷ two (free 0) (free 0) ⊢ ask (rejects 0 Unknown) ⇒ no 15  -- no code, before state and hold
       ∷ [])
   -- "Result codes: 0, 2 and 4 to 11": of 0 to 12, which are codes, on a slot that is no pending
-  codes : map (λ n. answer_number (outcome (start (two (free 0) (free 0))) (ask (rejects 0 (result_of n)))).answer) (0 ∷ 1 ∷ 2 ∷ 3 ∷ 4 ∷ 5 ∷ 6 ∷ 7 ∷ 8 ∷ 9 ∷ 10 ∷ 11 ∷ 12 ∷ [])
+  pub codes : map (λ n. answer_number (outcome (start (two (free 0) (free 0))) (ask (rejects 0 (result_of n)))).answer) (0 ∷ 1 ∷ 2 ∷ 3 ∷ 4 ∷ 5 ∷ 6 ∷ 7 ∷ 8 ∷ 9 ∷ 10 ∷ 11 ∷ 12 ∷ [])
       ≡ 8 ∷ 15 ∷ 8 ∷ 15 ∷ 8 ∷ 8 ∷ 8 ∷ 8 ∷ 8 ∷ 8 ∷ 8 ∷ 8 ∷ 15 ∷ []
-  drop-pending : Hold (
+  pub drop-pending : Hold (
       two (connected 1 1) (free 0) ⊢ ask (drops 0) ⇒ yes Done  -- Connected
       ∷ two (connected 1 0) (free 0) ⊢ ask (drops 0) ⇒ yes Done  -- Connected before hold 0
       ∷ two (asked 1 7 0) (free 0) ⊢ ask (drops 0) ⇒ no 22  -- hold 0, before PeerConnecting
@@ -209,14 +129,10 @@ record Pending_lines : Type 0 where
       ∷ two (free 1) (free 0) ⊢ ask (drops 0) ⇒ yes Done & slots (free 0) (free 0)
       ∷ [])
 
-pending_lines : Pending_lines
-unfolding after decide serve jobs bare next_pending reject_all_pending accept_pending reject_pending not_code drop_pending result_of verdict well_formed slot_fits Each.every first only choose parts moves move fill fills written encode_of
-pending_lines = record { next-pending = refl; reject_all = refl; accept = refl; reject-one = refl; codes = refl; drop-pending = refl }
-
 -- ---- our own attempts
 
-record Opening_lines : Type 0 where
-  creating : Hold (
+pub record Opening_lines : Type 0 where
+  pub creating : Hold (
       two (free 0) (free 0) ⊢ ask (creates 1 0x81 (sized 23 26)) ⇒ no 12 & next 6  -- MPS; an identifier is used
       ∷ two (free 0) (free 0) ⊢ ask (creates 1 0x81 (sized 24 25)) ⇒ no 12 & next 6  -- MTU
       ∷ two (connected 1 1) (free 1) ⊢ ask (creates 1 0x81 (sized 23 26)) ⇒ no 12 & next 6  -- MPS before 13
@@ -230,7 +146,7 @@ record Opening_lines : Type 0 where
       & writes (14 ∷ 0 ∷ 5 ∷ 0 ∷ 0x14 ∷ 1 ∷ 10 ∷ 0 ∷ 0x81 ∷ 0 ∷ 0x40 ∷ 0 ∷ 23 ∷ 0 ∷ 25 ∷ 0 ∷ 2 ∷ 0 ∷ [])
       ∷ two (free 0) (free 0) ⊢ ask (creates 0x0F00 0x81 usual) ⇒ no 4  -- no identifier is used
       ∷ [])
-  opened-query : Hold (
+  pub opened-query : Hold (
       two (free 1) (free 0) ⊢ ask (opens 0 0 true) ⇒ no 18  -- free, though its link reads 0; not freed again
       ∷ two (free 1) (free 0) ⊢ ask (opens 0 1 true) ⇒ no 18  -- free before another link's
       ∷ two (free 1) (free 0) ⊢ ask (opens 0 0 false) ⇒ no 18  -- free before link down: nothing is zeroed
@@ -249,8 +165,8 @@ record Opening_lines : Type 0 where
       ∷ two (free 0) (granted 1 0) ⊢ ask (opens 1 1 true) ⇒ yes Opened & slots (free 0) (granted 1 1)
       ∷ [])
   -- 17 comes with the code
-  code : (outcome (start (two (failed 1 ScidAlreadyAllocated 0) (free 0))) (ask (opens 0 1 true))).answer ≡ Refused (ConnectError ScidAlreadyAllocated)
-  give_up_lem : Hold (
+  pub code : (outcome (start (two (failed 1 ScidAlreadyAllocated 0) (free 0))) (ask (opens 0 1 true))).answer ≡ Refused (ConnectError ScidAlreadyAllocated)
+  pub give_up_lem : Hold (
       two (ours 1 7 1) (free 0) ⊢ ask (gives 0) ⇒ yes Done & slots (free 1) (free 0) & wiped0  -- Connecting, held or not
       ∷ two (failed 1 NoResources 1) (free 0) ⊢ ask (gives 0) ⇒ yes Done & slots (free 1) (free 0) & wiped0  -- ConnectFailed
       ∷ two (free 0) (connected 1 0) ⊢ ask (gives 1) ⇒ yes Done & slots (free 0) (free 0) & wiped1  -- Connected without holds
@@ -261,19 +177,15 @@ record Opening_lines : Type 0 where
       ∷ two (quiet (Disconnecting false) 1 0) (free 0) ⊢ ask (gives 0) ⇒ no 8
       ∷ [])
 
-opening_lines : Opening_lines
-unfolding after decide serve jobs bare create opened give_up verdict well_formed slot_fits Each.every first only choose parts moves move fill fills written encode_of
-opening_lines = record { creating = refl; opened-query = refl; code = refl; give_up_lem = refl }
-
 -- ---- holds, disconnects, link down
 
-record Closing_lines : Type 0 where
-  add_hold : Hold (
+pub record Closing_lines : Type 0 where
+  pub add_hold : Hold (
       two (connected 1 255) (free 0) ⊢ ask (holds 0) ⇒ no 22  -- at 255
       ∷ two (connected 1 254) (free 0) ⊢ ask (holds 0) ⇒ yes Done & slots (connected 1 255) (free 0)
       ∷ two (free 0) (free 0) ⊢ ask (holds 1) ⇒ yes Done & slots (free 0) (free 1)
       ∷ [])
-  release : Hold (
+  pub release : Hold (
       two (connected 1 0) (free 0) ⊢ ask (releases 0) ⇒ no 22  -- at 0, before Connected
       ∷ two (free 0) (free 0) ⊢ ask (releases 0) ⇒ no 22  -- at 0
       ∷ two (channel Connected 1 1 (every 1 2 1) (peer 3) (partly 2 5) (one 4)) (free 0) ⊢ ask (releases 0)
@@ -282,25 +194,25 @@ record Closing_lines : Type 0 where
       ∷ two (ours 1 7 1) (free 0) ⊢ ask (releases 0) ⇒ yes Done & slots (ours 1 7 0) (free 0)  -- to 0, not Connected
       ∷ two (quiet (Disconnecting true) 1 1) (free 0) ⊢ ask (releases 0) ⇒ yes Done & slots (quiet (Disconnecting true) 1 0) (free 0)
       ∷ [])
-  by-slot : Hold (
+  pub by-slot : Hold (
       two (free 0) (channel Connected 1 1 (every 1 2 1) (peer 3) (partly 2 5) (one 4)) ⊢ ask (leaves 1)
       ⇒ yes Done & slots (free 0) (channel (Disconnecting false) 1 1 (every 1 2 1) (peer 3) idle (one 4)) & cleared1  -- Connected
       ∷ two (quiet (Disconnecting true) 1 1) (free 0) ⊢ ask (leaves 0) ⇒ yes Done
       ∷ two (quiet (PeerDisconnecting 8) 1 1) (free 0) ⊢ ask (leaves 0) ⇒ yes Done
       ∷ two (ours 1 7 0) (free 0) ⊢ ask (leaves 0) ⇒ yes Done
       ∷ [])
-  by_CID : Hold (
+  pub by_CID : Hold (
       two (connected 1 1) (connected 2 1) ⊢ ask (leaves_cid 0x41) ⇒ yes Done & slots (connected 1 1) (quiet (Disconnecting false) 2 1) & cleared1
       ∷ two (connected 1 1) (connected 2 1) ⊢ ask (leaves_cid 0x3F) ⇒ yes Done  -- below 0x40
       ∷ two (connected 1 1) (connected 2 1) ⊢ ask (leaves_cid 0x42) ⇒ yes Done  -- at least 0x40 + N: past N a Connected channel stands
       ∷ two (asked 1 7 1) (connected 2 1) ⊢ ask (leaves_cid 0x40) ⇒ yes Done  -- not Connected
       ∷ [])
-  link_down : Hold (
+  pub link_down : Hold (
       two (connected 1 1) (asked 1 7 0) ⊢ down 1 ⇒ yes Done & slots (free 1) (free 0) & wiped0 & wiped1  -- all its slots
       ∷ two (connected 1 1) (connected 2 1) ⊢ down 2 ⇒ yes Done & slots (connected 1 1) (free 1) & wiped1  -- of this link
       ∷ two (free 1) (free 0) ⊢ down 0 ⇒ yes Done  -- a Disconnected slot is no link's
       ∷ [])
-  next-disconnect : Hold (
+  pub next-disconnect : Hold (
       two (quiet (Disconnecting true) 1 1) (connected 1 1) ⊢ ask announces ⇒ yes Done  -- none: announced already
       ∷ three (free 0) (free 0) (quiet (PeerDisconnecting 8) 1 1) ⊢ ask announces ⇒ yes Done  -- none, before PeerDisconnecting past N
       ∷ two (quiet (PeerDisconnecting 8) 1 1) (quiet (Disconnecting false) 2 1) ⊢ ask announces
@@ -314,40 +226,36 @@ record Closing_lines : Type 0 where
       & writes (8 ∷ 0 ∷ 5 ∷ 0 ∷ 0x06 ∷ 5 ∷ 4 ∷ 0 ∷ 0x40 ∷ 0 ∷ 0x41 ∷ 0 ∷ [])
       ∷ [])
 
-closing_lines : Closing_lines
-unfolding after decide serve jobs bare inc_ref dec_ref disconnecting disconnect disconnect_by_cid disconnected next_disconnect verdict well_formed slot_fits Each.every first only choose parts moves move fill fills written encode_of
-closing_lines = record { add_hold = refl; release = refl; by-slot = refl; by_CID = refl; link_down = refl; next-disconnect = refl }
-
 -- ---- signals
 
-abbrev hear : (link : ℕ) → List ℕ → Call
+abbrev pub hear : (link : ℕ) → List ℕ → Call
 hear link pdu = ask (signals link true true pdu)
 
 -- where no listener is, and where we are not Central
-abbrev deaf : (link : ℕ) → List ℕ → Call
+abbrev pub deaf : (link : ℕ) → List ℕ → Call
 deaf link pdu = ask (signals link false true pdu)
 
-abbrev peripheral : (link : ℕ) → List ℕ → Call
+abbrev pub peripheral : (link : ℕ) → List ℕ → Call
 peripheral link pdu = ask (signals link true false pdu)
 
 -- half a job has come, and another waits
-abbrev half : Slot
+abbrev pub half : Slot
 half = channel Connected 1 1 (every 1 2 1) (peer 3) (partly 2 5) (one 4)
 
 -- an attempt as no run has it: half a job is there, and another waits
-abbrev begun : Slot → Slot
+abbrev pub begun : Slot → Slot
 begun x = record { state = x.state; link = x.link; spsm = x.spsm; mps = x.mps; mtu = x.mtu; account = x.account; hold = x.hold; peer = x.peer; assembly = partly 2 5; queue = one 4; job = x.job; tallies = x.tallies }
 
-record Signal_lines : Type 0 where
+pub record Signal_lines : Type 0 where
   -- every header first: in these a good request for a channel stands before the bad header, and nothing comes of it
-  headers : Hold (
+  pub headers : Hold (
       two (free 0) (free 0) ⊢ hear 1 [] ⇒ yes Done  -- empty
       ∷ two (free 0) (free 0) ⊢ hear 1 (0x16 ∷ 7 ∷ 0 ∷ []) ⇒ no 15  -- under 4 octets: no reply
       ∷ two (free 0) (free 0) ⊢ hear 1 (request 7 0x80 0x40 ++ (0x16 ∷ 8 ∷ 5 ∷ [])) ⇒ no 15  -- under 4 octets, before past the PDU
       ∷ two (free 0) (free 0) ⊢ hear 1 (request 7 0x80 0x40 ++ (0x16 ∷ 8 ∷ 4 ∷ 0 ∷ 1 ∷ 2 ∷ 3 ∷ [])) ⇒ no 9 & writes (reject 8 0)  -- past the PDU, with that header's identifier
       ∷ two (free 0) (free 0) ⊢ hear 1 (request 7 0x80 0x40 ++ credits 0x40 1) ⇒ yes Done & slots (asked 1 7 0) (free 0)  -- the first alone is handled
       ∷ [])
-  codes : Hold (
+  pub codes : Hold (
       two (free 0) (free 0) ⊢ hear 1 (0x01 ∷ 7 ∷ 2 ∷ 0 ∷ 0 ∷ 0 ∷ []) ⇒ yes Done
       ∷ two (free 0) (free 0) ⊢ hear 1 (0x01 ∷ 7 ∷ 3 ∷ 0 ∷ 0 ∷ 0 ∷ 0 ∷ []) ⇒ yes Done  -- 2 or more
       ∷ two (free 0) (free 0) ⊢ hear 1 (0x01 ∷ 7 ∷ 1 ∷ 0 ∷ 0 ∷ []) ⇒ no 15 & writes (reject 7 0)  -- bad body
@@ -356,7 +264,7 @@ record Signal_lines : Type 0 where
       ∷ two (free 0) (free 0) ⊢ hear 1 (0x17 ∷ 7 ∷ 0 ∷ 0 ∷ []) ⇒ no 16 & writes (reject 7 0)  -- unknown
       ∷ two (free 0) (free 0) ⊢ hear 1 (0 ∷ 7 ∷ 0 ∷ 0 ∷ []) ⇒ no 16 & writes (reject 7 0)
       ∷ [])
-  connect_request : Hold (
+  pub connect_request : Hold (
       two (free 0) (free 0) ⊢ hear 1 (request 7 0x81 0x40) ⇒ yes Done & writes (refusal 7 2)  -- SPSM
       ∷ two (free 0) (free 0) ⊢ deaf 1 (request 7 0x81 0x40) ⇒ yes Done & writes (refusal 7 2)  -- SPSM before listening
       ∷ two (free 0) (free 0) ⊢ deaf 1 (request 7 0x80 0x40) ⇒ yes Done & writes (refusal 7 4)  -- listening
@@ -377,7 +285,7 @@ record Signal_lines : Type 0 where
       ∷ two (free 0) (free 0) ⊢ deaf 1 (0x14 ∷ 7 ∷ 9 ∷ 0 ∷ replicate 9 0) ⇒ no 15 & writes (reject 7 0)  -- bad body, before all
       ∷ [])
   -- the least MTU and MPS, between listening and the peer's CID
-  least_request : Hold (
+  pub least_request : Hold (
       two (free 0) (free 0) ⊢ hear 1 (request_of 22 23 7 0x80 0x40) ⇒ yes Done & writes (refusal 7 11)  -- MTU
       ∷ two (free 0) (free 0) ⊢ hear 1 (request_of 23 22 7 0x80 0x40) ⇒ yes Done & writes (refusal 7 11)  -- MPS
       ∷ two (free 0) (free 0) ⊢ hear 1 (request_of 23 23 7 0x80 0x40) ⇒ yes Done & slots (wish (PeerConnecting 7) 1 0 (peer_of 23 23)) (free 0)
@@ -387,9 +295,9 @@ record Signal_lines : Type 0 where
       ∷ two (connected 1 1) (connected 2 1) ⊢ hear 1 (request_of 0 23 7 0x80 0x41) ⇒ yes Done & writes (refusal 7 11)  -- before no free slot
       ∷ [])
   -- with every bit set: of the SPSMs 0, 1, 255 and 256 those that are registered
-  spsms : map (λ n. (slot_at (outcome (start (knowing (replicate 32 255) (two (free 0) (free 0)))) (hear 1 (request 7 n 0x40))).table 0).state) (0 ∷ 1 ∷ 255 ∷ 256 ∷ [])
+  pub spsms : map (λ n. (slot_at (outcome (start (knowing (replicate 32 255) (two (free 0) (free 0)))) (hear 1 (request 7 n 0x40))).table 0).state) (0 ∷ 1 ∷ 255 ∷ 256 ∷ [])
       ≡ Disconnected ∷ PeerConnecting 7 ∷ PeerConnecting 7 ∷ Disconnected ∷ []
-  connect_response : Hold (
+  pub connect_response : Hold (
       two (ours 1 7 0) (ours 2 7 0) ⊢ hear 2 (response 7 0) ⇒ yes Done & slots (ours 1 7 0) (granted 2 0)  -- link
       ∷ two (ours 1 7 1) (ours 1 8 0) ⊢ hear 1 (response 8 0) ⇒ yes Done & slots (ours 1 7 1) (granted 1 0)  -- identifier
       ∷ two (ours 1 7 1) (ours 1 7 0) ⊢ hear 1 (response 7 0) ⇒ yes Done & slots (granted 1 1) (ours 1 7 0)  -- the lowest
@@ -401,7 +309,7 @@ record Signal_lines : Type 0 where
       ∷ two (ours 1 7 0) (ours 1 8 0) ⊢ hear 1 (0x15 ∷ 9 ∷ 11 ∷ 0 ∷ replicate 11 0) ⇒ no 15 & writes (reject 9 0)  -- bad body, before the match
       ∷ [])
   -- .. of a good response: its numbers are stored, nothing is written, and the room stays
-  least_response : Hold (
+  pub least_response : Hold (
       two (ours 1 7 1) (ours 1 8 0) ⊢ hear 1 (response_of 22 23 7 0) ⇒ no 9 & slots (attempt (Disconnecting false) 1 1 (peer_of 22 23)) (ours 1 8 0)  -- MTU
       ∷ two (ours 1 7 1) (ours 1 8 0) ⊢ hear 1 (response_of 23 22 8 0) ⇒ no 9 & slots (ours 1 7 1) (attempt (Disconnecting false) 1 0 (peer_of 23 22))  -- MPS
       ∷ two (ours 1 7 1) (ours 1 8 0) ⊢ hear 1 (response_of 23 23 7 0) ⇒ yes Done & slots (attempt Connected 1 1 (peer_of 23 23)) (ours 1 8 0)
@@ -410,8 +318,8 @@ record Signal_lines : Type 0 where
       ∷ two (ours 1 7 1) (ours 2 8 0) ⊢ hear 1 (response_of 10 10 8 0) ⇒ no 8 & slots (free 1) (ours 2 8 0) & wiped0  -- the match before it
       ∷ [])
   -- 17 comes with the code
-  code : (outcome (start (two (ours 1 7 0) (free 0))) (hear 1 (response 7 10))).answer ≡ Refused (ConnectError ScidAlreadyAllocated)
-  credit_signal : Hold (
+  pub code : (outcome (start (two (ours 1 7 0) (free 0))) (hear 1 (response 7 10))).answer ≡ Refused (ConnectError ScidAlreadyAllocated)
+  pub credit_signal : Hold (
       two (connected 1 1) (connected 2 1) ⊢ hear 2 (credits 0x40 4) ⇒ yes Done & slots (connected 1 1) (channel Connected 2 1 (every 1 3 0) (peer 7) idle none)  -- link
       ∷ two (connected 1 1) (connected 1 1) ⊢ hear 1 (credits 0x40 0) ⇒ yes Done  -- the lowest, and 0 credits
       ∷ two (connected 1 1) (connected 1 1) ⊢ hear 1 (credits 0x40 4) ⇒ yes Done & slots (channel Connected 1 1 (every 1 3 0) (peer 7) idle none) (connected 1 1)
@@ -422,7 +330,7 @@ record Signal_lines : Type 0 where
       ⇒ no 9 & slots (channel (Disconnecting false) 1 1 (every 1 3 0) (peer 65530) idle (one 4)) (free 0) & cleared0  -- the sum
       ∷ two (connected 1 1) (free 0) ⊢ hear 1 (0x16 ∷ 7 ∷ 5 ∷ 0 ∷ 0x40 ∷ 0 ∷ 4 ∷ 0 ∷ 0 ∷ []) ⇒ no 15 & writes (reject 7 0)  -- bad body
       ∷ [])
-  disconnect-request : Hold (
+  pub disconnect-request : Hold (
       two half (free 0) ⊢ hear 1 (leaving 8 0x40 0x99) ⇒ yes Done & slots (channel (PeerDisconnecting 8) 1 1 (every 1 2 1) (peer 3) idle (one 4)) (free 0) & cleared0
       ∷ two (free 0) (asked 1 7 1) ⊢ hear 1 (leaving 8 0x41 0x40) ⇒ yes Done & slots (free 0) (wish (PeerDisconnecting 8) 1 1 (peer 3)) & cleared1
       ∷ two (quiet (Disconnecting true) 1 1) (free 0) ⊢ hear 1 (leaving 8 0x40 0x40) ⇒ yes Done & slots (telling untold (quiet (PeerDisconnecting 8) 1 1)) (free 0) & cleared0
@@ -432,7 +340,7 @@ record Signal_lines : Type 0 where
       ∷ two (free 1) (free 0) ⊢ hear 0 (leaving 8 0x40 0x40) ⇒ yes Done & writes (reject 8 2)  -- Disconnected
       ∷ two half (free 0) ⊢ hear 1 (0x06 ∷ 8 ∷ 5 ∷ 0 ∷ 0x40 ∷ 0 ∷ 0x40 ∷ 0 ∷ 0 ∷ []) ⇒ no 15 & writes (reject 8 0)  -- bad body
       ∷ [])
-  disconnect-response : Hold (
+  pub disconnect-response : Hold (
       two (quiet (Disconnecting true) 1 1) (free 0) ⊢ hear 1 (gone 0x99 0x40) ⇒ yes Done & slots (free 1) (free 0) & wiped0
       ∷ two (quiet (Disconnecting false) 1 1) (quiet (Disconnecting false) 2 1) ⊢ hear 2 (gone 0x40 0x41) ⇒ yes Done & slots (quiet (Disconnecting false) 1 1) (free 1) & wiped1  -- SCID
       ∷ two (quiet (Disconnecting true) 1 1) (free 0) ⊢ hear 1 (gone 0x40 0x3F) ⇒ yes Done  -- CID below 0x40
@@ -443,7 +351,7 @@ record Signal_lines : Type 0 where
       ∷ two (free 1) (free 0) ⊢ hear 0 (gone 0x40 0x40) ⇒ yes Done  -- a Disconnected slot is no link's: nothing is zeroed
       ∷ two (quiet (Disconnecting true) 1 1) (free 0) ⊢ hear 1 (0x07 ∷ 7 ∷ 3 ∷ 0 ∷ 0x40 ∷ 0 ∷ 0x40 ∷ []) ⇒ no 15 & writes (reject 7 0)  -- bad body
       ∷ [])
-  parameter_request : Hold (
+  pub parameter_request : Hold (
       two (free 0) (free 0) ⊢ peripheral 1 (parameters 6 6 0 10) ⇒ yes Done & writes (reject 7 0)  -- not Central
       ∷ two (free 0) (free 0) ⊢ peripheral 1 (0x12 ∷ 7 ∷ 0 ∷ 0 ∷ []) ⇒ yes Done & writes (reject 7 0)  -- not Central, before a bad body
       ∷ two (free 0) (free 0) ⊢ hear 1 (0x12 ∷ 7 ∷ 0 ∷ 0 ∷ []) ⇒ no 15 & writes (reject 7 0)  -- bad body
@@ -452,46 +360,26 @@ record Signal_lines : Type 0 where
       ∷ two (free 0) (free 0) ⊢ hear 1 (parameters 6 25 499 3200) ⇒ yes (Event 6 25 499 3200)  -- the greatest latency and timeout
       ∷ [])
   -- each of the seven conditions broken alone: response 1
-  invalid : map (λ pdu. told (outcome (start (two (free 0) (free 0))) (hear 1 pdu)).answer)
+  pub invalid : map (λ pdu. told (outcome (start (two (free 0) (free 0))) (hear 1 pdu)).answer)
       (parameters 5 8 0 10 ∷ parameters 8 7 0 10 ∷ parameters 6 3201 0 3200 ∷ parameters 6 6 500 3200 ∷ parameters 6 6 0 9 ∷ parameters 6 6 0 3201 ∷ parameters 6 3200 0 800 ∷ [])
       ≡ replicate 7 (answered Done)
-  told_invalid : Hold (two (free 0) (free 0) ⊢ hear 1 (parameters 5 8 0 10) ⇒ yes Done & writes (6 ∷ 0 ∷ 5 ∷ 0 ∷ 0x13 ∷ 7 ∷ 2 ∷ 0 ∷ 1 ∷ 0 ∷ []) ∷ [])
-
-signal_lines : Signal_lines
-unfolding after decide serve jobs bare signalled checked headers_of whole handled on_reject command_reject_res on_disconnection_req disconnection_req on_disconnection_res disconnection_res on_parameters conn_param_update_req parameters_valid on_parameter_response conn_param_update_res on_conn_req le_credit_conn_req on_conn_res le_credit_conn_res result_of on_credits le_credit_flow_ind verdict well_formed slot_fits Each.every first only choose parts moves move fill fills written encode_of
-signal_lines =
-    record {
-      headers = refl;
-      codes = refl;
-      connect_request = refl;
-      least_request = refl;
-      spsms = refl;
-      connect_response = refl;
-      least_response = refl;
-      code = refl;
-      credit_signal = refl;
-      disconnect-request = refl;
-      disconnect-response = refl;
-      parameter_request = refl;
-      invalid = refl;
-      told_invalid = refl;
-    }
+  pub told_invalid : Hold (two (free 0) (free 0) ⊢ hear 1 (parameters 5 8 0 10) ⇒ yes Done & writes (6 ∷ 0 ∷ 5 ∷ 0 ∷ 0x13 ∷ 7 ∷ 2 ∷ 0 ∷ 1 ∷ 0 ∷ []) ∷ [])
 
 -- ---- frames in
 
 -- a Connected channel of link 1, which has counted the frames that its account has received; and the same once a frame came and it turned Disconnecting
-abbrev at : (held received : ℕ) → Assembly → Queue → Slot
+abbrev pub at : (held received : ℕ) → Assembly → Queue → Slot
 at held received s q = telling (tallied 7 5 received 2) (channel Connected 1 1 (every 1 held received) (peer 3) s q)
 
 -- .. and with no credit held, once a frame was refused for it
-abbrev starved : Slot
+abbrev pub starved : Slot
 starved = telling (tallied 7 5 3 3) (at 0 3 idle none)
 
-abbrev ended : Queue → Slot
+abbrev pub ended : Queue → Slot
 ended q = channel (Disconnecting false) 1 1 (every 1 2 1) (peer 3) idle q
 
-record Frame_lines : Type 0 where
-  refusals : Hold (
+pub record Frame_lines : Type 0 where
+  pub refusals : Hold (
       two (connected 1 1) (free 0) ⊢ frame 1 0x3F (0 ∷ 0 ∷ []) ⇒ no 7  -- CID below 0x40
       ∷ two (connected 1 1) (free 0) ⊢ frame 1 0x42 (0 ∷ 0 ∷ []) ⇒ no 7  -- CID at least 0x40 + N
       ∷ two (free 0) (free 0) ⊢ frame 1 0x3F (0 ∷ 0 ∷ []) ⇒ no 7  -- CID before state
@@ -502,7 +390,7 @@ record Frame_lines : Type 0 where
       ∷ two (at 0 3 idle none) (free 0) ⊢ frame 1 0x40 (0 ∷ 0 ∷ []) ⇒ no 10 & slots starved (free 0)  -- credit
       ∷ two (at 0 3 idle none) (free 0) ⊢ frame 1 0x40 [] ⇒ no 10 & slots starved (free 0)  -- credit before 19
       ∷ [])
-  first-frames : Hold (
+  pub first-frames : Hold (
       two (at 3 0 idle (one 4)) (free 0) ⊢ frame 1 0x40 [] ⇒ no 19 & slots (ended (one 4)) (free 0) & cleared0  -- under 2 octets
       ∷ two (at 3 0 idle (one 4)) (free 0) ⊢ frame 1 0x40 (24 ∷ []) ⇒ no 19 & slots (ended (one 4)) (free 0) & cleared0  -- under 2 octets before the MTU
       ∷ two (at 3 0 idle (one 4)) (free 0) ⊢ frame 1 0x40 (24 ∷ 0 ∷ []) ⇒ no 9 & slots (ended (one 4)) (free 0) & cleared0  -- above the MTU
@@ -524,7 +412,7 @@ record Frame_lines : Type 0 where
       & part0 (place 1) (begins (7 ∷ 8 ∷ []) 2) (place 3)
       ∷ two (free 0) (connected 2 1) ⊢ frame 2 0x41 (0 ∷ 0 ∷ []) ⇒ yes Done & slots (free 0) (telling (tallied 7 5 4 2) (channel Connected 2 1 (every 1 2 1) (peer 3) idle (one 0)))  -- a job of 0 octets
       ∷ [])
-  joining-frames : Hold (
+  pub joining-frames : Hold (
       two (at 3 0 (partly 2 5) none) (free 0) ⊢ frame 1 0x40 (7 ∷ 8 ∷ 9 ∷ 9 ∷ []) ⇒ no 9 & slots (ended none) (free 0) & cleared0  -- overrun
       ∷ two (at 3 0 (partly 2 5) (both 4 4)) (free 0) ⊢ frame 1 0x40 (7 ∷ 8 ∷ 9 ∷ 9 ∷ []) ⇒ no 9 & slots (ended (both 4 4)) (free 0) & cleared0  -- overrun before 21
       ∷ two (at 3 0 (partly 2 5) (both 4 4)) (free 0) ⊢ frame 1 0x40 (7 ∷ []) ⇒ yes Done & slots (at 2 1 (partly 3 5) (both 4 4)) (free 0)
@@ -535,7 +423,7 @@ record Frame_lines : Type 0 where
       & part0 (place 0) (place 2) (begins (1 ∷ 1 ∷ 3 ∷ 0 ∷ 9 ∷ []) 3)  -- exact: no octet of it is a length
       ∷ [])
   -- held to our own MPS, the length octets of a first frame counted: behind the credit, before all that joining asks
-  long-frames : Hold (
+  pub long-frames : Hold (
       two (narrow 3 (at 3 0 idle (one 4))) (free 0) ⊢ frame 1 0x40 (9 ∷ 0 ∷ 7 ∷ 8 ∷ []) ⇒ no 9 & slots (narrow 3 (ended (one 4))) (free 0) & cleared0  -- a first frame
       ∷ two (narrow 4 (at 3 0 idle (one 4))) (free 0) ⊢ frame 1 0x40 (9 ∷ 0 ∷ 7 ∷ 8 ∷ []) ⇒ yes Done & slots (narrow 4 (at 2 1 (partly 2 9) (one 4))) (free 0)
       & part0 (begins (7 ∷ 8 ∷ []) 1) (place 2) (place 3)
@@ -551,21 +439,17 @@ record Frame_lines : Type 0 where
       ∷ two (narrow 0 (at 3 0 idle none)) (free 0) ⊢ frame 1 0x40 [] ⇒ no 19 & slots (narrow 0 (ended none)) (free 0) & cleared0
       ∷ [])
 
-frame_lines : Frame_lines
-unfolding after decide serve jobs bare dispatch joined join_step first_step reached assembled verdict well_formed slot_fits Each.every first only choose parts moves move fill fills written
-frame_lines = record { refusals = refl; first-frames = refl; joining-frames = refl; long-frames = refl }
-
 -- ---- sending
 
-abbrev to : (mtu mps credits : ℕ) → Slot
+abbrev pub to : (mtu mps credits : ℕ) → Slot
 to mtu mps n = channel Connected 1 1 (every 1 3 0) (record { cid = 0x40; mps = mps; mtu = mtu; credits = n }) idle none
 
 -- what a send of so many octets, to an output of so many, answers
-abbrev sent : Slot → (l out : ℕ) → Told
+abbrev pub sent : Slot → (l out : ℕ) → Told
 sent x l out = told (send (two x (free 0)) 0 l out).answer
 
-record Send_lines : Type 0 where
-  order : Agree (
+pub record Send_lines : Type 0 where
+  pub order : Agree (
       (sent (quiet (Disconnecting false) 1 1) 2 8, refused 11)  -- state
       ∷ (sent (asked 1 7 1) 31 0, refused 11)  -- 11 before 12
       ∷ (sent (to 30 23 3) 31 99, refused 12)  -- MTU
@@ -581,7 +465,7 @@ record Send_lines : Type 0 where
       ∷ (sent (to 30 23 2) 30 40, answered (Frames 1 2))
       ∷ (sent (to 65535 65535 1) 65533 65539, answered (Frames 1 1))
       ∷ [])
-  frames-out : Hold (
+  pub frames-out : Hold (
       two (free 0) (connected 2 1) ⊢ sends 1 (7 ∷ 8 ∷ []) (window 0 8) ⇒ yes (Frames 2 1) & slots (free 0) (telling (tallied 8 5 3 2) (channel Connected 2 1 (every 1 3 0) (peer 2) idle none))
       & writes (4 ∷ 0 ∷ 0x40 ∷ 0 ∷ 2 ∷ 0 ∷ 7 ∷ 8 ∷ [])
       ∷ two (free 0) (connected 2 1) ⊢ sends 1 (7 ∷ 8 ∷ []) (window 0 7) ⇒ no 3
@@ -589,24 +473,20 @@ record Send_lines : Type 0 where
       ⇒ no 14 & slots (free 0) (telling (tallied 7 6 3 2) (channel Connected 2 1 (every 1 3 0) (peer 0) idle none))
       ∷ [])
 
-send_lines : Send_lines
-unfolding after decide jobs bare send planned plan_send frame_count ceil frames_length frames later_frames verdict well_formed slot_fits Each.every first only choose parts moves move fill fills written
-send_lines = record { order = refl; frames-out = refl }
-
 -- ---- taking
 
-abbrev grant : (id cid n : ℕ) → List ℕ
+abbrev pub grant : (id cid n : ℕ) → List ℕ
 grant id cid n = 8 ∷ 0 ∷ 5 ∷ 0 ∷ 0x16 ∷ id ∷ 4 ∷ 0 ∷ cid ∷ 0 ∷ n ∷ 0 ∷ []
 
-abbrev with : CreditFlowControl → Queue → Slot
+abbrev pub with : CreditFlowControl → Queue → Slot
 with a q = channel Connected 1 1 a (peer 3) (partly 1 2) q
 
 -- a call with a job buffer of so many octets
-abbrev into : (size : ℕ) → Request → Call
+abbrev pub into : (size : ℕ) → Request → Call
 into size r = plain r (window 0 18) (window 18 size)
 
-record Take_lines : Type 0 where
-  states : Hold (
+pub record Take_lines : Type 0 where
+  pub states : Hold (
       two (free 1) (free 0) ⊢ ask (takes 0) ⇒ no 11  -- each of the four states, before "no job waits"
       ∷ two (ours 1 7 1) (free 0) ⊢ ask (takes 0) ⇒ no 11
       ∷ two (asked 1 7 1) (free 0) ⊢ ask (takes 0) ⇒ no 11
@@ -618,7 +498,7 @@ record Take_lines : Type 0 where
       ∷ two (free 0) (channel (PeerDisconnecting 8) 2 1 (every 1 2 1) (peer 3) idle (one 0)) ⊢ ask (takes 1)
       ⇒ yes (Job 2 0) & slots (free 0) (channel (PeerDisconnecting 8) 2 1 (every 1 2 1) (peer 3) idle none) & part1 (place 4) (place 0) (place 6)
       ∷ [])
-  jobs-out : Hold (
+  pub jobs-out : Hold (
       two (with (every 1 2 1) (both 4 3)) (free 0) ⊢ ask (takes 0)  -- as many octets as the buffer has
       ⇒ yes (Job 1 4) & slots (with (every 1 3 0) (one 3)) (free 0) & next 6 & part0 (place 1) (place 3) (place 0)
       & hands (2 ∷ 2 ∷ 2 ∷ 2 ∷ []) & writes (grant 5 0x40 1)
@@ -627,7 +507,7 @@ record Take_lines : Type 0 where
       & hands (5 ∷ 5 ∷ []) & writes (grant 5 0x41 3)
       ∷ [])
   -- a buffer shorter than the oldest job: all stays, though a grant is due
-  short : Hold (
+  pub short : Hold (
       two (with (every 1 2 1) (both 5 3)) (free 0) ⊢ ask (takes 0) ⇒ no 12  -- the later one, which would fit, waits behind it
       ∷ two (with (every 1 2 1) (one 1)) (free 0) ⊢ into 0 (takes 0) ⇒ no 12
       ∷ two (free 0) (channel Connected 2 1 (every 1 0 3) (peer 3) idle (one 23)) ⊢ ask (takes 1) ⇒ no 12
@@ -639,9 +519,9 @@ record Take_lines : Type 0 where
       ∷ two (with (every 2 1 1) (one 0)) (free 0) ⊢ into 0 (takes 0) ⇒ yes (Job 1 0) & slots (with (every 2 1 1) none) (free 0) & part0 (place 1) (place 0) (place 3)
       ∷ [])
   -- 3 before 12, for a signal buffer of 17
-  signal-first : answer_number (decide (two (with (every 1 2 1) (one 5)) (free 0)) (ask (takes 0)) 0 138 17 4).answer ≡ 3
+  pub signal-first : answer_number (decide (two (with (every 1 2 1) (one 5)) (free 0)) (ask (takes 0)) 0 138 17 4).answer ≡ 3
   -- a job of 0 octets taken: what is granted
-  policies : Hold (
+  pub policies : Hold (
       two (with (every 2 1 1) (one 0)) (free 0) ⊢ ask (takes 0) ⇒ yes (Job 1 0) & slots (with (every 2 1 1) none) (free 0) & part0 (place 1) (place 0) (place 3)  -- received 1, under 2
       ∷ two (with (every 2 1 2) (one 0)) (free 0) ⊢ ask (takes 0) ⇒ yes (Job 1 0) & slots (with (every 2 3 0) none) (free 0) & part0 (place 1) (place 0) (place 3) & next 6 & writes (grant 5 0x40 2)
       ∷ two (with (every 0 3 0) (one 0)) (free 0) ⊢ ask (takes 0) ⇒ yes (Job 1 0) & slots (with (every 0 3 0) none) (free 0) & part0 (place 1) (place 0) (place 3)  -- never 0 credits
@@ -650,36 +530,32 @@ record Take_lines : Type 0 where
       ∷ two (with (threshold 2 0 0) (one 0)) (free 0) ⊢ ask (takes 0) ⇒ yes (Job 1 0) & slots (with (threshold 2 0 0) none) (free 0) & part0 (place 1) (place 0) (place 3)  -- never 0 credits
       ∷ [])
 
-take_lines : Take_lines
-unfolding after decide serve jobs bare receive taken grant_in grant_of due verdict well_formed slot_fits Each.every first only choose parts moves move fill fills written encode_of
-take_lines = record { states = refl; jobs-out = refl; short = refl; signal-first = refl; policies = refl }
-
 -- ---- registering, asking, the two senders
 
-abbrev attended : Slot → Slot → Told
+abbrev pub attended : Slot → Slot → Told
 attended x y = told (outcome (start (two x y)) (ask attends)).answer
 
 -- the five numbers that are asked for: SPSM, MTU, MPS, the peer's MTU and MPS
-abbrev asking : (Slot → ℕ) → ℕ → Table → Told
+abbrev pub asking : (Slot → ℕ) → ℕ → Table → Told
 asking of s t = told (outcome (start t) (ask (asks of s))).answer
 
-record Asking_lines : Type 0 where
-  registers : Hold (
+pub record Asking_lines : Type 0 where
+  pub registers : Hold (
       two (free 0) (free 0) ⊢ ask (register 0) ⇒ no 5  -- below 1
       ∷ two (free 0) (free 0) ⊢ ask (register 256) ⇒ no 5  -- above 255
       ∷ two (free 0) (free 0) ⊢ ask (register 0x80) ⇒ yes Done  -- twice is once
       ∷ [])
-  registered : map (λ n. (outcome (start (two (free 0) (free 0))) (ask (register n))).table.spsms) (1 ∷ 0x81 ∷ 255 ∷ [])
+  pub registered : map (λ n. (outcome (start (two (free 0) (free 0))) (ask (register n))).table.spsms) (1 ∷ 0x81 ∷ 255 ∷ [])
       ≡ (2 ∷ replicate 15 0 ++ (1 ∷ replicate 15 0)) ∷ (replicate 16 0 ++ (3 ∷ replicate 15 0)) ∷ (replicate 16 0 ++ (1 ∷ replicate 14 0 ++ (128 ∷ []))) ∷ []
-  attentions : Agree (
+  pub attentions : Agree (
       (attended (asked 1 7 0) (ours 1 8 0), answered (Attention 0 0 2))  -- none, whatever stands past N
       ∷ (attended (connected 1 1) (quiet (Disconnecting true) 1 1), answered (Attention 0 0 2))  -- none: announced already
       ∷ (attended (at 2 1 idle (one 0)) (free 0), answered (Attention 1 1 0))  -- a job waits
       ∷ (attended (free 0) (failed 1 NoResources 0), answered (Attention 2 1 1))  -- ConnectFailed
       ∷ (attended (quiet (Disconnecting false) 1 1) (quiet (PeerDisconnecting 8) 2 1), answered (Attention 3 2 0))  -- a disconnect is due
       ∷ [])
-  lowest_free_lem : lowest_free [] ∷ lowest_free (free 1 ∷ connected 1 0 ∷ []) ∷ lowest_free (free 1 ∷ connected 1 0 ∷ free 0 ∷ free 0 ∷ []) ∷ [] ≡ 0 ∷ 2 ∷ 2 ∷ []
-  queries : Agree (
+  pub lowest_free_lem : lowest_free [] ∷ lowest_free (free 1 ∷ connected 1 0 ∷ []) ∷ lowest_free (free 1 ∷ connected 1 0 ∷ free 0 ∷ free 0 ∷ []) ∷ [] ≡ 0 ∷ 2 ∷ 2 ∷ []
+  pub queries : Agree (
       (asking (λ x. x.spsm) 1 (two (free 0) (connected 1 1)), answered (Number 0x80))
       ∷ (asking (λ x. x.mtu) 1 (two (free 0) (connected 1 1)), answered (Number 23))
       ∷ (asking (λ x. x.mps) 0 (two (connected 1 1) (free 0)), answered (Number 25))
@@ -687,100 +563,69 @@ record Asking_lines : Type 0 where
       ∷ (asking (λ x. x.peer.mps) 0 (two (asked 1 7 0) (free 0)), answered (Number 23))
       ∷ (asking (λ x. x.mtu) 0 (two (free 0) (free 0)), answered (Number 0))
       ∷ [])
-  senders : Hold (
+  pub senders : Hold (
       two (free 0) (free 0) ⊢ ask (sends_signal 1 (Signal.ConnParamUpdateReq (record { min = 6; max = 8; latency = 0; timeout = 10 })))
       ⇒ yes Done & next 6 & writes (12 ∷ 0 ∷ 5 ∷ 0 ∷ 0x12 ∷ 5 ∷ 8 ∷ 0 ∷ 6 ∷ 0 ∷ 8 ∷ 0 ∷ 0 ∷ 0 ∷ 10 ∷ 0 ∷ [])
       ∷ two (free 0) (free 0) ⊢ ask (sends_signal 1 (Signal.ConnParamUpdateRes (record { result = 1 }))) ⇒ yes Done & next 6 & writes (6 ∷ 0 ∷ 5 ∷ 0 ∷ 0x13 ∷ 5 ∷ 2 ∷ 0 ∷ 1 ∷ 0 ∷ [])
       ∷ [])
 
-asking_lines : Asking_lines
-unfolding after decide serve jobs bare register_spsm attention bitset count query send_signal verdict well_formed slot_fits Each.every first only choose parts moves move fill fills written encode_of
-asking_lines = record { registers = refl; registered = refl; attentions = refl; lowest_free_lem = refl; queries = refl; senders = refl }
-
 -- ---- every state, in every call that asks for it
 
 -- A slot of link 1 in each of the states, with so many holds: what a call answers, and the state that it leaves.
-abbrev each-state : List ChannelState
+abbrev pub each-state : List ChannelState
 each-state = Disconnected ∷ Connecting 7 ∷ PeerConnecting 7 ∷ Connected ∷ ConnectFailed NoResources ∷ PeerDisconnecting 8 ∷ Disconnecting false ∷ Disconnecting true ∷ []
 
-abbrev in_each : (hold : ℕ) → Call → List ℕ
+abbrev pub in_each : (hold : ℕ) → Call → List ℕ
 in_each h c = map (λ k. answer_number (outcome (start (two (quiet k 1 h) (free 0))) c).answer) each-state
 
-abbrev left_by : (hold : ℕ) → Call → List ChannelState
+abbrev pub left_by : (hold : ℕ) → Call → List ChannelState
 left_by h c = map (λ k. (slot_at (outcome (start (two (quiet k 1 h) (free 0))) c).table 0).state) each-state
 
-record State_lines : Type 0 where
+pub record State_lines : Type 0 where
   --                                               Disconnected, Connecting, PeerConnecting, Connected, ConnectFailed, PeerDisconnecting, Disconnecting (new, announced)
-  next-pending : in_each 1 (ask (pends 1 true)) ≡ 0 ∷ 0 ∷ 22 ∷ 0 ∷ 0 ∷ 0 ∷ 0 ∷ 0 ∷ []
-  accept : in_each 1 (ask (accepts 0 usual)) ≡ 8 ∷ 8 ∷ 0 ∷ 8 ∷ 8 ∷ 8 ∷ 8 ∷ 8 ∷ []
-  reject-one : in_each 1 (ask (rejects 0 (Known Success))) ≡ 8 ∷ 8 ∷ 0 ∷ 8 ∷ 8 ∷ 8 ∷ 8 ∷ 8 ∷ []
-  drop-pending : in_each 0 (ask (drops 0)) ≡ 22 ∷ 22 ∷ 22 ∷ 0 ∷ 22 ∷ 22 ∷ 22 ∷ 22 ∷ []
-  opened-query : in_each 1 (ask (opens 0 1 true)) ≡ 18 ∷ 0 ∷ 0 ∷ 22 ∷ 17 ∷ 18 ∷ 18 ∷ 18 ∷ []
-  give_up_lem : in_each 0 (ask (gives 0)) ≡ 8 ∷ 0 ∷ 8 ∷ 0 ∷ 0 ∷ 8 ∷ 8 ∷ 8 ∷ []
-  response_in : in_each 0 (hear 1 (response 7 0)) ≡ 8 ∷ 0 ∷ 8 ∷ 8 ∷ 8 ∷ 8 ∷ 8 ∷ 8 ∷ []
-  credits_in_lem : in_each 0 (hear 1 (credits 0x40 1)) ≡ 8 ∷ 8 ∷ 8 ∷ 0 ∷ 8 ∷ 8 ∷ 8 ∷ 8 ∷ []
-  frame_in_lem : in_each 0 (frame 1 0x40 []) ≡ 0 ∷ 0 ∷ 0 ∷ 19 ∷ 0 ∷ 0 ∷ 0 ∷ 0 ∷ []
-  sending : in_each 0 (sends 0 [] (window 0 18)) ≡ 11 ∷ 11 ∷ 11 ∷ 0 ∷ 11 ∷ 11 ∷ 11 ∷ 11 ∷ []
-  taking : in_each 0 (ask (takes 0)) ≡ 11 ∷ 11 ∷ 11 ∷ 0 ∷ 11 ∷ 0 ∷ 0 ∷ 0 ∷ []
+  pub next-pending : in_each 1 (ask (pends 1 true)) ≡ 0 ∷ 0 ∷ 22 ∷ 0 ∷ 0 ∷ 0 ∷ 0 ∷ 0 ∷ []
+  pub accept : in_each 1 (ask (accepts 0 usual)) ≡ 8 ∷ 8 ∷ 0 ∷ 8 ∷ 8 ∷ 8 ∷ 8 ∷ 8 ∷ []
+  pub reject-one : in_each 1 (ask (rejects 0 (Known Success))) ≡ 8 ∷ 8 ∷ 0 ∷ 8 ∷ 8 ∷ 8 ∷ 8 ∷ 8 ∷ []
+  pub drop-pending : in_each 0 (ask (drops 0)) ≡ 22 ∷ 22 ∷ 22 ∷ 0 ∷ 22 ∷ 22 ∷ 22 ∷ 22 ∷ []
+  pub opened-query : in_each 1 (ask (opens 0 1 true)) ≡ 18 ∷ 0 ∷ 0 ∷ 22 ∷ 17 ∷ 18 ∷ 18 ∷ 18 ∷ []
+  pub give_up_lem : in_each 0 (ask (gives 0)) ≡ 8 ∷ 0 ∷ 8 ∷ 0 ∷ 0 ∷ 8 ∷ 8 ∷ 8 ∷ []
+  pub response_in : in_each 0 (hear 1 (response 7 0)) ≡ 8 ∷ 0 ∷ 8 ∷ 8 ∷ 8 ∷ 8 ∷ 8 ∷ 8 ∷ []
+  pub credits_in_lem : in_each 0 (hear 1 (credits 0x40 1)) ≡ 8 ∷ 8 ∷ 8 ∷ 0 ∷ 8 ∷ 8 ∷ 8 ∷ 8 ∷ []
+  pub frame_in_lem : in_each 0 (frame 1 0x40 []) ≡ 0 ∷ 0 ∷ 0 ∷ 19 ∷ 0 ∷ 0 ∷ 0 ∷ 0 ∷ []
+  pub sending : in_each 0 (sends 0 [] (window 0 18)) ≡ 11 ∷ 11 ∷ 11 ∷ 0 ∷ 11 ∷ 11 ∷ 11 ∷ 11 ∷ []
+  pub taking : in_each 0 (ask (takes 0)) ≡ 11 ∷ 11 ∷ 11 ∷ 0 ∷ 11 ∷ 0 ∷ 0 ∷ 0 ∷ []
   -- a hold released, to 0; a disconnect; a response that matches none; 0x06 and 0x07; link down; a disconnect announced or answered
-  released : left_by 1 (ask (releases 0))
+  pub released : left_by 1 (ask (releases 0))
       ≡ Disconnected ∷ Connecting 7 ∷ PeerConnecting 7 ∷ Disconnecting false ∷ ConnectFailed NoResources ∷ PeerDisconnecting 8 ∷ Disconnecting false ∷ Disconnecting true ∷ []
-  by-slot : left_by 1 (ask (leaves 0))
+  pub by-slot : left_by 1 (ask (leaves 0))
       ≡ Disconnected ∷ Connecting 7 ∷ PeerConnecting 7 ∷ Disconnecting false ∷ ConnectFailed NoResources ∷ PeerDisconnecting 8 ∷ Disconnecting false ∷ Disconnecting true ∷ []
-  unmatched : left_by 1 (hear 1 (response 9 0))
+  pub unmatched : left_by 1 (hear 1 (response 9 0))
       ≡ Disconnected ∷ Disconnected ∷ PeerConnecting 7 ∷ Connected ∷ ConnectFailed NoResources ∷ PeerDisconnecting 8 ∷ Disconnecting false ∷ Disconnecting true ∷ []
-  request_in : left_by 1 (hear 1 (leaving 9 0x40 0x40)) ≡ Disconnected ∷ replicate 7 (PeerDisconnecting 9)
-  gone_in : left_by 1 (hear 1 (gone 0x40 0x40))
+  pub request_in : left_by 1 (hear 1 (leaving 9 0x40 0x40)) ≡ Disconnected ∷ replicate 7 (PeerDisconnecting 9)
+  pub gone_in : left_by 1 (hear 1 (gone 0x40 0x40))
       ≡ Disconnected ∷ Connecting 7 ∷ PeerConnecting 7 ∷ Connected ∷ ConnectFailed NoResources ∷ PeerDisconnecting 8 ∷ Disconnected ∷ Disconnected ∷ []
-  link_down : left_by 1 (down 1) ≡ replicate 8 Disconnected
-  announced : left_by 1 (ask announces)
+  pub link_down : left_by 1 (down 1) ≡ replicate 8 Disconnected
+  pub announced : left_by 1 (ask announces)
       ≡ Disconnected ∷ Connecting 7 ∷ PeerConnecting 7 ∷ Connected ∷ ConnectFailed NoResources ∷ Disconnected ∷ Disconnecting true ∷ Disconnecting true ∷ []
   -- who calls; whose peer CID is in use (the other slot is given out, or not)
-  attending : map (λ k. attended (quiet k 1 1) (free 0)) each-state
+  pub attending : map (λ k. attended (quiet k 1 1) (free 0)) each-state
       ≡ replicate 4 (answered (Attention 0 0 2)) ++ replicate 3 (answered (Attention 1 1 0)) ++ (answered (Attention 0 0 2) ∷ [])
-  used : map (λ k. (slot_at (outcome (start (two (quiet k 1 1) (free 0))) (hear 1 (request 7 0x80 0x40))).table 1).state) each-state ≡ PeerConnecting 7 ∷ replicate 7 Disconnected
+  pub used : map (λ k. (slot_at (outcome (start (two (quiet k 1 1) (free 0))) (hear 1 (request 7 0x80 0x40))).table 1).state) each-state ≡ PeerConnecting 7 ∷ replicate 7 Disconnected
   -- no slot but a Disconnected one is given out
-  no_free_slot : map (λ k. answer_number (outcome (start (two (free 1) (quiet k 1 0))) (ask (creates 2 0x81 usual))).answer) each-state ≡ 0 ∷ replicate 7 13
-
-state_lines : State_lines
-unfolding after decide serve jobs bare next_pending accept_pending reject_pending drop_pending create opened give_up dec_ref disconnecting disconnect disconnected next_disconnect signalled checked headers_of whole handled on_disconnection_req disconnection_req on_disconnection_res disconnection_res on_conn_req le_credit_conn_req on_conn_res le_credit_conn_res result_of on_credits le_credit_flow_ind dispatch joined join_step first_step reached assembled send planned plan_send frame_count ceil frames_length frames later_frames receive attention bitset count verdict well_formed slot_fits Each.every first only choose encode_of
-state_lines =
-    record {
-      next-pending = refl;
-      accept = refl;
-      reject-one = refl;
-      drop-pending = refl;
-      opened-query = refl;
-      give_up_lem = refl;
-      response_in = refl;
-      credits_in_lem = refl;
-      frame_in_lem = refl;
-      sending = refl;
-      taking = refl;
-      released = refl;
-      by-slot = refl;
-      unmatched = refl;
-      request_in = refl;
-      gone_in = refl;
-      link_down = refl;
-      announced = refl;
-      attending = refl;
-      used = refl;
-      no_free_slot = refl;
-    }
+  pub no_free_slot : map (λ k. answer_number (outcome (start (two (free 1) (quiet k 1 0))) (ask (creates 2 0x81 usual))).answer) each-state ≡ 0 ∷ replicate 7 13
 
 -- ---- the refusals that come first
 
 -- A table that is none: D 5.
-abbrev bad : Table
+abbrev pub bad : Table
 bad = record { slots = free 0 ∷ free 0 ∷ []; n = 2; d = 5; m = 29; identifier = 5; spsms = replicate 32 0 }
 
-abbrev good : Table
+abbrev pub good : Table
 good = two (free 0) (free 0)
 
 -- A call is made with everything wrong: table, room (137 octets), signal buffer (17), link (0x0F00), slot (2). Then these are put right, one
 -- after the other; the sixth answer is the call's own.
-abbrev ladder : ((link slot : ℕ) → Call) → List ℕ
+abbrev pub ladder : ((link slot : ℕ) → Call) → List ℕ
 ladder c =
     map (λ o. answer_number o.answer)
     (decide bad (c 0x0F00 2) 0 137 17 4
@@ -791,41 +636,41 @@ ladder c =
     ∷ decide good (c 1 1) 0 138 18 4
     ∷ [])
 
-abbrev fits : Slot → Bool
+abbrev pub fits : Slot → Bool
 fits x = well_formed (two x (free 0))
 
-abbrev sized-slot : (mtu : ℕ) → CreditFlowControl → Assembly → Queue → Slot
+abbrev pub sized-slot : (mtu : ℕ) → CreditFlowControl → Assembly → Queue → Slot
 sized-slot mtu a s q = record { state = Connected; link = 1; spsm = 0x80; mps = 25; mtu = mtu; account = a; hold = 1; peer = peer 3; assembly = s; queue = q; job = no_job; tallies = untold }
 
-record Gate_lines : Type 0 where
+pub record Gate_lines : Type 0 where
   --                                                   table room signal link slot, its own
-  registers : ladder (λ l s. ask (register 0x80)) ≡ 1 ∷ 0 ∷ 0 ∷ 0 ∷ 0 ∷ 0 ∷ []
-  signals_in : ladder (λ l s. ask (signals l true true [])) ≡ 1 ∷ 2 ∷ 3 ∷ 4 ∷ 0 ∷ 0 ∷ []
-  next-pending : ladder (λ l s. ask (pends l true)) ≡ 1 ∷ 4 ∷ 4 ∷ 4 ∷ 0 ∷ 0 ∷ []
-  reject_all : ladder (λ l s. ask (rejects_all l)) ≡ 1 ∷ 2 ∷ 3 ∷ 4 ∷ 0 ∷ 0 ∷ []
-  accept : ladder (λ l s. ask (accepts s usual)) ≡ 1 ∷ 3 ∷ 3 ∷ 6 ∷ 6 ∷ 8 ∷ []
-  reject-one : ladder (λ l s. ask (rejects s (Known Success))) ≡ 1 ∷ 2 ∷ 3 ∷ 6 ∷ 6 ∷ 8 ∷ []
-  reject_no_code : ladder (λ l s. ask (rejects s Unknown)) ≡ 1 ∷ 2 ∷ 3 ∷ 6 ∷ 6 ∷ 15 ∷ []
-  drop-pending : ladder (λ l s. ask (drops s)) ≡ 1 ∷ 2 ∷ 6 ∷ 6 ∷ 6 ∷ 22 ∷ []
-  creating : ladder (λ l s. ask (creates l 0x81 (sized 24 26))) ≡ 1 ∷ 3 ∷ 3 ∷ 4 ∷ 12 ∷ 12 ∷ []
-  opened-query : ladder (λ l s. ask (opens s l true)) ≡ 1 ∷ 2 ∷ 4 ∷ 4 ∷ 6 ∷ 18 ∷ []
-  give_up_lem : ladder (λ l s. ask (gives s)) ≡ 1 ∷ 2 ∷ 6 ∷ 6 ∷ 6 ∷ 8 ∷ []
-  add_hold : ladder (λ l s. ask (holds s)) ≡ 1 ∷ 6 ∷ 6 ∷ 6 ∷ 6 ∷ 0 ∷ []
-  release : ladder (λ l s. ask (releases s)) ≡ 1 ∷ 2 ∷ 6 ∷ 6 ∷ 6 ∷ 22 ∷ []
-  by-slot : ladder (λ l s. ask (leaves s)) ≡ 1 ∷ 2 ∷ 6 ∷ 6 ∷ 6 ∷ 0 ∷ []
-  by_CID : ladder (λ l s. ask (leaves_cid 0x40)) ≡ 1 ∷ 2 ∷ 0 ∷ 0 ∷ 0 ∷ 0 ∷ []
-  link_down : ladder (λ l s. down l) ≡ 1 ∷ 2 ∷ 4 ∷ 4 ∷ 0 ∷ 0 ∷ []
-  next-disconnect : ladder (λ l s. ask announces) ≡ 1 ∷ 2 ∷ 3 ∷ 0 ∷ 0 ∷ 0 ∷ []
-  frame_in_lem : ladder (λ l s. frame l 0x3F []) ≡ 1 ∷ 2 ∷ 4 ∷ 4 ∷ 7 ∷ 7 ∷ []
-  sending : ladder (λ l s. sends s [] (window 0 18)) ≡ 1 ∷ 6 ∷ 6 ∷ 6 ∷ 6 ∷ 11 ∷ []
-  taking : ladder (λ l s. ask (takes s)) ≡ 1 ∷ 2 ∷ 3 ∷ 6 ∷ 6 ∷ 11 ∷ []
-  attending : ladder (λ l s. ask attends) ≡ 1 ∷ 0 ∷ 0 ∷ 0 ∷ 0 ∷ 0 ∷ []
-  querying : ladder (λ l s. ask (asks (λ x. x.mtu) s)) ≡ 1 ∷ 6 ∷ 6 ∷ 6 ∷ 6 ∷ 0 ∷ []
-  senders : ladder (λ l s. ask (sends_signal l (Signal.ConnParamUpdateRes (record { result = 1 })))) ≡ 1 ∷ 3 ∷ 3 ∷ 4 ∷ 0 ∷ 0 ∷ []
+  pub registers : ladder (λ l s. ask (register 0x80)) ≡ 1 ∷ 0 ∷ 0 ∷ 0 ∷ 0 ∷ 0 ∷ []
+  pub signals_in : ladder (λ l s. ask (signals l true true [])) ≡ 1 ∷ 2 ∷ 3 ∷ 4 ∷ 0 ∷ 0 ∷ []
+  pub next-pending : ladder (λ l s. ask (pends l true)) ≡ 1 ∷ 4 ∷ 4 ∷ 4 ∷ 0 ∷ 0 ∷ []
+  pub reject_all : ladder (λ l s. ask (rejects_all l)) ≡ 1 ∷ 2 ∷ 3 ∷ 4 ∷ 0 ∷ 0 ∷ []
+  pub accept : ladder (λ l s. ask (accepts s usual)) ≡ 1 ∷ 3 ∷ 3 ∷ 6 ∷ 6 ∷ 8 ∷ []
+  pub reject-one : ladder (λ l s. ask (rejects s (Known Success))) ≡ 1 ∷ 2 ∷ 3 ∷ 6 ∷ 6 ∷ 8 ∷ []
+  pub reject_no_code : ladder (λ l s. ask (rejects s Unknown)) ≡ 1 ∷ 2 ∷ 3 ∷ 6 ∷ 6 ∷ 15 ∷ []
+  pub drop-pending : ladder (λ l s. ask (drops s)) ≡ 1 ∷ 2 ∷ 6 ∷ 6 ∷ 6 ∷ 22 ∷ []
+  pub creating : ladder (λ l s. ask (creates l 0x81 (sized 24 26))) ≡ 1 ∷ 3 ∷ 3 ∷ 4 ∷ 12 ∷ 12 ∷ []
+  pub opened-query : ladder (λ l s. ask (opens s l true)) ≡ 1 ∷ 2 ∷ 4 ∷ 4 ∷ 6 ∷ 18 ∷ []
+  pub give_up_lem : ladder (λ l s. ask (gives s)) ≡ 1 ∷ 2 ∷ 6 ∷ 6 ∷ 6 ∷ 8 ∷ []
+  pub add_hold : ladder (λ l s. ask (holds s)) ≡ 1 ∷ 6 ∷ 6 ∷ 6 ∷ 6 ∷ 0 ∷ []
+  pub release : ladder (λ l s. ask (releases s)) ≡ 1 ∷ 2 ∷ 6 ∷ 6 ∷ 6 ∷ 22 ∷ []
+  pub by-slot : ladder (λ l s. ask (leaves s)) ≡ 1 ∷ 2 ∷ 6 ∷ 6 ∷ 6 ∷ 0 ∷ []
+  pub by_CID : ladder (λ l s. ask (leaves_cid 0x40)) ≡ 1 ∷ 2 ∷ 0 ∷ 0 ∷ 0 ∷ 0 ∷ []
+  pub link_down : ladder (λ l s. down l) ≡ 1 ∷ 2 ∷ 4 ∷ 4 ∷ 0 ∷ 0 ∷ []
+  pub next-disconnect : ladder (λ l s. ask announces) ≡ 1 ∷ 2 ∷ 3 ∷ 0 ∷ 0 ∷ 0 ∷ []
+  pub frame_in_lem : ladder (λ l s. frame l 0x3F []) ≡ 1 ∷ 2 ∷ 4 ∷ 4 ∷ 7 ∷ 7 ∷ []
+  pub sending : ladder (λ l s. sends s [] (window 0 18)) ≡ 1 ∷ 6 ∷ 6 ∷ 6 ∷ 6 ∷ 11 ∷ []
+  pub taking : ladder (λ l s. ask (takes s)) ≡ 1 ∷ 2 ∷ 3 ∷ 6 ∷ 6 ∷ 11 ∷ []
+  pub attending : ladder (λ l s. ask attends) ≡ 1 ∷ 0 ∷ 0 ∷ 0 ∷ 0 ∷ 0 ∷ []
+  pub querying : ladder (λ l s. ask (asks (λ x. x.mtu) s)) ≡ 1 ∷ 6 ∷ 6 ∷ 6 ∷ 6 ∷ 0 ∷ []
+  pub senders : ladder (λ l s. ask (sends_signal l (Signal.ConnParamUpdateRes (record { result = 1 })))) ≡ 1 ∷ 3 ∷ 3 ∷ 4 ∷ 0 ∷ 0 ∷ []
   -- a room that is too long; the last link and the least
-  edges : map (λ o. answer_number o.answer) (decide good (ask (opens 0 0 true)) 0 139 18 4 ∷ decide good (ask (opens 0 0x0EFF true)) 0 138 18 4 ∷ []) ≡ 2 ∷ 18 ∷ []
+  pub edges : map (λ o. answer_number o.answer) (decide good (ask (opens 0 0 true)) 0 139 18 4 ∷ decide good (ask (opens 0 0x0EFF true)) 0 138 18 4 ∷ []) ≡ 2 ∷ 18 ∷ []
   -- row 1: a job, a queue count or a local MTU beyond its place, a credit sum above 65,535; each broken alone, and each at its limit
-  unfit : fits (sized-slot 23 (every 1 3 0) idle (record { count = 3; lens = replicate 4 0 }))
+  pub unfit : fits (sized-slot 23 (every 1 3 0) idle (record { count = 3; lens = replicate 4 0 }))
       ∷ fits (sized-slot 23 (every 1 3 0) idle (one 24))
       ∷ fits (sized-slot 23 (every 1 3 0) idle (both 0 24))
       ∷ fits (sized-slot 23 (every 1 3 0) (partly 24 0) none)
@@ -835,64 +680,28 @@ record Gate_lines : Type 0 where
       ∷ well_formed (two (free 0) (sized-slot 24 (every 1 3 0) idle none))
       ∷ []
       ≡ replicate 8 false
-  fit : fits (sized-slot 23 (every 1 65534 1) (partly 23 23) (both 23 23))
+  pub fit : fits (sized-slot 23 (every 1 65534 1) (partly 23 23) (both 23 23))
       ∷ fits (sized-slot 23 (every 1 3 0) idle (record { count = 1; lens = 23 ∷ 24 ∷ 24 ∷ 24 ∷ [] }))  -- what no job waits in
       ∷ well_formed (three (free 0) (free 0) (sized-slot 24 (every 1 3 0) idle none))  -- past N
       ∷ []
       ≡ replicate 3 true
 
-gate_lines : Gate_lines
-unfolding decide serve register_spsm signalled checked headers_of whole next_pending reject_all_pending accept_pending reject_pending not_code drop_pending create opened give_up inc_ref dec_ref disconnect disconnecting disconnect_by_cid disconnected next_disconnect dispatch send receive attention query send_signal verdict well_formed slot_fits Each.every first choose
-gate_lines =
-    record {
-      registers = refl;
-      signals_in = refl;
-      next-pending = refl;
-      reject_all = refl;
-      accept = refl;
-      reject-one = refl;
-      reject_no_code = refl;
-      drop-pending = refl;
-      creating = refl;
-      opened-query = refl;
-      give_up_lem = refl;
-      add_hold = refl;
-      release = refl;
-      by-slot = refl;
-      by_CID = refl;
-      link_down = refl;
-      next-disconnect = refl;
-      frame_in_lem = refl;
-      sending = refl;
-      taking = refl;
-      attending = refl;
-      querying = refl;
-      senders = refl;
-      edges = refl;
-      unfit = refl;
-      fit = refl;
-    }
-
 -- ---- making
 
-abbrev making : (n d m : ℕ) → ℕ
+abbrev pub making : (n d m : ℕ) → ℕ
 making n d m = answer_number (make n d m []).answer
 
-record Making_lines : Type 0 where
+pub record Making_lines : Type 0 where
   -- with no room: 1 where a size is out of its limits, 2 where all are within
-  limits : making 0 1 29 ∷ making 17 1 29 ∷ making 1 0 29 ∷ making 1 5 29 ∷ making 1 1 28 ∷ making 1 1 1025 ∷ making 1 1 29 ∷ making 16 4 1024 ∷ [] ≡ 1 ∷ 1 ∷ 1 ∷ 1 ∷ 1 ∷ 1 ∷ 2 ∷ 2 ∷ []
+  pub limits : making 0 1 29 ∷ making 17 1 29 ∷ making 1 0 29 ∷ making 1 5 29 ∷ making 1 1 28 ∷ making 1 1 1025 ∷ making 1 1 29 ∷ making 16 4 1024 ∷ [] ≡ 1 ∷ 1 ∷ 1 ∷ 1 ∷ 1 ∷ 1 ∷ 2 ∷ 2 ∷ []
   -- one octet too few, one too many
-  short : told (make 1 1 29 (replicate 45 5)).answer ∷ told (make 1 1 29 (replicate 47 5)).answer ∷ [] ≡ refused 2 ∷ refused 2 ∷ []
+  pub short : told (make 1 1 29 (replicate 45 5)).answer ∷ told (make 1 1 29 (replicate 47 5)).answer ∷ [] ≡ refused 2 ∷ refused 2 ∷ []
   -- a refused making gives a table of no slots, and leaves the room
-  no-slots : (make 1 1 29 (replicate 45 5)).table ∷ (make 1 1 28 []).table ∷ [] ≡ replicate 2 (record { slots = replicate 16 (free 0); n = 0; d = 0; m = 0; identifier = 1; spsms = replicate 32 0 })
-  left : (make 1 1 29 (replicate 3 5)).room ∷ (make 0 1 29 (replicate 3 5)).room ∷ [] ≡ replicate 2 (replicate 3 5)
-  made_table : (make 1 1 29 (replicate 46 5)).table ≡ record { slots = replicate 16 (free 0); n = 1; d = 1; m = 29; identifier = 1; spsms = replicate 32 0 }
-  made-room : (make 1 1 29 (replicate 46 5)).room ≡ replicate 46 0
-  answer : (make 1 1 29 (replicate 46 5)).answer ≡ Done
-
-making_lines : Making_lines
-unfolding make choose
-making_lines = record { limits = refl; short = refl; no-slots = refl; left = refl; made_table = refl; made-room = refl; answer = refl }
+  pub no-slots : (make 1 1 29 (replicate 45 5)).table ∷ (make 1 1 28 []).table ∷ [] ≡ replicate 2 (record { slots = replicate 16 (free 0); n = 0; d = 0; m = 0; identifier = 1; spsms = replicate 32 0 })
+  pub left : (make 1 1 29 (replicate 3 5)).room ∷ (make 0 1 29 (replicate 3 5)).room ∷ [] ≡ replicate 2 (replicate 3 5)
+  pub made_table : (make 1 1 29 (replicate 46 5)).table ≡ record { slots = replicate 16 (free 0); n = 1; d = 1; m = 29; identifier = 1; spsms = replicate 32 0 }
+  pub made-room : (make 1 1 29 (replicate 46 5)).room ≡ replicate 46 0
+  pub answer : (make 1 1 29 (replicate 46 5)).answer ≡ Done
 
 -- ---- every test, and the lines that break when it is dropped, or swapped with the next ("a > b": a line in which both hold and a decides)
 --

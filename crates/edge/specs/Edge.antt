@@ -13,7 +13,7 @@ use Rattle.channel.specs.declared.Table.{Table}
 use Rattle.definition.specs.Table.{when◌then◌else◌}
 use Rattle.definition.specs.Ending.{End, end}
 use Rattle.edge_layout.specs.Layout.{read, written, table_octets}
-use Rattle.edge_layout.specs.Back.{written_back}
+use Rattle.edge_layout.proofs.Back.{written_back}
 use Rattle.edge_layout.specs.declared.Decoded.{Decoded}
 use Rattle.channel_answer.specs.Tells.{tells, answer_number}
 use Rattle.edge_answer.specs.Answers.{told_octets, answer_octets}

@@ -12,7 +12,7 @@ use Rattle.definition.specs.Table.{room_width}
 use Rattle.definition.specs.Outcome.{verdict}
 use Rattle.edge_layout.specs.Layout.{read}
 use Rattle.edge_scan.specs.Scan.{valid_octets}
-use Rattle.edge_row.specs.Gate.{passes}
+use Rattle.edge_row.proofs.Gate.{passes}
 use Rattle.edge_run.specs.declared.Ended.{Ended}
 use Rattle.edge_run.specs.Run.{ended_as, ran_octets, run_edge, begun, told}
 use Rattle.edge_dispatch_run.specs.Frames.{lent_by, frames_run, left_by, dispatch_run_edge}

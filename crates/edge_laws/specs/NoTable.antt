@@ -24,7 +24,8 @@ use Rattle.definition.specs.Pending.{next_pending, reject_all_pending, accept_pe
 use Rattle.definition.specs.Portions.{start_job, give_portion, cancel_job}
 use Rattle.definition.specs.Signals.{signalled}
 use Rattle.definition.specs.Calls.{Call, frame, sends, portions, down, plain, Request, register, signals, pends, rejects_all, accepts, rejects, drops, creates, opens, gives, holds, releases, leaves, leaves_cid, announces, takes, starts, cancels, attends, asks, sends_signal, writes, jobs, serve, decide}
-use Rattle.definition.specs.Ending.{End, end, gave, end_of, end-still}
+use Rattle.definition.specs.Ending.{End, end, gave, end_of}
+use Rattle.definition.proofs.Ending.{end-still}
 use Rattle.edge_layout.specs.declared.Decoded.{Decoded}
 use Rattle.edge_layout.specs.Layout.{read}
 use Rattle.edge_answer.specs.Answers.{answer_octets}

@@ -5,7 +5,7 @@ use Rattle.std.proofs.lemmas.List.Edits.{sets}
 use Rattle.lists.specs.Both.{and_left, and_right}
 use Rattle.edge_layout.specs.Layout.{tabulate}
 use Rattle.edge_layout.specs.Spelled.{all_below}
-use Rattle.edge_layout.specs.Columns.{tabulate-length, tabulate-at}
+use Rattle.edge_layout.proofs.Columns.{tabulate-length, tabulate-at}
 use Rattle.lists.specs.Sets.{sets-whole}
 
 -- ---- f 0, f 1, ..

@@ -20,9 +20,10 @@ use Rattle.definition.specs.Asking.{no_slots}
 use Rattle.edge_layout.specs.declared.Decoded.{Decoded}
 use Rattle.edge_layout.specs.Layout.{layout_number, head_octets, spsm_octets, column_count, table_octets, row, tabulate, head, columns, spell, cell, slot_in, taken, same, read}
 use Rattle.edge_layout.specs.Spelled.{row_spelled, all_below, head_spelled, rows_spelled}
-use Rattle.edge_layout.specs.Rows.{row-passes, row_forth}
-use Rattle.edge_layout.specs.Columns.{tabulate-length, tabulate-at, tabulated, column_octet, column_octet_lem, spell-length, cell_at}
-use Rattle.edge_layout.specs.Back.{same_refl, same_eq}
+use Rattle.edge_layout.proofs.Rows.{row-passes, row_forth}
+use Rattle.edge_layout.specs.Columns.{column_octet}
+use Rattle.edge_layout.proofs.Columns.{tabulate-length, tabulate-at, tabulated, column_octet_lem, spell-length, cell_at}
+use Rattle.edge_layout.proofs.Back.{same_refl, same_eq}
 use Rattle.edge_layout_decode.specs.Loops.{all_below_lem, all_each}
 
 abbrev pub spelled : List ℕ → Bool

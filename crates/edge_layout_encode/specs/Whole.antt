@@ -9,7 +9,7 @@ use Rattle.channel.specs.Limits.{slots_most}
 use Rattle.channel.specs.declared.Slot.{Slot}
 use Rattle.channel.specs.declared.Table.{Table}
 use Rattle.edge_layout.specs.Layout.{spsm_octets, head_octets, column_count, table_octets, cell, row, head, columns, spell}
-use Rattle.edge_layout.specs.Columns.{columns-length, column_at}
+use Rattle.edge_layout.proofs.Columns.{columns-length, column_at}
 use Rattle.edge_layout_write.specs.Puts.{puts}
 use Rattle.edge_layout_write.specs.Cells.{place, put_rows, puts-length, rows-length, rows_other, rows_same}
 

@@ -4,7 +4,7 @@ use Rattle.std.proofs.Common.{◌∙◌, add-zero, add-suc, suc-add, zero-add, a
 use Rattle.channel.specs.Limits.{slots_most}
 use Rattle.channel.specs.declared.Slot.{Slot}
 use Rattle.edge_layout.specs.Layout.{head_octets, column_count, table_octets, cell, state_octets, local_octets, account_octets, peer_octets, assembly_octets, queue_octets, job_octets, tallies_octets, row}
-use Rattle.edge_layout.specs.Rows.{row-length}
+use Rattle.edge_layout.proofs.Rows.{row-length}
 use Rattle.edge_layout_write.specs.Puts.{puts}
 
 -- a slot's parts, written one after the other, are its row

@@ -14,7 +14,8 @@ use Rattle.channel_answer.specs.Tells.{answer_number}
 use Rattle.definition.specs.Mem.{sizes, parts}
 use Rattle.definition.specs.Table.{place_size, place_of, part_width, slot_at, put_slot}
 use Rattle.definition.specs.Outcome.{verdict, passed, only}
-use Rattle.definition.specs.Ending.{itself, end, end_of, gave, written_none}
+use Rattle.definition.specs.Ending.{itself, end, end_of, gave}
+use Rattle.definition.proofs.Ending.{written_none}
 use Rattle.definition.specs.Portions.{cancel_job, cancel_on}
 use Rattle.slot_work.specs.Work.{Work, worked_of, works_in}
 use Rattle.slot_portion.specs.Cancelling.{cancel_of, cancel_quiet}
@@ -23,8 +24,9 @@ use Rattle.edge_layout.specs.Layout.{cell, row, slot_in, read}
 use Rattle.edge_layout_write.specs.Puts.{puts}
 use Rattle.edge.specs.Edge.{Edge, edge}
 use Rattle.edge_scan.specs.Scan.{valid_octets}
-use Rattle.edge_row.specs.Row.{depth_told, packet_told, slot_read, row_written}
-use Rattle.edge_row.specs.Gate.{answered, changes, stopped, valid_read}
+use Rattle.edge_row.proofs.Row.{depth_told, packet_told, slot_read, row_written}
+use Rattle.edge_row.specs.Gate.{answered}
+use Rattle.edge_row.proofs.Gate.{changes, stopped, valid_read}
 use Rattle.edge_placed.specs.Frames.{cancel_edge}
 use Rattle.edge_placed.specs.Sent.{slot-within}
 

@@ -26,20 +26,22 @@ use Rattle.channel_answer.specs.Tells.{answer_number}
 use Rattle.definition.specs.Mem.{sizes, parts}
 use Rattle.definition.specs.Table.{when◌then◌else◌, gap, place_size, place_of, part_width, slot_at, found, is_connected, connected_to, put_slot}
 use Rattle.definition.specs.Outcome.{verdict, passed, gate, only}
-use Rattle.definition.specs.Ending.{itself, end, end_of, gave, end-still, written_none}
+use Rattle.definition.specs.Ending.{itself, end, end_of, gave}
+use Rattle.definition.proofs.Ending.{end-still, written_none}
 use Rattle.definition.specs.Signals.{on_credits}
 use Rattle.slot_work.specs.Work.{Work, worked_of, in_table, works_in}
 use Rattle.slot_credits.specs.Crediting.{credits_of}
 use Rattle.slot_credits.specs.Into.{credits-quiet, credits_astray, credits-into}
 use Rattle.edge_layout.specs.Layout.{cell, state_of, failed_by, slot_in, taken, read, written}
-use Rattle.edge_layout.specs.Columns.{tabulate-length, tabulate-at}
+use Rattle.edge_layout.proofs.Columns.{tabulate-length, tabulate-at}
 use Rattle.edge_layout_write.specs.Puts.{puts, left_row}
 use Rattle.edge.specs.Edge.{Edge, edge, on_table}
 use Rattle.edge_scan.specs.Scan.{valid_octets}
-use Rattle.edge_row.specs.Row.{table_taken, slots-told, depth_told, packet_told, slot_read, credits-written}
-use Rattle.edge_row.specs.Framed.{left-written}
-use Rattle.edge_row.specs.Gate.{answered, stays, changes, stopped, valid_read, valid_slots}
-use Rattle.edge_row.specs.Room.{row_low}
+use Rattle.edge_row.proofs.Row.{table_taken, slots-told, depth_told, packet_told, slot_read, credits-written}
+use Rattle.edge_row.proofs.Framed.{left-written}
+use Rattle.edge_row.specs.Gate.{answered}
+use Rattle.edge_row.proofs.Gate.{stays, changes, stopped, valid_read, valid_slots}
+use Rattle.edge_row.proofs.Room.{row_low}
 
 -- What the call leaves for a PDU that begins with a good credit signal. (Its identifier is of no account: no reply is written.)
 abbrev pub credits_edge : (table answer room signal : List ℕ) (link : ℕ) → LeCreditFlowInd → Edge

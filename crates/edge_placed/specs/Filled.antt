@@ -27,9 +27,10 @@ use Rattle.edge_layout.specs.Layout.{cell, slot_in, job_octets, read, written}
 use Rattle.edge_layout_write.specs.Puts.{puts, job_row}
 use Rattle.edge.specs.Edge.{Edge, edge, on_table}
 use Rattle.edge_scan.specs.Scan.{valid_octets}
-use Rattle.edge_row.specs.Row.{slot_read, job-written}
-use Rattle.edge_row.specs.Jobbed.{jobbed_written}
-use Rattle.edge_row.specs.Gate.{answered, changes, stopped, valid_read, passes_6}
+use Rattle.edge_row.proofs.Row.{slot_read, job-written}
+use Rattle.edge_row.proofs.Jobbed.{jobbed_written}
+use Rattle.edge_row.specs.Gate.{answered}
+use Rattle.edge_row.proofs.Gate.{changes, stopped, valid_read, passes_6}
 use Rattle.edge_placed.specs.Frames.{start_edge, portion_edge}
 use Rattle.edge_placed.specs.Sent.{slot-within}
 

@@ -24,10 +24,11 @@ use Rattle.channel_answer.specs.Tells.{answer_number}
 use Rattle.definition.specs.Mem.{Fill, sizes, parts}
 use Rattle.definition.specs.Table.{place_size, part_width, room_width, place_of, slot_at, slot_of, is_cid, is_connected, with_account, count_received, put_slot}
 use Rattle.definition.specs.Outcome.{verdict, passed, only}
-use Rattle.definition.specs.Ending.{itself, end, end_of, gave, written_none}
+use Rattle.definition.specs.Ending.{itself, end, end_of, gave}
+use Rattle.definition.proofs.Ending.{written_none}
 use Rattle.definition.specs.Frames.{dispatch, admitted}
 use Rattle.definition.specs.Calls.{frame, head_of, jobs, frame_in}
-use Rattle.definition.specs.Tells.{cid_within}
+use Rattle.definition.proofs.Tells.{cid_within}
 use Rattle.table_gate.specs.Fits.{have-fits}
 use Rattle.table_room.specs.Placed.{Placed}
 use Rattle.slot_work.specs.Work.{Work, worked, worked_of, works_in}
@@ -38,11 +39,13 @@ use Rattle.edge_layout.specs.Layout.{cell, slot_in, read, written}
 use Rattle.edge_layout_write.specs.Puts.{framed_row}
 use Rattle.edge.specs.Edge.{Edge, edge}
 use Rattle.edge_scan.specs.Scan.{valid_octets}
-use Rattle.edge_row.specs.Row.{slots-told, depth_told, packet_told, slot_read}
-use Rattle.edge_row.specs.Framed.{local_of, peer_of, middle_of, framed-written}
-use Rattle.edge_row.specs.Gate.{answered, stays, changes, stopped, valid_read, valid_formed, stops_4, passes}
-use Rattle.edge_row.specs.Room as Room
-pub use Rattle.edge_row.specs.Room.{sized-told}
+use Rattle.edge_row.proofs.Row.{slots-told, depth_told, packet_told, slot_read}
+use Rattle.edge_row.specs.Framed.{local_of, peer_of, middle_of}
+use Rattle.edge_row.proofs.Framed.{framed-written}
+use Rattle.edge_row.specs.Gate.{answered}
+use Rattle.edge_row.proofs.Gate.{stays, changes, stopped, valid_read, valid_formed, stops_4, passes}
+use Rattle.edge_row.proofs.Room as Room
+pub use Rattle.edge_row.proofs.Room.{sized-told}
 use Rattle.edge_placed.specs.Frames.{dispatch_edge}
 
 -- what the work on the slot of row s leaves, in the octets and in the room

@@ -14,7 +14,8 @@ use Rattle.channel.specs.declared.Verdict.TheVariants.{Pass, Stop}
 use Rattle.channel_answer.specs.Tells.{answer_number}
 use Rattle.definition.specs.Table.{slot_at, put_slot}
 use Rattle.definition.specs.Outcome.{verdict, passed}
-use Rattle.definition.specs.Ending.{End, end_of, end-still}
+use Rattle.definition.specs.Ending.{End, end_of}
+use Rattle.definition.proofs.Ending.{end-still}
 use Rattle.definition.specs.Frames.{send, sent_on}
 use Rattle.edge_layout.specs.Layout.{cell, slot_in, read, written}
 use Rattle.edge_layout_write.specs.Puts.{sent_row}
@@ -24,9 +25,10 @@ use Rattle.slot_work.specs.Work.{sending_as}
 use Rattle.slot_send.specs.Sending.{Work, work, sent_from}
 use Rattle.slot_send.specs.Into.{into, sent-into, sends_alone, sent-within}
 use Rattle.edge_scan.specs.Scan.{valid_octets}
-use Rattle.edge_row.specs.Row.{slot_read}
-use Rattle.edge_row.specs.Jobbed.{sent-written}
-use Rattle.edge_row.specs.Gate.{answered, changes, stopped, valid_read, valid_slots, passes_6}
+use Rattle.edge_row.proofs.Row.{slot_read}
+use Rattle.edge_row.proofs.Jobbed.{sent-written}
+use Rattle.edge_row.specs.Gate.{answered}
+use Rattle.edge_row.proofs.Gate.{changes, stopped, valid_read, valid_slots, passes_6}
 use Rattle.edge_placed.specs.Frames.{send_edge, sent_octets}
 
 -- a slot in use is one of the rows

@@ -33,10 +33,11 @@ use Rattle.edge_layout.specs.Layout.{cell, slot_in, read, written}
 use Rattle.edge_layout_write.specs.Puts.{taken_row}
 use Rattle.edge.specs.Edge.{Edge, edge}
 use Rattle.edge_scan.specs.Scan.{valid_octets}
-use Rattle.edge_row.specs.Row.{depth_told, packet_told, identifier_told, slot_read, spent-written}
-use Rattle.edge_row.specs.Taken.{taken-written, identifier_kept}
-use Rattle.edge_row.specs.Gate.{answered, changes, stopped, valid_read, stops_3, stops_6, passes}
-use Rattle.edge_row.specs.Room as Room
+use Rattle.edge_row.proofs.Row.{depth_told, packet_told, identifier_told, slot_read, spent-written}
+use Rattle.edge_row.proofs.Taken.{taken-written, identifier_kept}
+use Rattle.edge_row.specs.Gate.{answered}
+use Rattle.edge_row.proofs.Gate.{changes, stopped, valid_read, stops_3, stops_6, passes}
+use Rattle.edge_row.proofs.Room as Room
 use Rattle.edge_placed.specs.Frames.{receive_edge}
 
 -- the work on the slot of row s, by what the octets say

@@ -21,7 +21,7 @@ use Rattle.channel.specs.declared.Slot.{Slot}
 use Rattle.channel.specs.declared.Table.{Table}
 use Rattle.channel.specs.declared.Tally.{Tally}
 use Rattle.definition.specs.Table.{place_of, gap, slot_at, slot_of, is_cid, is_connected, room_width, live, lens_fit, is_open, job_fits, sizes_fit, slot_fits, well_formed, with_account, with_peer_credits, with_sends, count_received, blocks}
-use Rattle.definition.specs.Tells.{cid_within}
+use Rattle.definition.proofs.Tells.{cid_within}
 use Rattle.table_gate_sizes.specs.Sizes.{formed_sizes}
 use Rattle.definition.specs.Frames.{queued}
 use Rattle.slot_work.specs.Work.{Work}
@@ -32,10 +32,10 @@ use Rattle.slot_frame.specs.FrameIn.{joined_to, frame_of}
 use Rattle.edge_layout.specs.Layout.{cell, read, slot_in}
 use Rattle.edge.specs.Edge.{Edge}
 use Rattle.edge_scan.specs.Scan.{valid_octets}
-use Rattle.rules.specs.Keep.{every_set}
-use Rattle.edge_row.specs.Row.{slots-long, slots-told, slot_read}
-use Rattle.edge_row.specs.Gate.{valid_read, valid_formed, refused_2, refused_6}
-use Rattle.edge_row.specs.Stays.{valid_put}
+use Rattle.rules.proofs.Keep.{every_set}
+use Rattle.edge_row.proofs.Row.{slots-long, slots-told, slot_read}
+use Rattle.edge_row.proofs.Gate.{valid_read, valid_formed, refused_2, refused_6}
+use Rattle.edge_row.proofs.Stays.{valid_put}
 use Rattle.edge_placed.specs.Frames.{dispatch_edge, send_edge}
 use Rattle.edge_placed.specs.Sent.{slot-within, send_stopped, sent-table}
 use Rattle.edge_placed.specs.Incoming.{refused_4, frame_stopped, refused_7, row_low, frame-table}

@@ -4,7 +4,6 @@ pub mod Lift
 pub mod Start
 pub mod Telling
 pub mod Statement
-pub mod Isolation
 pub mod Rules
 pub mod Example
 pub mod Reading

@@ -14,7 +14,7 @@ use Rattle.definition.specs.Table.{fresh, place_size, slot_fits, well_formed}
 use Rattle.edge_layout.specs.declared.Decoded.{Decoded}
 use Rattle.edge_layout.specs.Layout.{head_octets, table_octets, tabulate, cell, slot_in, taken, read}
 use Rattle.edge_layout.specs.Spelled.{all_below}
-use Rattle.edge_layout.specs.Columns.{tabulate-length, tabulate-at}
+use Rattle.edge_layout.proofs.Columns.{tabulate-length, tabulate-at}
 use Rattle.edge_layout_decode.specs.Loops.{all_below_lem, all_each}
 use Rattle.edge_layout_decode.specs.Whole.{spelled, read-passes, read-fails, read_other}
 use Rattle.edge_scan.specs.Scan.{most_of, two_more, row_fits, row_passes, scanned, valid_octets}

@@ -14,7 +14,8 @@ use Rattle.definition.specs.Outcome.{verdict}
 use Rattle.edge_layout.specs.Layout.{read}
 use Rattle.edge.specs.Edge.{Edge, edge}
 use Rattle.edge_scan.specs.Scan.{valid_octets}
-use Rattle.edge_row.specs.Gate.{refused_1, sized_verdict, verdict-told}
+use Rattle.edge_row.specs.Gate.{sized_verdict}
+use Rattle.edge_row.proofs.Gate.{refused_1, verdict-told}
 use Rattle.edge_placed.specs.Frames.{send_edge, sent_octets}
 use Rattle.edge_placed.specs.Sent.{octets_within}
 use Rattle.edge_placed.specs.Valid.{send_valid}

@@ -1,3 +1,2 @@
 pub mod Kept
-pub mod Sized
 pub mod Said

@@ -1,12 +1,9 @@
 pub mod Statement
-pub mod Words
 pub mod Same
 pub mod Contained
 pub mod Masked
 pub mod Isolation
-pub mod Example
 pub mod Lives
-pub mod Reading
 pub mod Portions
 pub mod Excepted
 pub mod Own

@@ -1,41 +1,32 @@
 -- Document 01, 'Bench set': one table, one theorem. The rows of credits and CIDs are computed over a worked run; the row of frame counts is crate
 -- cutting's, for every job of those lengths.
-use Rattle.std.specs.Prelude.{◌≡◌, refl, true, false, List, [], ◌∷◌, ℕ, length, replicate}
-use Rattle.lists.specs.Choose.{choose}
-use Rattle.lists.specs.First.{first}
-use Rattle.lists.specs.Every.{every}
+use Rattle.std.specs.Prelude.{◌≡◌, true, false, List, [], ◌∷◌, ℕ, length, replicate}
 use Rattle.credit.specs.declared.CreditFlowPolicy.TheVariants.{Every}
-use Rattle.lists.specs.Fuel.{whole, fuelled}
-use Rattle.signal_headers.specs.Headers.{headers_of}
-use Rattle.signal_bodies.specs.LeCreditBodies.{le_credit_conn_req, le_credit_flow_ind}
 use Rattle.sar_cut.specs.Cutting.{payloads}
 use Rattle.sar_frames.specs.Theorems as Cut
 use Rattle.channel.specs.declared.ChannelState.TheVariants.{Connected, Disconnecting}
 use Rattle.channel.specs.declared.L2capChannelConfig.{L2capChannelConfig}
 use Rattle.channel.specs.declared.Setting.TheVariants.{Default}
 use Rattle.channel.specs.declared.Table.{Table}
-use Rattle.definition.specs.Table.{slot_at, is_cid, slot_of, slot_fits, well_formed}
-use Rattle.definition.specs.Outcome.{Outcome, verdict, only}
-use Rattle.definition.specs.Asking.{make, register_spsm}
-use Rattle.definition.specs.Pending.{next_pending, accept_pending}
-use Rattle.definition.specs.Signals.{signalled, checked, handled, on_conn_req, on_credits}
-use Rattle.definition.specs.Frames.{dispatch}
-use Rattle.definition.specs.Calls.{frame, plain, Request, register, signals, pends, accepts, decide, serve}
+use Rattle.definition.specs.Table.{slot_at, is_cid, slot_of}
+use Rattle.definition.specs.Outcome.{Outcome}
+use Rattle.definition.specs.Asking.{make}
+use Rattle.definition.specs.Calls.{frame, plain, Request, register, signals, pends, accepts, decide}
 use Rattle.definition.specs.Numbers.{answer_number}
 
 -- N 2, D 1, M 64, and so a room of 232 octets
-abbrev two : Table
+abbrev pub two : Table
 two = (make 2 1 64 (replicate 232 0)).table
 
 -- what a call comes to, with a signal buffer of 18 octets
-abbrev asked : Table → Request → Outcome
+abbrev pub asked : Table → Request → Outcome
 asked t r = decide t (plain r (record { from = 0; size = 0 }) (record { from = 0; size = 0 })) 0 232 18 0
 
-abbrev usual : L2capChannelConfig
+abbrev pub usual : L2capChannelConfig
 usual = record { mtu = Default; mps = Default; policy = Every 1; credits = Default }
 
 -- SPSM 128 is registered; link 1's peer asks for a channel, CID 0x50, MTU 100, MPS 23, and gives 65,530 credits; we accept.
-abbrev open_slot : Table
+abbrev pub open_slot : Table
 open_slot =
     let registered = (asked two (register 128)).table in
     let pending = (asked registered (signals 1 true true (0x14 ∷ 7 ∷ 10 ∷ 0 ∷ 128 ∷ 0 ∷ 0x50 ∷ 0 ∷ 100 ∷ 0 ∷ 23 ∷ 0 ∷ 0xFA ∷ 0xFF ∷ []))).table in
@@ -43,11 +34,11 @@ open_slot =
     (asked held (accepts 0 usual)).table
 
 -- n more credits for it
-abbrev credits : ℕ → Outcome
+abbrev pub credits : ℕ → Outcome
 credits n = asked open_slot (signals 1 true true (0x16 ∷ 8 ∷ 4 ∷ 0 ∷ 0x50 ∷ 0 ∷ n ∷ 0 ∷ []))
 
 -- a frame of link 1 for this CID, with k octets behind its length octets
-abbrev framed : ℕ → List ℕ → ℕ → Outcome
+abbrev pub framed : ℕ → List ℕ → ℕ → Outcome
 framed cid head k = decide two (frame 1 cid head) k 232 0 0
 
 pub record Bench : Type 0 where
@@ -68,22 +59,3 @@ pub record Bench : Type 0 where
   pub one : slot_of 0x41 ≡ 1
   pub one_answer : (head : List ℕ) (k : ℕ) → answer_number (framed 0x41 head k).answer ≡ 0
   pub above : (head : List ℕ) (k : ℕ) → answer_number (framed 0x42 head k).answer ≡ 7
-
-pub bench : Bench
-unfolding make decide serve register_spsm signalled checked handled headers_of whole fuelled on_conn_req le_credit_conn_req on_credits le_credit_flow_ind next_pending accept_pending dispatch verdict well_formed slot_fits every first choose only
-bench =
-    record {
-      counts = Cut.bench;
-      held = refl;
-      five_answer = refl;
-      five = refl;
-      five_state = refl;
-      six_answer = refl;
-      six = refl;
-      six_state = refl;
-      below = λ _ _. refl;
-      names = refl;
-      one = refl;
-      one_answer = λ _ _. refl;
-      above = λ _ _. refl;
-    }

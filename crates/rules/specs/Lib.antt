@@ -2,12 +2,9 @@
 pub mod Run
 pub mod Tests
 pub mod Step
-pub mod Forms
 pub mod Sound
 pub mod Join
 pub mod Every
-pub mod Aside
-pub mod Keep
 pub mod Good
 pub mod Rules
 pub mod Places

@@ -7,7 +7,7 @@ use Rattle.channel.specs.declared.Setting.{Setting}
 use Rattle.channel.specs.declared.Setting.TheVariants as Setting
 use Rattle.definition.specs.Asking.{make}
 use Rattle.definition.specs.Calls.{Call, frame, sends, portions, down, plain, Request, register, signals, pends, rejects_all, accepts, rejects, drops, creates, opens, gives, holds, releases, leaves, leaves_cid, announces, takes, starts, cancels, attends, asks, sends_signal, writes}
-use Rattle.definition.specs.Run.{State, after, made, run}
+use Rattle.definition.specs.Run.{State, after, made}
 
 -- ---- numbers that fit their types
 
@@ -62,8 +62,3 @@ AllFit (c ∷ cs) = Fits c × AllFit cs
 pub data Reached : State → Type 0 where
   start : (n d m : ℕ) (room memory : List ℕ) → (make n d m room).answer ≡ Done → Reached (made n d m room memory)
   next : {s : State} (c : Call) → Reached s → Fits c → Reached (after s c)
-
-pub run-reached : (s : State) (cs : List Call) → Reached s → AllFit cs → Reached (run s cs)
-unfolding run
-run-reached s [] r f = r
-run-reached s (c ∷ cs) r f = run-reached (after s c) cs (next c r f.0) f.1

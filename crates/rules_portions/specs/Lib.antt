@@ -1,14 +1,8 @@
 -- What is said of a job handed over in portions: the page to read.
 pub mod Statement
--- The theorems.
-pub mod Theorems
 -- ---- what they rest on
 
 -- One portion, in numbers and octets.
 pub mod Filling
 -- What an answer of 0 tells of a call.
 pub mod Answered
--- A job's portions one after the other.
-pub mod Delivered
--- What a send writes.
-pub mod Sent

@@ -2,8 +2,5 @@
 pub mod Words
 pub mod Statement
 pub mod Kept
-pub mod Quiet
-pub mod Counting
-pub mod Theorems
 pub mod Single
 pub mod Code

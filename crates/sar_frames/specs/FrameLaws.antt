@@ -11,7 +11,8 @@ use Rattle.std.proofs.lemmas.List.Edits.{sets}
 use Rattle.octets.specs.Octets.{part, le16}
 use Rattle.octets.specs.Sets.{sets-append, part_length, take_least}
 use Rattle.sar_cut.specs.Cutting.{ceil, frame_count, stream, piece_at, pieces_from, pieces, payloads, frame, joined, frames_of}
-use Rattle.sar_cut.specs.CutLaws.{split, ceil_zero, ceil-more}
+use Rattle.sar_cut.proofs.CutLaws.{split}
+use Rattle.sar_cut.proofs.CutLaws.{ceil_zero, ceil-more}
 
 module _ {A : Type 0} (m : ℕ) where
   -- stretch k+1 is stretch k of what follows the first

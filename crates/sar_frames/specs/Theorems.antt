@@ -2,7 +2,7 @@
 use Rattle.std.specs.Prelude.{◌≡◌, refl, List, [], ◌∷◌, ℕ, zero, suc, ◌+◌, ◌-◌, ◌*◌, ◌/◌, ◌≤◌, ◌<◌, length, take, drop}
 use Rattle.std.proofs.Common.{sym, ap, ◌∙◌, not-suc-le-zero, arith, length-append, length-drop, take-append-drop}
 use Rattle.sar_cut.specs.Cutting.{ceil, frame_count, frames_length, stream, piece_at, pieces_from, pieces, payloads, AllWithin, joined, frames_of}
-use Rattle.sar_cut.specs.CutLaws.{ceil_zero, ceil-more, payloads-within}
+use Rattle.sar_cut.proofs.CutLaws.{ceil_zero, ceil-more, payloads-within}
 use Rattle.sar_frames.specs.FrameLaws.{pieces_nil, pieces_more, pieces-count, framed, framed_nil, framed-more, frame-length}
 
 -- the stretches, joined, are the whole

@@ -8,7 +8,7 @@ use Rattle.std.proofs.Math.Seq.{length-sets}
 use Rattle.octets.specs.Octets.{part, u16_at}
 use Rattle.octets.specs.Sets.{sets-append, sets-before, sets-after, sets_inside, part_length}
 use Rattle.lists.specs.Choose.{choose, if_cases}
-use Rattle.sar_cut.specs.CutLaws.{split}
+use Rattle.sar_cut.proofs.CutLaws.{split}
 use Rattle.sar_join.specs.declared.Assembly.{Assembly}
 use Rattle.sar_join.specs.declared.Joined.{Joined}
 use Rattle.sar_join.specs.declared.Joined.TheVariants.{Refused, Dropped, Finished, Assembling}

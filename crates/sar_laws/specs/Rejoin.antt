@@ -15,7 +15,8 @@ use Rattle.lists.specs.Choose.{choose, choose_true, choose_false}
 use Rattle.octets.specs.Sets.{sets-append, sets_comm, part_length, part_same, part-after, sets_hide}
 use Rattle.sar_cut.specs.declared.Plan.TheVariants.{Frames}
 use Rattle.sar_cut.specs.Cutting.{frame_count, stream, pieces, payloads, AllWithin, frame, plan_send}
-use Rattle.sar_cut.specs.CutLaws.{split, plan_allowed}
+use Rattle.sar_cut.proofs.CutLaws.{split}
+use Rattle.sar_cut.proofs.CutLaws.{plan_allowed}
 use Rattle.sar_frames.specs.FrameLaws.{pieces_nil, pieces_more}
 use Rattle.sar_frames.specs.Theorems.{cut}
 use Rattle.sar_join.specs.declared.Assembly.{Assembly}

@@ -22,7 +22,8 @@ use Rattle.definition.specs.Table.{slot_at, is_cid, slot_of, place_of, is_connec
 use Rattle.definition.specs.Outcome.{Outcome, change, refuse, done}
 use Rattle.definition.specs.Frames.{joined, admitted}
 use Rattle.definition.specs.Calls.{frame, head_of, jobs}
-use Rattle.definition.specs.Ending.{end, end_of, served_of, end-still}
+use Rattle.definition.specs.Ending.{end, end_of, served_of}
+use Rattle.definition.proofs.Ending.{end-still}
 use Rattle.slot_work.specs.Work.{Work, kept, becomes, in_table, end_kept}
 use Rattle.slot_frame.specs.FrameIn.{joined_to, join_of, frame_of}
 

@@ -11,7 +11,8 @@ use Rattle.channel.specs.declared.Table.{Table}
 use Rattle.definition.specs.Mem.{Fill, sizes, parts, written}
 use Rattle.definition.specs.Table.{width, slot_at, put_slot, blocks, blocked_by}
 use Rattle.definition.specs.Outcome.{Outcome, refuse, filling}
-use Rattle.definition.specs.Ending.{itself, end, end_of, gave, parts_none, written_none}
+use Rattle.definition.specs.Ending.{itself, end, end_of, gave}
+use Rattle.definition.proofs.Ending.{parts_none, written_none}
 use Rattle.definition.specs.Frames.{unsent}
 use Rattle.lists.specs.Choose.{choose}
 use Rattle.slot_work.specs.declared.Worked.{Worked}

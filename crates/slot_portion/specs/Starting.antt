@@ -10,7 +10,8 @@ use Rattle.codes.specs.declared.Refusal.TheVariants.{NoRoom, ChannelClosed, JobO
 use Rattle.sar_cut.specs.declared.Plan.{Plan}
 use Rattle.sar_cut.specs.declared.Plan.TheVariants as Plan
 use Rattle.sar_cut.specs.Cutting.{frame_count, frames_length, longest_job, plan_send}
-use Rattle.sar_cut.specs.CutLaws.{split, count_small, plan_above_mtu, plan_too_long, plan_bad_mps, plan_busy, plan_frames}
+use Rattle.sar_cut.proofs.CutLaws.{split}
+use Rattle.sar_cut.proofs.CutLaws.{count_small, plan_above_mtu, plan_too_long, plan_bad_mps, plan_busy, plan_frames}
 use Rattle.channel.specs.declared.Answer.TheVariants.{Frames}
 use Rattle.channel.specs.declared.Slot.{Slot}
 use Rattle.definition.specs.Mem.{given}

@@ -8,14 +8,15 @@ use Rattle.lists.specs.Choose.{choose}
 use Rattle.sar_cut.specs.declared.Plan.{Plan}
 use Rattle.sar_cut.specs.declared.Plan.TheVariants as Plan
 use Rattle.sar_cut.specs.Cutting.{plan_send}
-use Rattle.sar_cut.specs.CutLaws.{plan_allowed}
+use Rattle.sar_cut.proofs.CutLaws.{plan_allowed}
 use Rattle.codes.specs.declared.Refusal.{Refusal}
 use Rattle.channel.specs.declared.Answer.TheVariants.{Refused}
 use Rattle.channel.specs.declared.Slot.{Slot}
 use Rattle.channel.specs.declared.Table.{Table}
 use Rattle.definition.specs.Table.{slot_at, put_slot, is_connected, count_blocked_send, blocks, blocked_by, is_open}
 use Rattle.definition.specs.Outcome.{refuse}
-use Rattle.definition.specs.Ending.{End, end, end_of, gave, end-still, end-slot}
+use Rattle.definition.specs.Ending.{End, end, end_of, gave}
+use Rattle.definition.proofs.Ending.{end-still, end-slot}
 use Rattle.definition.specs.Frames.{unsent, planned, sent_on}
 use Rattle.slot_work.specs.Work.{put_same, sending_as, blocked_sends}
 use Rattle.slot_send.specs.Sending.{Work, work, worked, planned_from, sent_from}

@@ -12,9 +12,10 @@ use Rattle.channel.specs.declared.Slot.{Slot}
 use Rattle.channel.specs.declared.Table.{Table}
 use Rattle.definition.specs.Mem.{written}
 use Rattle.definition.specs.Table.{width, put_slot, with_peer_credits, count_sent}
-use Rattle.definition.specs.Ending.{end, end_of, gave, parts_none, written_none}
+use Rattle.definition.specs.Ending.{end, end_of, gave}
+use Rattle.definition.proofs.Ending.{parts_none, written_none}
 use Rattle.definition.specs.Frames.{planned}
-use Rattle.rules_portions.specs.Sent.{frames_octets, frames-sizes}
+use Rattle.rules_portions.proofs.Sent.{frames_octets, frames-sizes}
 
 -- what is planned and done, from what the plan's tests allow
 pub sends : (t : Table) (s : ℕ) (x : Slot) (sdu out : List ℕ) {n octets : ℕ} {r : Served} {out' : List ℕ}

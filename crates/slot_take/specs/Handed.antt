@@ -15,7 +15,8 @@ use Rattle.channel.specs.declared.Slot.{Slot}
 use Rattle.definition.specs.Mem.{Fill, given, sizes, fill, fills, written, parts}
 use Rattle.definition.specs.Table.{place_size, part_width, with_account, with_queue}
 use Rattle.definition.specs.Outcome.{only}
-use Rattle.definition.specs.Ending.{itself, written_none, written_given, sizes_given, parts_none}
+use Rattle.definition.specs.Ending.{itself}
+use Rattle.definition.proofs.Ending.{written_none, written_given, sizes_given, parts_none}
 use Rattle.definition.specs.Frames.{shifted, upwards, oldest, crediting}
 use Rattle.table_endings.specs.Reply.{Replied}
 use Rattle.slot_work.specs.declared.Worked.{Worked}

@@ -12,7 +12,8 @@ use Rattle.channel.specs.declared.Table.{Table}
 use Rattle.definition.specs.Mem.{Fill, Move, sizes, parts, written}
 use Rattle.definition.specs.Table.{width, gap, slot_at, with_slots, put_slot, with_peer_credits, with_sends, blocks, blocked_by}
 use Rattle.definition.specs.Outcome.{Outcome, still, only, change}
-use Rattle.definition.specs.Ending.{itself, end, end_of, gave, parts_none, written_none}
+use Rattle.definition.specs.Ending.{itself, end, end_of, gave}
+use Rattle.definition.proofs.Ending.{parts_none, written_none}
 use Rattle.slot_work.specs.declared.Worked.{Worked}
 
 pub record Work : Type 0 where

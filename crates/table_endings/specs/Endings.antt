@@ -9,7 +9,8 @@ use Rattle.channel.specs.declared.Table.{Table}
 use Rattle.definition.specs.Mem.{given, Move, parts, written, fills, sizes}
 use Rattle.definition.specs.Table.{width, put_slot}
 use Rattle.definition.specs.Outcome.{still, change, only, sweep}
-use Rattle.definition.specs.Ending.{itself, end, end_of, gave, written_given, sizes_given, written_none, end_given, end-slot}
+use Rattle.definition.specs.Ending.{itself, end, end_of, gave}
+use Rattle.definition.proofs.Ending.{written_given, sizes_given, written_none, end_given, end-slot}
 use Rattle.table_endings.specs.Reply.{Replied, end_slot_given}
 
 pub tells : {t : Table} {a : Answer} {l xs l' : List ℕ} {n : ℕ} {r : Served} → r ≡ gave a t n → Replied l xs n l'

@@ -12,7 +12,8 @@ use Rattle.channel.specs.declared.Table.{Table}
 use Rattle.definition.specs.Mem.{given}
 use Rattle.definition.specs.Table.{width, put_slot}
 use Rattle.definition.specs.Outcome.{change}
-use Rattle.definition.specs.Ending.{end, end_of, gave, written_given, sizes_given, written_none, parts_none}
+use Rattle.definition.specs.Ending.{end, end_of, gave}
+use Rattle.definition.proofs.Ending.{written_given, sizes_given, written_none, parts_none}
 use Rattle.channel.specs.Limits.{signal_most}
 
 pub record Replied (l xs : List ℕ) (n : ℕ) (out : List ℕ) : Type 0 where

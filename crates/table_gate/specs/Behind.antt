@@ -11,7 +11,8 @@ use Rattle.channel.specs.declared.Verdict.{Verdict}
 use Rattle.channel.specs.declared.Verdict.TheVariants.{Pass, Stop}
 use Rattle.definition.specs.Mem.{sizes}
 use Rattle.definition.specs.Outcome.{Outcome, still, refuse, verdict, passed}
-use Rattle.definition.specs.Ending.{end, end_of, served_of, end-still}
+use Rattle.definition.specs.Ending.{end, end_of, served_of}
+use Rattle.definition.proofs.Ending.{end-still}
 use Rattle.table_gate.specs.Passed.{Passed}
 use Rattle.table_gate.specs.Passed as rely
 

@@ -9,7 +9,7 @@ use Rattle.channel.specs.declared.Verdict.TheVariants.{Pass}
 use Rattle.channel.specs.declared.Table.{Table}
 use Rattle.definition.specs.Table.{well_formed, room_size}
 use Rattle.definition.specs.Outcome.{fails, verdict}
-use Rattle.definition.specs.Tells.{not_stopped}
+use Rattle.definition.proofs.Tells.{not_stopped}
 use Rattle.table_gate_sizes.specs.Sizes.{Sized, formed_sizes}
 
 -- P Holds of the number, if one was given

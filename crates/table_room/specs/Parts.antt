@@ -13,7 +13,7 @@ use borrow.Rule.Slice.PartMut.{mid_of, put_mid, Post-is}
 use Rattle.octets.specs.Octets.{part}
 use Rattle.octets.specs.Sets.{store, cut_at, mid_part, part_length}
 use Rattle.definition.specs.Mem.{Fill, Move, put, fill, move, moves, parts}
-use Rattle.definition.specs.Lengths.{length-moves}
+use Rattle.definition.proofs.Lengths.{length-moves}
 use Rattle.definition.specs.Outcome.{only}
 
 -- zeros all over

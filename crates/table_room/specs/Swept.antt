@@ -8,7 +8,7 @@ use Rattle.octets.specs.Octets.{part}
 use Rattle.octets.specs.Sets.{part_length}
 use Rattle.definition.specs.Mem.{Move, moves, parts}
 use Rattle.definition.specs.Outcome.{only}
-use Rattle.definition.specs.Lengths.{length-moves}
+use Rattle.definition.proofs.Lengths.{length-moves}
 use Rattle.table_room.specs.Parts.{parts-only}
 
 -- the moves mss of the slots from i on

@@ -10,7 +10,7 @@ use Rattle.std.proofs.Math.Seq.{drop-length}
 use Rattle.lists.specs.Choose.{choose}
 use Rattle.lists.specs.First.{first}
 use Rattle.octets.specs.Sets.{tail-part}
-use Rattle.text_cut.specs.CutLaws.{cut_first}
+use Rattle.text_cut.proofs.CutLaws.{cut_first}
 use Rattle.text_words.specs.Words.{is_space, words_of, word, text_of, word_at, word_after, place}
 use Rattle.text_words.specs.declared.Word.{Word}
 

@@ -2,7 +2,7 @@
 use mathlib.Core.Path.{sym, ◌∙◌}
 use mathlib.Core.List.{[]}
 use Rattle.definition.specs.Table.{place_of, slot_at}
-use Rattle.definition.specs.Ending.{written_none}
+use Rattle.definition.proofs.Ending.{written_none}
 use Rattle.definition.specs.Portions.{cancel_job}
 use Rattle.table_room.specs.Placed.{room_of, placed}
 use Rattle.table_gate.specs.Behind.{behind, on, stopped, ended}

@@ -6,7 +6,7 @@ use Rattle.definition.specs.Closing.{disconnect_by_cid}
 use native.Mathlib.Omega.{arith}
 use Rattle.table_gate.specs.Behind.{behind, on, stopped, ended}
 use Rattle.channel.specs.declared.ChannelIndex.{ChannelIndex}
-use Rattle.definition.specs.Tells.{cid_within}
+use Rattle.definition.proofs.Tells.{cid_within}
 use Rattle.call_disconnect.proofs.disconnect_by_cid.Goals as goal
 
 pub slot_of-requires : goal.slot_of-requires

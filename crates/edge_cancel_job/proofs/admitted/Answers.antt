@@ -13,8 +13,8 @@ use Rattle.channel.specs.declared.Verdict.TheVariants.{Pass}
 use Rattle.definition.specs.Table.{room_width}
 use Rattle.definition.specs.Outcome.{verdict}
 use Rattle.edge_layout.specs.Layout.{read}
-use Rattle.edge_row.specs.Gate.{valid_long, stops_2, stops_6, passes}
-use Rattle.edge_row.specs.Room.{sized-told, row_low, part_placed}
+use Rattle.edge_row.proofs.Gate.{valid_long, stops_2, stops_6, passes}
+use Rattle.edge_row.proofs.Room.{sized-told, row_low, part_placed}
 use Rattle.edge_placed.specs.Valid.{row_fit}
 use Rattle.edge_placed.specs.Cancelled.{cancel_stopped, cancel_placed}
 use Rattle.edge_cancel_job.proofs.admitted.Goals as goal

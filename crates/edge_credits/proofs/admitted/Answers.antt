@@ -10,8 +10,8 @@ use Rattle.octets.specs.Octets.{u16_at}
 use Rattle.codes.specs.declared.Refusal.TheVariants.{BadRoom, NoRoom, BadHandle}
 use Rattle.channel.specs.declared.Given.TheVariants.{Nothing, Is}
 use Rattle.definition.specs.Table.{room_width}
-use Rattle.edge_row.specs.Gate.{valid_long, valid_slots, stops_2, stops_3, stops_4, passes}
-use Rattle.edge_row.specs.Room.{sized-told, row_low, part_placed}
+use Rattle.edge_row.proofs.Gate.{valid_long, valid_slots, stops_2, stops_3, stops_4, passes}
+use Rattle.edge_row.proofs.Room.{sized-told, row_low, part_placed}
 use Rattle.edge_placed.specs.Credited.{row_of, credits_stopped, refused_8, credits_placed}
 use Rattle.edge_credits.proofs.admitted.Goals as goal
 

@@ -6,7 +6,7 @@ use borrow.Author.Tests.{not-true, not-false}
 use Rattle.codes.specs.declared.Refusal.TheVariants.{BadTable}
 use Rattle.channel.specs.declared.Given.TheVariants.{Nothing, Is}
 use Rattle.edge_scan.specs.Scan.{valid_octets}
-use Rattle.edge_row.specs.Gate.{refused_1}
+use Rattle.edge_row.proofs.Gate.{refused_1}
 use Rattle.edge_placed.specs.Incoming.{frame_stopped}
 use Rattle.edge_dispatch.proofs.dispatch.Goals as goal
 

@@ -8,7 +8,7 @@ use Rattle.codes.specs.declared.Refusal.TheVariants.{BadTable, BadRoom}
 use Rattle.channel.specs.declared.Given.TheVariants.{Nothing, Is}
 use Rattle.definition.specs.Table.{room_width}
 use Rattle.edge_scan.specs.Scan.{valid_octets}
-use Rattle.edge_row.specs.Gate.{refused_1, refused_2}
+use Rattle.edge_row.proofs.Gate.{refused_1, refused_2}
 use Rattle.edge_dispatch_run.specs.Begins.{run-passes, run_stopped, run_ends}
 use Rattle.edge_dispatch_run.proofs.dispatch_run.Goals as goal
 

@@ -5,7 +5,7 @@ use borrow.Author.Tests.{not-true, not-false}
 use Rattle.codes.specs.declared.Refusal.TheVariants.{BadTable}
 use Rattle.channel.specs.declared.Given.TheVariants.{Nothing, Is}
 use Rattle.edge_scan.specs.Scan.{valid_octets}
-use Rattle.edge_row.specs.Gate.{refused_1}
+use Rattle.edge_row.proofs.Gate.{refused_1}
 use Rattle.edge_placed.specs.Filled.{portion_stopped}
 use Rattle.edge_give_portion.proofs.give_portion.Goals as goal
 

@@ -9,7 +9,7 @@ use Rattle.codes.specs.declared.Refusal.TheVariants.{BadSlot}
 use Rattle.channel.specs.declared.Slot.{Slot}
 use Rattle.slot_portion.specs.Filled.{after_of}
 use Rattle.slot_portion.specs.Giving.{portion_of}
-use Rattle.edge_row.specs.Gate.{valid_long, refused_6}
+use Rattle.edge_row.proofs.Gate.{valid_long, refused_6}
 use Rattle.edge_placed.specs.Sent.{slot-within}
 use Rattle.edge_placed.specs.Filled.{portion_stopped, portion_placed}
 use Rattle.edge_give_portion.proofs.given.Goals as goal

@@ -1,5 +1,5 @@
 -- `edge_layout::state_value` meets its contract: a result code's number is one octet (result_octet).
-use Rattle.edge_layout.specs.Rows.{result_octet}
+use Rattle.edge_layout.proofs.Rows.{result_octet}
 use Rattle.edge_layout.proofs.state_value.Goals as goal
 
 pub overflow_cast-result : goal.overflow_cast-result

@@ -4,7 +4,8 @@ use mathlib.Core.List.{[]}
 use borrow.Author.Tests.{le-leb, lt-leb}
 use Rattle.definition.specs.Mem.{sizes}
 use Rattle.definition.specs.Table.{place_of, slot_at}
-use Rattle.definition.specs.Ending.{end_of, end-still, written_none}
+use Rattle.definition.specs.Ending.{end_of}
+use Rattle.definition.proofs.Ending.{end-still, written_none}
 use Rattle.definition.specs.Signals.{on_credits}
 use Rattle.table_room.specs.Placed.{placed}
 use Rattle.slot_work.specs.Work.{works_in}

@@ -6,7 +6,7 @@ use Rattle.lists.specs.Choose.{choose}
 use Rattle.channel.specs.declared.ChannelIndex.{ChannelIndex}
 use Rattle.definition.specs.Mem.{sizes}
 use Rattle.definition.specs.Signals.{on_disconnection_req}
-use Rattle.definition.specs.Tells.{cid_within}
+use Rattle.definition.proofs.Tells.{cid_within}
 use Rattle.on_disconnection.proofs.on_disconnection_req.Goals as goal
 
 pub returns-then-not-is_cid : goal.returns-then-not-is_cid

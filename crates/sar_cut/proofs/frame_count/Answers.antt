@@ -2,7 +2,7 @@
 use mathlib.Core.Path.{sym}
 use native.Mathlib.Omega.{arith}
 use Rattle.sar_cut.specs.Cutting.{frame_count, ceil}
-use Rattle.sar_cut.specs.CutLaws.{count_none, count-one}
+use Rattle.sar_cut.proofs.CutLaws.{count_none, count-one}
 use Rattle.sar_cut.proofs.frame_count.Goals as goal
 
 pub returns-then-mps-eq0 : goal.returns-then-mps-eq0

@@ -1,6 +1,6 @@
 -- `sar_cut::plan_send` meets its contract: each return is one case law of `plan_send`, by the tests on the way to it and by what `frame_count` ensures.
 use Rattle.sar_cut.specs.Cutting.{frames_length}
-use Rattle.sar_cut.specs.CutLaws.{plan_above_mtu, plan_too_long, plan_bad_mps, plan_busy, plan_no_room, plan_frames}
+use Rattle.sar_cut.proofs.CutLaws.{plan_above_mtu, plan_too_long, plan_bad_mps, plan_busy, plan_no_room, plan_frames}
 use Rattle.sar_cut.proofs.plan_send.Goals as goal
 
 pub returns-then-mtu-l : goal.returns-then-mtu-l

@@ -1,5 +1,5 @@
 use native.Mathlib.Omega.{arith}
-use Rattle.sar_cut.specs.Division.{dividing_first, dividing_small, dividing_counted, dividing_passed, dividing_last}
+use Rattle.sar_cut.proofs.Division.{dividing_first, dividing_small, dividing_counted, dividing_passed, dividing_last}
 use Rattle.sar_cut.proofs.quotient.Goals as goal
 use Rattle.sar_cut.proofs.quotient.Goals.{then-step-rest, else-step-rest}
 

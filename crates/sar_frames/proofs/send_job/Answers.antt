@@ -3,7 +3,7 @@ use mathlib.Core.Path.{refl, sym, ◌∙◌}
 use native.Mathlib.Omega.{arith}
 use lib.ListN.{length}
 use Rattle.sar_cut.specs.Cutting.{output_after}
-use Rattle.sar_cut.specs.CutLaws.{plan_allowed}
+use Rattle.sar_cut.proofs.CutLaws.{plan_allowed}
 use Rattle.sar_frames.proofs.send_job.Goals as goal
 
 pub cut_job-requires : goal.cut_job-requires

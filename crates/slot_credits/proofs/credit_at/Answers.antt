@@ -6,7 +6,7 @@ use borrow.Author.Tests.{lt-ltb, le-ltb}
 use Rattle.lists.specs.Choose.{choose}
 use Rattle.definition.specs.Mem.{sizes}
 use Rattle.definition.specs.Table.{part_width}
-use Rattle.definition.specs.Ending.{parts_none}
+use Rattle.definition.proofs.Ending.{parts_none}
 use Rattle.slot_credits.specs.Crediting.{credits_of}
 use Rattle.slot_credits.proofs.credit_at.Goals as goal
 

@@ -4,7 +4,7 @@ use native.Mathlib.Omega.{arith}
 use lib.ListN.{length}
 use Rattle.lists.specs.Choose.{choose}
 use Rattle.sar_cut.specs.Cutting.{plan_send, output_after}
-use Rattle.sar_cut.specs.CutLaws.{plan_allowed}
+use Rattle.sar_cut.proofs.CutLaws.{plan_allowed}
 use Rattle.slot_send.specs.Sending.{planned_from, sent_from}
 use Rattle.slot_send.proofs.send_from.Goals as goal
 

@@ -4,7 +4,7 @@ use mathlib.Core.Path.{sym, ◌∙◌}
 use borrow.Author.Tests.{eq-eqb, ne_eqb}
 use lib.ListN.{length}
 use Prim.Native.Char.{code}
-use Rattle.text_cut.specs.CutLaws.{cut_count, counted_none, counted_hit, counted_pass, counted_all}
+use Rattle.text_cut.proofs.CutLaws.{cut_count, counted_none, counted_hit, counted_pass, counted_all}
 use Rattle.text_words.proofs.count.Goals as goal
 use Rattle.text_words.proofs.count.Goals.{then-line-i-eq32, else-line-i-eq32}
 

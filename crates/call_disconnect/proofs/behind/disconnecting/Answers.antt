@@ -1,6 +1,6 @@
 -- `call_disconnect::behind::disconnecting` meets its contract: behind the gate code and definition make the same tests in the same order.
 use mathlib.Core.Path.{sym}
-use Rattle.definition.specs.Ending.{end-still}
+use Rattle.definition.proofs.Ending.{end-still}
 use Rattle.lists.specs.Choose.{choose}
 use Rattle.definition.specs.Mem.{sizes}
 use Rattle.definition.specs.Closing.{disconnecting}

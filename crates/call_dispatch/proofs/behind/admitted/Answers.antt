@@ -10,8 +10,8 @@ use Rattle.channel.specs.declared.ChannelIndex.{ChannelIndex}
 use Rattle.channel.specs.declared.Slot.{Slot}
 use Rattle.channel.specs.declared.Table.{Table}
 use Rattle.definition.specs.Table.{slot_at, slot_of, is_cid, place_of}
-use Rattle.definition.specs.Ending.{written_none}
-use Rattle.definition.specs.Tells.{cid_within}
+use Rattle.definition.proofs.Ending.{written_none}
+use Rattle.definition.proofs.Tells.{cid_within}
 use Rattle.table_gate.specs.Fits.{have-fits}
 use Rattle.table_room.specs.Placed.{placed}
 use Rattle.slot_work.specs.Work.{works_in}

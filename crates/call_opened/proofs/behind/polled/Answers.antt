@@ -1,7 +1,7 @@
 -- `call_opened::behind::polled` meets its contract: code and definition make the same tests in the same order.
 use mathlib.Core.Path.{sym}
 use mathlib.Core.List.{[]}
-use Rattle.definition.specs.Ending.{end-still}
+use Rattle.definition.proofs.Ending.{end-still}
 use borrow.Author.Tests.{eq-eqb, ne_eqb}
 use Rattle.lists.specs.Choose.{choose}
 use Rattle.definition.specs.Mem.{sizes}

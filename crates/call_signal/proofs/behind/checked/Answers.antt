@@ -4,7 +4,7 @@ use mathlib.Core.List.{[]}
 use borrow.Author.Tests.{eq-eqb, ne_eqb}
 use Rattle.lists.specs.Choose.{choose}
 use Rattle.definition.specs.Mem.{sizes}
-use Rattle.definition.specs.Ending.{end-still}
+use Rattle.definition.proofs.Ending.{end-still}
 use Rattle.definition.specs.Signals.{checked}
 use Rattle.call_signal.proofs.behind.checked.Goals as goal
 

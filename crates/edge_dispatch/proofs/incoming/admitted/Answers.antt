@@ -10,7 +10,7 @@ use Rattle.channel.specs.declared.ChannelIndex.{ChannelIndex}
 use Rattle.channel.specs.declared.Given.TheVariants.{Nothing, Is}
 use Rattle.definition.specs.Table.{room_width, is_cid}
 use Rattle.edge_layout.specs.Layout.{read}
-use Rattle.edge_row.specs.Gate.{valid_long, refused_2}
+use Rattle.edge_row.proofs.Gate.{valid_long, refused_2}
 use Rattle.edge_placed.specs.Incoming.{refused_4, frame_stopped, cid_told, refused_7, row_low, part_placed, have_placed, frame_placed}
 use Rattle.edge_dispatch.proofs.incoming.admitted.Goals as goal
 

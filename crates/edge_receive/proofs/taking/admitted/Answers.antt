@@ -10,7 +10,7 @@ use Rattle.codes.specs.declared.Refusal.TheVariants.{BadRoom}
 use Rattle.channel.specs.Limits.{signal_most}
 use Rattle.channel.specs.declared.Given.TheVariants.{Nothing, Is}
 use Rattle.definition.specs.Table.{room_width}
-use Rattle.edge_row.specs.Gate.{valid_long, refused_2}
+use Rattle.edge_row.proofs.Gate.{valid_long, refused_2}
 use Rattle.edge_placed.specs.Incoming.{sized-told}
 use Rattle.edge_placed.specs.Taken.{take_stopped, take_3, take_6, take_row, take_part, take_placed}
 use Rattle.edge_receive.proofs.taking.admitted.Goals as goal

@@ -8,7 +8,7 @@ use borrow.Author.Tests.{le-leb, lt-leb}
 use Rattle.codes.specs.declared.Refusal.TheVariants.{BadSlot}
 use Rattle.channel.specs.declared.Slot.{Slot}
 use Rattle.slot_send.specs.Sending.{sent_from}
-use Rattle.edge_row.specs.Gate.{valid_long, refused_6}
+use Rattle.edge_row.proofs.Gate.{valid_long, refused_6}
 use Rattle.edge_placed.specs.Sent.{slot-within, send_stopped, stopped_octets, sent_placed, octets_sent}
 use Rattle.edge_send.proofs.outgoing.sent.Goals as goal
 

@@ -5,9 +5,9 @@ use native.Mathlib.Omega.{arith}
 use Rattle.lists.specs.Choose.{choose}
 use Rattle.channel.specs.declared.ChannelIndex.{ChannelIndex}
 use Rattle.definition.specs.Mem.{sizes}
-use Rattle.definition.specs.Ending.{end-still}
+use Rattle.definition.proofs.Ending.{end-still}
 use Rattle.definition.specs.Signals.{on_disconnection_res}
-use Rattle.definition.specs.Tells.{cid_within}
+use Rattle.definition.proofs.Tells.{cid_within}
 use Rattle.on_disconnection.proofs.response.on_disconnection_res.Goals as goal
 
 pub returns-then-not-is_cid : goal.returns-then-not-is_cid

@@ -1,7 +1,7 @@
 -- `on_parameters::on_parameter_response` meets its contract: code and definition go by the same cases of what was read.
 use mathlib.Core.Path.{sym}
 use Rattle.definition.specs.Mem.{sizes}
-use Rattle.definition.specs.Ending.{end-still}
+use Rattle.definition.proofs.Ending.{end-still}
 use Rattle.definition.specs.Signals.{on_parameter_response}
 use Rattle.on_parameters.proofs.body.on_parameter_response.Goals as goal
 

@@ -2,7 +2,7 @@
 use mathlib.Core.Path.{sym}
 use Rattle.lists.specs.Choose.{choose}
 use Rattle.definition.specs.Mem.{sizes}
-use Rattle.definition.specs.Ending.{end-still}
+use Rattle.definition.proofs.Ending.{end-still}
 use Rattle.definition.specs.Signals.{on_parameters}
 use Rattle.on_parameters.proofs.body.on_parameters.Goals as goal
 

@@ -5,7 +5,7 @@ use borrow.Author.Tests.{eq-eqb, ne_eqb}
 use Rattle.lists.specs.Choose.{choose}
 use Rattle.definition.specs.Mem.{sizes}
 use Rattle.definition.specs.Table.{part_width}
-use Rattle.definition.specs.Ending.{parts_none}
+use Rattle.definition.proofs.Ending.{parts_none}
 use Rattle.slot_portion.specs.Cancelling.{cancel_of}
 use Rattle.slot_portion.proofs.cancelling.cancel_at.Goals as goal
 

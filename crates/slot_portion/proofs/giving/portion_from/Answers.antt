@@ -3,7 +3,7 @@ use mathlib.Core.Path.{sym, ◌∙◌}
 use mathlib.Core.List.{[]}
 use borrow.Author.Tests.{lt-ltb, le-ltb, ltb-true, not-false}
 use Rattle.lists.specs.Choose.{choose}
-use Rattle.definition.specs.Ending.{written_none}
+use Rattle.definition.proofs.Ending.{written_none}
 use Rattle.slot_portion.specs.Giving.{portion_of}
 use Rattle.slot_portion.proofs.giving.portion_from.Goals as goal
 

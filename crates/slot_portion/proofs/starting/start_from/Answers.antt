@@ -5,8 +5,8 @@ use native.Mathlib.Omega.{arith}
 use borrow.Author.Tests.{lt-ltb, le-ltb}
 use Rattle.lists.specs.Choose.{choose}
 use Rattle.sar_cut.specs.Cutting.{plan_send}
-use Rattle.sar_cut.specs.CutLaws.{plan_allowed}
-use Rattle.definition.specs.Ending.{written_none, written_given}
+use Rattle.sar_cut.proofs.CutLaws.{plan_allowed}
+use Rattle.definition.proofs.Ending.{written_none, written_given}
 use Rattle.slot_portion.specs.Starting.{start_planned_of, start_of, enough, plan_enough}
 use Rattle.slot_portion.proofs.starting.start_from.Goals as goal
 

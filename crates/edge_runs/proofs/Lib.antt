@@ -1,0 +1,12 @@
+pub mod Lift
+pub mod Start
+pub mod Telling
+pub mod Isolation
+pub mod Rules
+pub mod Example
+pub mod Reading
+pub mod Made
+pub mod FrameRun
+pub mod JobRun
+pub mod Tallies
+pub mod Fewest

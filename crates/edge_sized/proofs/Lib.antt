@@ -1,0 +1,3 @@
+pub mod Kept
+pub mod Sized
+pub mod Said

@@ -1,0 +1,11 @@
+pub mod Words
+pub mod Same
+pub mod Contained
+pub mod Masked
+pub mod Isolation
+pub mod Example
+pub mod Lives
+pub mod Reading
+pub mod Portions
+pub mod Excepted
+pub mod Own

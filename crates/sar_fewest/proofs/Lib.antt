@@ -1,0 +1,4 @@
+-- The theorem.
+pub mod Theorems
+-- What it rests on.
+pub mod Laws

@@ -1,5 +1,5 @@
 // Where a text is cut: the first occurrence of a character. What a text is cut into is defined in specs/Cut.antt, with its laws in
-// specs/CutLaws.antt; it rests on the leaves of `octets`.
+// proofs/CutLaws.antt; it rests on the leaves of `octets`.
 #![tactic(auto)]
 
 ghost use Rattle.std.specs.Prelude.{◌≡◌, ◌+◌, ◌-◌};

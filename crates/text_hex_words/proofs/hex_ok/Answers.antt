@@ -40,6 +40,5 @@ loop-i-preserved c = (omega arith, kept_more c.loop-i.invariant.1 0 (sym c.is_he
 pub returns : goal.returns
 unfolding is_hex_word choose
 returns c =
-    let w = c.args.word.now in
     let k = kept_all c.loop-i.invariant.1 (omega arith) in
-    rw (le-ltb _ 1 c.if-word-lt1.false, le-ltb 131070 _ c.if-word-gt131070.false, ne_eqb _ 1 c.if-word-eq1.false, ne_eqb _ 1 c.if-word-eq1-2.false) (rw (take-length w) at k)
+    rw (le-ltb _ 1 c.if-word-lt1.false, le-ltb 131070 _ c.if-word-gt131070.false, ne_eqb _ 1 c.if-word-eq1.false, ne_eqb _ 1 c.if-word-eq1-2.false) (rw (take-length c.args.word.now) at k)

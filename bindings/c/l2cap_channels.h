@@ -5,7 +5,7 @@
  * table must not run at the same time, unless all of them are questions.
  *
  * The machine. x86-64, the System V ABI, C99 or C++11 at least. The archive needs memcpy and memset, a C library's or yours, and nothing else. It has no divide instruction, and calls no routine for one. It uses SSE2 and its registers xmm0 to xmm15, for no floating-point number, so that a
- * kernel or an interrupt handler that calls it saves them; needs a stack aligned to 16 octets, as the ABI has it, of some 16 KiB; and the 128 octets below the stack pointer (the red zone): what interrupts a call on its own stack leaves them alone.
+ * kernel or an interrupt handler that calls it saves them; needs a stack aligned to 16 octets, as the ABI has it, of some 26 KiB; and the 128 octets below the stack pointer (the red zone): what interrupts a call on its own stack leaves them alone.
  * docs/PERFORMANCE.md has the figures, and a command for a firmware without a C library.
  *
  * table   L2CAP_TABLE_OCTETS octets, written by l2cap_make. Octets that spell no table, and another length, are refusal 1 in every call, and stay as they are.

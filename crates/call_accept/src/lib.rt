@@ -8,7 +8,7 @@ ghost use Rattle.std.specs.Prelude.{◌≡◌, [], length};
 ghost use Rattle.definition.specs.Ending.{end, end_of};
 ghost use Rattle.definition.specs.Pending.{accept_pending};
 
-use channel::{ChannelIndex, Given, L2capChannelConfig, Served, Table, Verdict};
+use channel::{ChannelIndex, L2capChannelConfig, Served, Table};
 use codes::Refusal;
 
 // Accepts a pending connection: our numbers, a new account, and the response.
@@ -21,15 +21,9 @@ pub fn accept_pending(
     ensures { end result [] signal.new [] ≡ end_of t [] [] signal.old [] (accept_pending t (length signal.old) slot.0 c) }
 {
     let s = table::number(slot);
-    match table_gate::gate(
-        t,
-        Given::Nothing,
-        Given::Is(signal.len()),
-        Given::Nothing,
-        Given::Is(s),
-    ) {
-        Verdict::Stop(r) => table::refused(t, r),
-        Verdict::Pass => {
+    match table_gate::gate(t, None, Some(signal.len()), None, Some(s)) {
+        Err(r) => table::refused(t, r),
+        Ok(()) => {
             let x = table::slot_at(t, s);
             let k = x.state;
             let asked = table_state::is_peer_connecting(k);

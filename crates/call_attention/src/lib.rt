@@ -5,20 +5,14 @@ ghost use Rattle.std.specs.Prelude.{◌≡◌};
 ghost use Rattle.definition.specs.Ending.{served_of};
 ghost use Rattle.definition.specs.Asking.{attention};
 
-use channel::{Given, Served, Table, Verdict};
+use channel::{Served, Table};
 
 pub fn attention(t: Table) -> Served
     ensures { result ≡ served_of (attention t) }
 {
-    match table_gate::gate(
-        t,
-        Given::Nothing,
-        Given::Nothing,
-        Given::Nothing,
-        Given::Nothing,
-    ) {
-        Verdict::Stop(r) => table::refused(t, r),
-        Verdict::Pass => {
+    match table_gate::gate(t, None, None, None, None) {
+        Err(r) => table::refused(t, r),
+        Ok(()) => {
             let a = table_attention::attention(t);
             table::still(t, a, 0)
         }

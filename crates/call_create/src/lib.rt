@@ -7,7 +7,7 @@ ghost use Rattle.std.specs.Prelude.{◌≡◌, [], length};
 ghost use Rattle.definition.specs.Ending.{end, end_of};
 ghost use Rattle.definition.specs.Opening.{create};
 
-use channel::{Given, L2capChannelConfig, Served, Table, Verdict};
+use channel::{L2capChannelConfig, Served, Table};
 use codes::Refusal;
 use table_slot::Want;
 
@@ -15,15 +15,9 @@ use table_slot::Want;
 pub fn create(t: Table, signal: &mut [u8], link: u16, spsm: u16, c: L2capChannelConfig) -> Served
     ensures { end result [] signal.new [] ≡ end_of t [] [] signal.old [] (create t (length signal.old) link spsm c) }
 {
-    match table_gate::gate(
-        t,
-        Given::Nothing,
-        Given::Is(signal.len()),
-        Given::Is(link as usize),
-        Given::Nothing,
-    ) {
-        Verdict::Stop(r) => table::refused(t, r),
-        Verdict::Pass => {
+    match table_gate::gate(t, None, Some(signal.len()), Some(link as usize), None) {
+        Err(r) => table::refused(t, r),
+        Ok(()) => {
             let u = table::spent(t);
             if table_settings::too_large(t, c) {
                 return table::refused(u, Refusal::InsufficientSpace);

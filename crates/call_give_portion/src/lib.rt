@@ -5,22 +5,16 @@ ghost use Rattle.std.specs.Prelude.{◌≡◌, [], length};
 ghost use Rattle.definition.specs.Ending.{end, end_of};
 ghost use Rattle.definition.specs.Portions.{give_portion, portion_on};
 
-use channel::{ChannelIndex, Given, Served, Table, Verdict};
+use channel::{ChannelIndex, Served, Table};
 
 // Takes a portion into the frame that is being filled in the buffer, as far as that reaches; a frame that is full is given out.
 pub fn give_portion(t: Table, slot: ChannelIndex, octets: &[u8], buffer: &mut [u8]) -> Served
     ensures { end result [] buffer.new [] ≡ end_of t octets.now [] buffer.old [] (give_portion t slot.0 (length octets.now) (length buffer.old)) }
 {
     let s = table::number(slot);
-    match table_gate::gate(
-        t,
-        Given::Nothing,
-        Given::Nothing,
-        Given::Nothing,
-        Given::Is(s),
-    ) {
-        Verdict::Stop(r) => table::refused(t, r),
-        Verdict::Pass => portion_on(t, s, octets, buffer),
+    match table_gate::gate(t, None, None, None, Some(s)) {
+        Err(r) => table::refused(t, r),
+        Ok(()) => portion_on(t, s, octets, buffer),
     }
 }
 

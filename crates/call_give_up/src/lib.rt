@@ -6,7 +6,7 @@ ghost use Rattle.std.specs.Prelude.{◌≡◌, [], length};
 ghost use Rattle.definition.specs.Ending.{end, end_of};
 ghost use Rattle.definition.specs.Opening.{give_up};
 
-use channel::{Answer, ChannelIndex, Given, Served, Table, Verdict};
+use channel::{Answer, ChannelIndex, Served, Table};
 use codes::Refusal;
 
 // Gives our attempt up.
@@ -14,15 +14,9 @@ pub fn give_up(t: Table, room: &mut [u8], slot: ChannelIndex) -> Served
     ensures { end result room.new [] [] ≡ end_of t [] room.old [] [] (give_up t (length room.old) slot.0) }
 {
     let s = table::number(slot);
-    match table_gate::gate(
-        t,
-        Given::Is(room.len()),
-        Given::Nothing,
-        Given::Nothing,
-        Given::Is(s),
-    ) {
-        Verdict::Stop(r) => table::refused(t, r),
-        Verdict::Pass => {
+    match table_gate::gate(t, Some(room.len()), None, None, Some(s)) {
+        Err(r) => table::refused(t, r),
+        Ok(()) => {
             let x = table::slot_at(t, s);
             let k = x.state;
             if table_state::is_connecting(k)

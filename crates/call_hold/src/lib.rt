@@ -7,7 +7,7 @@ ghost use Rattle.std.specs.Prelude.{◌≡◌};
 ghost use Rattle.definition.specs.Ending.{served_of};
 ghost use Rattle.definition.specs.Closing.{inc_ref};
 
-use channel::{Answer, ChannelIndex, Given, HOLDS_MOST, Served, Table, Verdict};
+use channel::{Answer, ChannelIndex, HOLDS_MOST, Served, Table};
 use codes::Refusal;
 pub use release::dec_ref;
 
@@ -16,15 +16,9 @@ pub fn inc_ref(t: Table, slot: ChannelIndex) -> Served
     ensures { result ≡ served_of (inc_ref t slot.0) }
 {
     let s = table::number(slot);
-    match table_gate::gate(
-        t,
-        Given::Nothing,
-        Given::Nothing,
-        Given::Nothing,
-        Given::Is(s),
-    ) {
-        Verdict::Stop(r) => table::refused(t, r),
-        Verdict::Pass => {
+    match table_gate::gate(t, None, None, None, Some(s)) {
+        Err(r) => table::refused(t, r),
+        Ok(()) => {
             let x = table::slot_at(t, s);
             let hold = x.hold;
             if HOLDS_MOST <= hold {

@@ -3,7 +3,7 @@ ghost use Rattle.std.specs.Prelude.{◌≡◌, [], length};
 ghost use Rattle.definition.specs.Ending.{end, end_of};
 ghost use Rattle.definition.specs.Closing.{dec_ref};
 
-use channel::{Answer, ChannelIndex, ChannelState, Given, Served, Table, Verdict};
+use channel::{Answer, ChannelIndex, ChannelState, Served, Table};
 use codes::Refusal;
 
 // One hold less; the last one turns Connected into Disconnecting.
@@ -11,15 +11,9 @@ pub fn dec_ref(t: Table, room: &mut [u8], slot: ChannelIndex) -> Served
     ensures { end result room.new [] [] ≡ end_of t [] room.old [] [] (dec_ref t (length room.old) slot.0) }
 {
     let s = table::number(slot);
-    match table_gate::gate(
-        t,
-        Given::Is(room.len()),
-        Given::Nothing,
-        Given::Nothing,
-        Given::Is(s),
-    ) {
-        Verdict::Stop(r) => table::refused(t, r),
-        Verdict::Pass => {
+    match table_gate::gate(t, Some(room.len()), None, None, Some(s)) {
+        Err(r) => table::refused(t, r),
+        Ok(()) => {
             let x = table::slot_at(t, s);
             let hold = x.hold;
             if hold == 0 {

@@ -7,22 +7,16 @@ ghost use Rattle.std.specs.Prelude.{◌≡◌, [], length};
 ghost use Rattle.definition.specs.Ending.{end, end_of};
 ghost use Rattle.definition.specs.Closing.{next_disconnect};
 
-use channel::{Given, Served, Table, Verdict};
+use channel::{Served, Table};
 use table_slot::Want;
 
 // The next disconnect: the response to the peer's request, and the slot is freed; or our own request, and the slot is marked.
 pub fn next_disconnect(t: Table, room: &mut [u8], signal: &mut [u8]) -> Served
     ensures { end result room.new signal.new [] ≡ end_of t [] room.old signal.old [] (next_disconnect t (length room.old) (length signal.old)) }
 {
-    match table_gate::gate(
-        t,
-        Given::Is(room.len()),
-        Given::Is(signal.len()),
-        Given::Nothing,
-        Given::Nothing,
-    ) {
-        Verdict::Stop(r) => table::refused(t, r),
-        Verdict::Pass => {
+    match table_gate::gate(t, Some(room.len()), Some(signal.len()), None, None) {
+        Err(r) => table::refused(t, r),
+        Ok(()) => {
             let s = table::find(t, Want::Due);
             if t.n <= s {
                 return table::done(t);

@@ -5,7 +5,7 @@ ghost use Rattle.std.specs.Prelude.{◌≡◌};
 ghost use Rattle.definition.specs.Ending.{served_of};
 ghost use Rattle.definition.specs.Pending.{next_pending};
 
-use channel::{Answer, Given, Served, Table, Verdict};
+use channel::{Answer, Served, Table};
 use codes::Refusal;
 use table_slot::Want;
 
@@ -13,15 +13,9 @@ use table_slot::Want;
 pub fn next_pending(t: Table, link: u16, up: bool) -> Served
     ensures { result ≡ served_of (next_pending t link up) }
 {
-    match table_gate::gate(
-        t,
-        Given::Nothing,
-        Given::Nothing,
-        Given::Is(link as usize),
-        Given::Nothing,
-    ) {
-        Verdict::Stop(r) => table::refused(t, r),
-        Verdict::Pass => {
+    match table_gate::gate(t, None, None, Some(link as usize), None) {
+        Err(r) => table::refused(t, r),
+        Ok(()) => {
             let s = table::find(t, Want::PendingOf(link));
             if t.n <= s {
                 if up {

@@ -8,7 +8,7 @@ ghost use Rattle.std.specs.Prelude.{◌≡◌, [], length};
 ghost use Rattle.definition.specs.Ending.{end, end_of};
 ghost use Rattle.definition.specs.Opening.{opened};
 
-use channel::{ChannelIndex, Given, Served, Table, Verdict};
+use channel::{ChannelIndex, Served, Table};
 use codes::Refusal;
 
 // Has the channel that we asked for opened? Connected takes a hold; what has ended is freed.
@@ -16,15 +16,9 @@ pub fn opened(t: Table, room: &mut [u8], slot: ChannelIndex, link: u16, up: bool
     ensures { end result room.new [] [] ≡ end_of t [] room.old [] [] (opened t (length room.old) slot.0 link up) }
 {
     let s = table::number(slot);
-    match table_gate::gate(
-        t,
-        Given::Is(room.len()),
-        Given::Nothing,
-        Given::Is(link as usize),
-        Given::Is(s),
-    ) {
-        Verdict::Stop(r) => table::refused(t, r),
-        Verdict::Pass => {
+    match table_gate::gate(t, Some(room.len()), None, Some(link as usize), Some(s)) {
+        Err(r) => table::refused(t, r),
+        Ok(()) => {
             let x = table::slot_at(t, s);
             let k = x.state;
             if table_state::is_disconnected(k) {

@@ -8,7 +8,7 @@ ghost use Rattle.definition.specs.Ending.{end, end_of};
 ghost use Rattle.definition.specs.Frames.{receive, taken_on};
 ghost use Rattle.table_room.specs.Placed.{RoomOf};
 
-use channel::{ChannelIndex, Given, Served, Table, Verdict};
+use channel::{ChannelIndex, Served, Table};
 
 // Takes the oldest job that waits in a slot.
 pub fn receive(
@@ -21,15 +21,9 @@ pub fn receive(
     ensures { end result room.new signal.new job.new ≡ end_of t [] room.old signal.old job.old (receive t (length room.old) (length signal.old) slot.0 (length job.old)) }
 {
     let s = table::number(slot);
-    match table_gate::gate(
-        t,
-        Given::Is(room.len()),
-        Given::Is(signal.len()),
-        Given::Nothing,
-        Given::Is(s),
-    ) {
-        Verdict::Stop(r) => table::refused(t, r),
-        Verdict::Pass => take(t, room, signal, s, job),
+    match table_gate::gate(t, Some(room.len()), Some(signal.len()), None, Some(s)) {
+        Err(r) => table::refused(t, r),
+        Ok(()) => take(t, room, signal, s, job),
     }
 }
 

@@ -4,7 +4,7 @@ ghost use Rattle.std.specs.Prelude.{◌≡◌, [], length};
 ghost use Rattle.definition.specs.Ending.{end, end_of};
 ghost use Rattle.definition.specs.Pending.{reject_pending};
 
-use channel::{Answer, ChannelIndex, Given, Served, Table, Verdict};
+use channel::{Answer, ChannelIndex, Served, Table};
 use codes::{LeCreditConnResultCode, Refusal};
 use signal_forms::{LeCreditConnRes, Signal};
 
@@ -19,15 +19,9 @@ pub fn reject_pending(
     ensures { end result room.new signal.new [] ≡ end_of t [] room.old signal.old [] (reject_pending t (length room.old) (length signal.old) slot.0 outcome) }
 {
     let s = table::number(slot);
-    match table_gate::gate(
-        t,
-        Given::Is(room.len()),
-        Given::Is(signal.len()),
-        Given::Nothing,
-        Given::Is(s),
-    ) {
-        Verdict::Stop(r) => table::refused(t, r),
-        Verdict::Pass => {
+    match table_gate::gate(t, Some(room.len()), Some(signal.len()), None, Some(s)) {
+        Err(r) => table::refused(t, r),
+        Ok(()) => {
             let x = table::slot_at(t, s);
             let k = x.state;
             if !table_state::is_peer_connecting(k) {

@@ -8,23 +8,17 @@ ghost use Rattle.std.specs.Prelude.{◌≡◌, [], length};
 ghost use Rattle.definition.specs.Ending.{end, end_of};
 ghost use Rattle.definition.specs.Pending.{not_code, reject_numbered};
 
-use channel::{ChannelIndex, Given, Served, Table, Verdict};
-use codes::{Refusal, ResultRead};
+use channel::{ChannelIndex, Served, Table};
+use codes::Refusal;
 
 // The number is none of the result codes: 15, where the first refusals let the call pass.
 fn not_code(t: Table, room: &mut [u8], signal: &mut [u8], slot: ChannelIndex) -> Served
     ensures { end result room.new signal.new [] ≡ end_of t [] room.old signal.old [] (not_code t (length room.old) (length signal.old) slot.0) }
 {
     let s = table::number(slot);
-    match table_gate::gate(
-        t,
-        Given::Is(room.len()),
-        Given::Is(signal.len()),
-        Given::Nothing,
-        Given::Is(s),
-    ) {
-        Verdict::Stop(r) => table::refused(t, r),
-        Verdict::Pass => table::refused(t, Refusal::Decode),
+    match table_gate::gate(t, Some(room.len()), Some(signal.len()), None, Some(s)) {
+        Err(r) => table::refused(t, r),
+        Ok(()) => table::refused(t, Refusal::Decode),
     }
 }
 
@@ -39,7 +33,7 @@ pub fn reject_pending(
     ensures { end result room.new signal.new [] ≡ end_of t [] room.old signal.old [] (reject_numbered t (length room.old) (length signal.old) slot.0 res) }
 {
     match codes::result_of(res) {
-        ResultRead::Known(code) => coded::reject_pending(t, room, signal, slot, code),
-        ResultRead::Unknown => not_code(t, room, signal, slot),
+        Some(code) => coded::reject_pending(t, room, signal, slot, code),
+        None => not_code(t, room, signal, slot),
     }
 }

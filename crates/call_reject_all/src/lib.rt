@@ -6,7 +6,7 @@ ghost use Rattle.std.specs.Prelude.{◌≡◌, [], length};
 ghost use Rattle.definition.specs.Ending.{end, end_of};
 ghost use Rattle.definition.specs.Pending.{reject_all_pending};
 
-use channel::{Answer, Given, Served, Table, Verdict};
+use channel::{Answer, Served, Table};
 use codes::LeCreditConnResultCode;
 use signal_forms::{LeCreditConnRes, Signal};
 use table_slot::Want;
@@ -17,13 +17,13 @@ pub fn reject_all_pending(t: Table, room: &mut [u8], signal: &mut [u8], link: u1
 {
     match table_gate::gate(
         t,
-        Given::Is(room.len()),
-        Given::Is(signal.len()),
-        Given::Is(link as usize),
-        Given::Nothing,
+        Some(room.len()),
+        Some(signal.len()),
+        Some(link as usize),
+        None,
     ) {
-        Verdict::Stop(r) => table::refused(t, r),
-        Verdict::Pass => {
+        Err(r) => table::refused(t, r),
+        Ok(()) => {
             let s = table::find(t, Want::UnheldPendingOf(link));
             if t.n <= s {
                 return table::done(t);

@@ -5,22 +5,16 @@ ghost use Rattle.std.specs.Prelude.{◌≡◌, [], length};
 ghost use Rattle.definition.specs.Ending.{end, end_of};
 ghost use Rattle.definition.specs.Frames.{send, sent_on};
 
-use channel::{ChannelIndex, Given, Served, Table, Verdict};
+use channel::{ChannelIndex, Served, Table};
 
 // Writes a job's frames at the output's start, and says on which link they go out.
 pub fn send(t: Table, slot: ChannelIndex, sdu: &[u8], out: &mut [u8]) -> Served
     ensures { end result [] out.new [] ≡ end_of t sdu.now [] out.old [] (send t slot.0 (length sdu.now) (length out.old)) }
 {
     let s = table::number(slot);
-    match table_gate::gate(
-        t,
-        Given::Nothing,
-        Given::Nothing,
-        Given::Nothing,
-        Given::Is(s),
-    ) {
-        Verdict::Stop(r) => table::refused(t, r),
-        Verdict::Pass => send_on(t, s, sdu, out),
+    match table_gate::gate(t, None, None, None, Some(s)) {
+        Err(r) => table::refused(t, r),
+        Ok(()) => send_on(t, s, sdu, out),
     }
 }
 

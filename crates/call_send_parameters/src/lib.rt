@@ -6,7 +6,7 @@ ghost use Rattle.std.specs.Prelude.{◌≡◌, [], length};
 ghost use Rattle.definition.specs.Ending.{end, end_of};
 ghost use Rattle.definition.specs.Asking.{send_signal, send_conn_param_update_req, send_conn_param_update_res};
 
-use channel::{Answer, Given, Served, Table, Verdict};
+use channel::{Answer, Served, Table};
 use signal_forms::{ConnParamUpdateReq, ConnParamUpdateRes, Signal};
 
 // Asks the peer for connection parameters.
@@ -42,15 +42,9 @@ pub fn send_conn_param_update_res(t: Table, signal: &mut [u8], link: u16, res: u
 fn send_signal(t: Table, signal: &mut [u8], link: u16, form: Signal) -> Served
     ensures { end result [] signal.new [] ≡ end_of t [] [] signal.old [] (send_signal t (length signal.old) link form) }
 {
-    match table_gate::gate(
-        t,
-        Given::Nothing,
-        Given::Is(signal.len()),
-        Given::Is(link as usize),
-        Given::Nothing,
-    ) {
-        Verdict::Stop(r) => table::refused(t, r),
-        Verdict::Pass => {
+    match table_gate::gate(t, None, Some(signal.len()), Some(link as usize), None) {
+        Err(r) => table::refused(t, r),
+        Ok(()) => {
             let u = table::spent(t);
             let id = table::next_id(t);
             table_endings::tell(u, signal, Answer::Done, id, form)

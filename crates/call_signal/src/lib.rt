@@ -10,7 +10,7 @@ ghost use Rattle.std.specs.Prelude.{◌≡◌, [], length};
 ghost use Rattle.definition.specs.Ending.{end, end_of};
 ghost use Rattle.definition.specs.Signals.{signalled};
 
-use channel::{Given, Served, Table, Verdict};
+use channel::{Served, Table};
 
 // One signal PDU of the link: does the caller listen there, and is it the central?
 pub fn signal(
@@ -26,12 +26,12 @@ pub fn signal(
 {
     match table_gate::gate(
         t,
-        Given::Is(room.len()),
-        Given::Is(signal.len()),
-        Given::Is(link as usize),
-        Given::Nothing,
+        Some(room.len()),
+        Some(signal.len()),
+        Some(link as usize),
+        None,
     ) {
-        Verdict::Stop(r) => table::refused(t, r),
-        Verdict::Pass => behind::checked(t, room, signal, link, listening, central, pdu),
+        Err(r) => table::refused(t, r),
+        Ok(()) => behind::checked(t, room, signal, link, listening, central, pdu),
     }
 }

@@ -5,22 +5,16 @@ ghost use Rattle.std.specs.Prelude.{◌≡◌, [], length};
 ghost use Rattle.definition.specs.Ending.{end, end_of};
 ghost use Rattle.definition.specs.Portions.{start_job, start_on};
 
-use channel::{ChannelIndex, Given, Served, Table, Verdict};
+use channel::{ChannelIndex, Served, Table};
 
 // Sets a job's credits aside and writes the head of its first frame at the buffer's start; says how many frames it has, and on which link they go out.
 pub fn start_job(t: Table, slot: ChannelIndex, stated: usize, buffer: &mut [u8]) -> Served
     ensures { end result [] buffer.new [] ≡ end_of t [] [] buffer.old [] (start_job t slot.0 stated (length buffer.old)) }
 {
     let s = table::number(slot);
-    match table_gate::gate(
-        t,
-        Given::Nothing,
-        Given::Nothing,
-        Given::Nothing,
-        Given::Is(s),
-    ) {
-        Verdict::Stop(r) => table::refused(t, r),
-        Verdict::Pass => start_on(t, s, stated, buffer),
+    match table_gate::gate(t, None, None, None, Some(s)) {
+        Err(r) => table::refused(t, r),
+        Ok(()) => start_on(t, s, stated, buffer),
     }
 }
 

@@ -129,34 +129,13 @@ pub struct Table {
     pub spsms: [u8; 32],
 }
 
-// A number that the caller gives or leaves to the default.
-#[derive(Clone, Copy)]
-pub enum Setting {
-    Default,
-    Is(u16),
-}
-
 // What an accept or a create asks for.
 #[derive(Clone, Copy)]
 pub struct L2capChannelConfig {
-    pub mtu: Setting,
-    pub mps: Setting,
+    pub mtu: Option<u16>,
+    pub mps: Option<u16>,
     pub policy: CreditFlowPolicy,
-    pub credits: Setting,
-}
-
-// A number that a call may be given, for the refusals that come first: a length, a link or a slot.
-#[derive(Clone, Copy)]
-pub enum Given {
-    Nothing,
-    Is(usize),
-}
-
-// What those first refusals come to.
-#[derive(Clone, Copy)]
-pub enum Verdict {
-    Pass,
-    Stop(Refusal),
+    pub credits: Option<u16>,
 }
 
 // What a call answers.

@@ -1,10 +1,8 @@
 -- The paper's number for each refusal (document 01, 'What a refusal says and leaves'; 24 and on, document 02) and each result code (Core Vol 3 Part A 4.23).
-use Rattle.std.specs.Prelude.{◌≡◌, refl, Bool, true, false, cond, ℕ, eqb}
+use Rattle.std.specs.Prelude.{◌≡◌, refl, Bool, true, false, cond, ℕ, eqb, None, Option, Some}
 use Rattle.std.proofs.Common.{sym, ◌∙◌, arith, eqb-true}
 use Rattle.codes.specs.declared.LeCreditConnResultCode.{LeCreditConnResultCode}
 use Rattle.codes.specs.declared.LeCreditConnResultCode.TheVariants.{Success, SpsmNotSupported, NoResources, InsufficientAuthentication, InsufficientAuthorization, EncryptionKeyTooShort, InsufficientEncryption, InvalidSourceId, ScidAlreadyAllocated, UnacceptableParameters}
-use Rattle.codes.specs.declared.ResultRead.{ResultRead}
-use Rattle.codes.specs.declared.ResultRead.TheVariants.{Known, Unknown}
 use Rattle.codes.specs.declared.Refusal.{Refusal}
 use Rattle.codes.specs.declared.Refusal.TheVariants as Refusal
 
@@ -21,22 +19,22 @@ result_number ScidAlreadyAllocated = 10
 result_number UnacceptableParameters = 11
 
 -- "Result codes: 0, 2 and 4 to 11; another number is Decode."
-unfoldable pub result_of : ℕ → ResultRead
+unfoldable pub result_of : ℕ → Option LeCreditConnResultCode
 result_of n =
-    cond (eqb n 0) (Known Success)
-    (cond (eqb n 2) (Known SpsmNotSupported)
-    (cond (eqb n 4) (Known NoResources)
-    (cond (eqb n 5) (Known InsufficientAuthentication)
-    (cond (eqb n 6) (Known InsufficientAuthorization)
-    (cond (eqb n 7) (Known EncryptionKeyTooShort)
-    (cond (eqb n 8) (Known InsufficientEncryption)
-    (cond (eqb n 9) (Known InvalidSourceId)
-    (cond (eqb n 10) (Known ScidAlreadyAllocated)
-    (cond (eqb n 11) (Known UnacceptableParameters)
-    Unknown)))))))))
+    cond (eqb n 0) (Some Success)
+    (cond (eqb n 2) (Some SpsmNotSupported)
+    (cond (eqb n 4) (Some NoResources)
+    (cond (eqb n 5) (Some InsufficientAuthentication)
+    (cond (eqb n 6) (Some InsufficientAuthorization)
+    (cond (eqb n 7) (Some EncryptionKeyTooShort)
+    (cond (eqb n 8) (Some InsufficientEncryption)
+    (cond (eqb n 9) (Some InvalidSourceId)
+    (cond (eqb n 10) (Some ScidAlreadyAllocated)
+    (cond (eqb n 11) (Some UnacceptableParameters)
+    None)))))))))
 
 -- the number of a code is read as that code
-pub result_back : (c : LeCreditConnResultCode) → result_of (result_number c) ≡ Known c
+pub result_back : (c : LeCreditConnResultCode) → result_of (result_number c) ≡ Some c
 unfolding result_of
 result_back Success = refl
 result_back SpsmNotSupported = refl
@@ -50,15 +48,15 @@ result_back ScidAlreadyAllocated = refl
 result_back UnacceptableParameters = refl
 
 -- and a number that is read as a code is that code's number
-read_as : (n k : ℕ) (d : LeCreditConnResultCode) {rest : ResultRead} → result_number d ≡ k → ((c : LeCreditConnResultCode) → rest ≡ Known c → result_number c ≡ n)
-    → (c : LeCreditConnResultCode) → cond (eqb n k) (Known d) rest ≡ Known c → result_number c ≡ n
+read_as : (n k : ℕ) (d : LeCreditConnResultCode) {rest : Option LeCreditConnResultCode} → result_number d ≡ k → ((c : LeCreditConnResultCode) → rest ≡ Some c → result_number c ≡ n)
+    → (c : LeCreditConnResultCode) → cond (eqb n k) (Some d) rest ≡ Some c → result_number c ≡ n
 read_as n k d {rest} number later c = go (eqb n k) refl
   where
-    go : (b : Bool) → eqb n k ≡ b → cond b (Known d) rest ≡ Known c → result_number c ≡ n
+    go : (b : Bool) → eqb n k ≡ b → cond b (Some d) rest ≡ Some c → result_number c ≡ n
     go true t e = let same : d ≡ c = cc in rw (← same) (number ∙ sym (eqb-true n k t))
     go false t e = later c e
 
-pub result_exact : (n : ℕ) (c : LeCreditConnResultCode) → result_of n ≡ Known c → result_number c ≡ n
+pub result_exact : (n : ℕ) (c : LeCreditConnResultCode) → result_of n ≡ Some c → result_number c ≡ n
 unfolding result_of
 result_exact n =
     read_as n 0 Success refl

@@ -23,13 +23,6 @@ pub enum LeCreditConnResultCode {
     UnacceptableParameters,
 }
 
-// A number that was read: a result code, or none of them.
-#[derive(Clone, Copy)]
-pub enum ResultRead {
-    Known(LeCreditConnResultCode),
-    Unknown,
-}
-
 // What a call refuses with, in the order of document 01's table, and then of document 02.
 #[derive(Clone, Copy)]
 pub enum Refusal {
@@ -79,40 +72,40 @@ pub fn result_number(c: LeCreditConnResultCode) -> u16
 }
 
 // The result code of a number on the air: 0, 2 and 4 to 11 have one.
-pub fn result_of(n: u16) -> ResultRead
+pub fn result_of(n: u16) -> Option<LeCreditConnResultCode>
     ensures { result ≡ result_of n }
 {
     if n == 0 {
-        return ResultRead::Known(LeCreditConnResultCode::Success);
+        return Some(LeCreditConnResultCode::Success);
     }
     if n == 2 {
-        return ResultRead::Known(LeCreditConnResultCode::SpsmNotSupported);
+        return Some(LeCreditConnResultCode::SpsmNotSupported);
     }
     if n == 4 {
-        return ResultRead::Known(LeCreditConnResultCode::NoResources);
+        return Some(LeCreditConnResultCode::NoResources);
     }
     if n == 5 {
-        return ResultRead::Known(LeCreditConnResultCode::InsufficientAuthentication);
+        return Some(LeCreditConnResultCode::InsufficientAuthentication);
     }
     if n == 6 {
-        return ResultRead::Known(LeCreditConnResultCode::InsufficientAuthorization);
+        return Some(LeCreditConnResultCode::InsufficientAuthorization);
     }
     if n == 7 {
-        return ResultRead::Known(LeCreditConnResultCode::EncryptionKeyTooShort);
+        return Some(LeCreditConnResultCode::EncryptionKeyTooShort);
     }
     if n == 8 {
-        return ResultRead::Known(LeCreditConnResultCode::InsufficientEncryption);
+        return Some(LeCreditConnResultCode::InsufficientEncryption);
     }
     if n == 9 {
-        return ResultRead::Known(LeCreditConnResultCode::InvalidSourceId);
+        return Some(LeCreditConnResultCode::InvalidSourceId);
     }
     if n == 10 {
-        return ResultRead::Known(LeCreditConnResultCode::ScidAlreadyAllocated);
+        return Some(LeCreditConnResultCode::ScidAlreadyAllocated);
     }
     if n == 11 {
-        return ResultRead::Known(LeCreditConnResultCode::UnacceptableParameters);
+        return Some(LeCreditConnResultCode::UnacceptableParameters);
     }
-    ResultRead::Unknown
+    None
 }
 
 // The refusal's number on paper.

@@ -1,12 +1,10 @@
 -- The credit account (document 01, 'Cutting, joining, credits'; Core Vol 3 Part A 10.1): what each of its operations gives.
 -- A frame uses one credit of the peer's; a grant gives back what was used. Both numbers saturate, as in the original.
-use Rattle.std.specs.Prelude.{Bool, ℕ, ◌+◌, ◌-◌, min, eqb, leb, ltb}
+use Rattle.std.specs.Prelude.{Bool, ℕ, ◌+◌, ◌-◌, min, eqb, leb, ltb, None, Option, Some}
 use Rattle.lists.specs.Choose.{choose}
 use Rattle.credit.specs.declared.CreditFlowPolicy.{CreditFlowPolicy}
 use Rattle.credit.specs.declared.CreditFlowPolicy.TheVariants.{Every, MinThreshold}
 use Rattle.credit.specs.declared.CreditFlowControl.{CreditFlowControl}
-use Rattle.credit.specs.declared.Grant.{Grant}
-use Rattle.credit.specs.declared.Grant.TheVariants.{Nothing, Credits}
 
 -- credits, and the sum of those held and received, end here
 abbrev pub credits_most : ℕ
@@ -29,13 +27,13 @@ due (Every k) credits received = leb k received
 due (MinThreshold t) credits received = ltb credits t
 
 -- ".. never 0 credits"
-unfoldable pub grant_of : CreditFlowControl → Grant
-grant_of a = choose (eqb a.received 0) Nothing (choose (due a.policy a.credits a.received) (Credits a.received) Nothing)
+unfoldable pub grant_of : CreditFlowControl → Option ℕ
+grant_of a = choose (eqb a.received 0) None (choose (due a.policy a.credits a.received) (Some a.received) None)
 
 -- the credits that a grant stands for
-unfoldable pub grant_credits : Grant → ℕ
-grant_credits Nothing = 0
-grant_credits (Credits n) = n
+unfoldable pub grant_credits : Option ℕ → ℕ
+grant_credits None = 0
+grant_credits (Some n) = n
 
 -- "Credits held plus received"
 abbrev pub credit_sum : CreditFlowControl → ℕ

@@ -25,13 +25,6 @@ pub struct CreditFlowControl {
     pub received: u16,
 }
 
-// What the policy says now: nothing, or so many credits, which are never 0.
-#[derive(Clone, Copy)]
-pub enum Grant {
-    Nothing,
-    Credits(u16),
-}
-
 // a - b, and 0 below it.
 fn less(a: u16, b: u16) -> u16
     ensures { result ≡ a - b }
@@ -100,27 +93,27 @@ impl CreditFlowControl {
     }
 
     // What is to be granted now.
-    pub fn process(self) -> Grant
+    pub fn process(self) -> Option<u16>
         ensures { result ≡ grant_of self }
     {
         let p = self.policy;
         let c = self.credits;
         let n = self.received;
         if n == 0 {
-            return Grant::Nothing;
+            return None;
         }
         match p {
             CreditFlowPolicy::Every(k) => {
                 if k <= n {
-                    return Grant::Credits(n);
+                    return Some(n);
                 }
-                Grant::Nothing
+                None
             }
             CreditFlowPolicy::MinThreshold(t) => {
                 if c < t {
-                    return Grant::Credits(n);
+                    return Some(n);
                 }
-                Grant::Nothing
+                None
             }
         }
     }

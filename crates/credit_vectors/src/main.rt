@@ -2,7 +2,7 @@
 // and n granted credits leave, first by the by-value method, then by the function that changes the account where it stands.
 #![tactic(auto)]
 
-use credit::{CreditFlowControl, CreditFlowPolicy, Grant};
+use credit::{CreditFlowControl, CreditFlowPolicy};
 use std::io;
 
 fn number(rt: &impl Print, n: u16) -> io::Result<()> {
@@ -18,10 +18,10 @@ fn account(rt: &impl Print, a: CreditFlowControl) -> io::Result<()> {
     number(rt, a.received)
 }
 
-fn grant(rt: &impl Print, g: Grant) -> io::Result<()> {
+fn grant(rt: &impl Print, g: Option<u16>) -> io::Result<()> {
     match g {
-        Grant::Nothing => text(rt, b"grants nothing "),
-        Grant::Credits(n) => {
+        None => text(rt, b"grants nothing "),
+        Some(n) => {
             text(rt, b"grants ")?;
             number(rt, n)
         }

@@ -1,6 +1,6 @@
 -- A call that names a link touches that link's slots and free ones alone: a CID, an identifier or a peer CID is always matched together
 -- with its link. One lemma a call that names one, and `apart` for all of them.
-use Rattle.std.specs.Prelude.{◌≡◌, Bool, false, true, ◌&&◌, List, eqb, leb}
+use Rattle.std.specs.Prelude.{◌≡◌, Bool, false, true, ◌&&◌, List, eqb, leb, None, Option, Some}
 use Rattle.std.proofs.Math.Path.{refl, ap}
 use Rattle.std.proofs.Common.{◌∙◌, eqb-true}
 use Rattle.std.proofs.Math.Bool.{not}
@@ -11,26 +11,9 @@ use Rattle.sar_join.specs.declared.Joined.{Joined}
 use Rattle.sar_join.specs.declared.Joined.TheVariants as Joined
 use Rattle.signal_headers.specs.declared.Checked.{Checked}
 use Rattle.signal_headers.specs.declared.Checked.TheVariants.{Good, Cut, Past}
-use Rattle.signal_bodies.specs.declared.CommandRejectResRead.{CommandRejectResRead}
-use Rattle.signal_bodies.specs.declared.CommandRejectResRead.TheVariants as CommandRejectRes
-use Rattle.signal_bodies.specs.declared.DisconnectionReqRead.{DisconnectionReqRead}
-use Rattle.signal_bodies.specs.declared.DisconnectionReqRead.TheVariants as DisconnectionReq
-use Rattle.signal_bodies.specs.declared.DisconnectionResRead.{DisconnectionResRead}
-use Rattle.signal_bodies.specs.declared.DisconnectionResRead.TheVariants as DisconnectionRes
-use Rattle.signal_bodies.specs.declared.ConnParamUpdateReqRead.{ConnParamUpdateReqRead}
-use Rattle.signal_bodies.specs.declared.ConnParamUpdateReqRead.TheVariants as ConnParamUpdateReq
-use Rattle.signal_bodies.specs.declared.ConnParamUpdateResRead.{ConnParamUpdateResRead}
-use Rattle.signal_bodies.specs.declared.ConnParamUpdateResRead.TheVariants as ConnParamUpdateRes
-use Rattle.signal_bodies.specs.declared.le_credit.LeCreditConnReqRead.{LeCreditConnReqRead}
-use Rattle.signal_bodies.specs.declared.le_credit.LeCreditConnReqRead.TheVariants as LeCreditConnReq
-use Rattle.signal_bodies.specs.declared.le_credit.LeCreditConnResRead.{LeCreditConnResRead}
-use Rattle.signal_bodies.specs.declared.le_credit.LeCreditConnResRead.TheVariants as LeCreditConnRes
-use Rattle.signal_bodies.specs.declared.le_credit.LeCreditFlowIndRead.{LeCreditFlowIndRead}
-use Rattle.signal_bodies.specs.declared.le_credit.LeCreditFlowIndRead.TheVariants as LeCreditFlowInd
 use Rattle.signal_forms.specs.declared.Signal.{Signal}
 use Rattle.channel.specs.declared.ChannelState.{ChannelState}
 use Rattle.channel.specs.declared.ChannelState.TheVariants.{Disconnected}
-use Rattle.channel.specs.declared.Given.TheVariants.{Nothing, Is}
 use Rattle.channel.specs.declared.L2capChannelConfig.{L2capChannelConfig}
 use Rattle.channel.specs.declared.Slot.{Slot}
 use Rattle.channel.specs.declared.Table.{Table}
@@ -47,6 +30,14 @@ use Rattle.definition.specs.Forms.{Fit, Basis, Does}
 use Rattle.definition.proofs.Forms.{in_use, itself, with-id, still_does, change_does, sweep_does, if_does, else_does, gate_does, gate-at, found-passes, free-slot}
 use Rattle.definition.proofs.Tells.{cid_slot}
 use Rattle.definition.specs.Apart.{Apart, ApartSlot, asked_by, called_by, free, its, untouched}
+use Rattle.signal_forms.specs.declared.CommandRejectRes.{CommandRejectRes}
+use Rattle.signal_forms.specs.declared.ConnParamUpdateReq.{ConnParamUpdateReq}
+use Rattle.signal_forms.specs.declared.ConnParamUpdateRes.{ConnParamUpdateRes}
+use Rattle.signal_forms.specs.declared.DisconnectionReq.{DisconnectionReq}
+use Rattle.signal_forms.specs.declared.DisconnectionRes.{DisconnectionRes}
+use Rattle.signal_forms.specs.declared.LeCreditConnReq.{LeCreditConnReq}
+use Rattle.signal_forms.specs.declared.LeCreditConnRes.{LeCreditConnRes}
+use Rattle.signal_forms.specs.declared.LeCreditFlowInd.{LeCreditFlowInd}
 
 -- a slot found by the test q, in a state that is not Disconnected, with link k
 of : (q : ChannelState → Bool) → q Disconnected ≡ false → (x : Slot) (k : ℕ) → (q x.state && eqb x.link k) ≡ true → holder x ≡ by k
@@ -68,7 +59,7 @@ module _ (t : Table) (fit : Fit t) (link : ℕ) where
   frame_apart : (room cid : ℕ) (head : List ℕ) (count : ℕ) → Does (ApartSlot link) t (dispatch t room link cid head count)
   unfolding dispatch
   frame_apart room cid head count =
-      gate_does on (Is room) Nothing (Is link) Nothing λ _.
+      gate_does on (Some room) None (Some link) None λ _.
       else_does on _ _ _ itself λ a. else_does on _ _ _ itself λ b. else_does on _ _ _ itself λ d.
       let x : Slot = slot_at t (slot_of cid) in
       let mine = in_use is_connected refl x.state x.link (not-false _ b) ∙ ap by (eqb-true x.link link (not-false _ d)) in
@@ -80,27 +71,27 @@ module _ (t : Table) (fit : Fit t) (link : ℕ) where
   pends_apart : (up : Bool) → Does (ApartSlot link) t (next_pending t link up)
   unfolding next_pending
   pends_apart up =
-      gate_does on Nothing Nothing (Is link) Nothing λ _.
+      gate_does on None None (Some link) None λ _.
       if_does on (λ _. else_does on _ _ _ itself λ _. still_does on itself) λ a.
       else_does on _ _ _ itself λ _. change_does on _ itself a (its (of is_peer_connecting refl (slot_at t (found (pending_of link) t)) link (found-passes t fit (pending_of link) a)))
 
   rejects_all_apart : (room signal : ℕ) → Does (ApartSlot link) t (reject_all_pending t room signal link)
   unfolding reject_all_pending
   rejects_all_apart room signal =
-      gate_does on (Is room) (Is signal) (Is link) Nothing λ _. else_does on _ _ _ itself λ a.
+      gate_does on (Some room) (Some signal) (Some link) None λ _. else_does on _ _ _ itself λ a.
       let x : Slot = slot_at t (found (unheld_pending_of link) t) in
       change_does on _ itself a (its (of is_peer_connecting refl x link (and_left (pending_of link x) _ (found-passes t fit (unheld_pending_of link) a))))
 
   creates_apart : (signal spsm : ℕ) (c : L2capChannelConfig) → Does (ApartSlot link) t (create t signal link spsm c)
   unfolding create
   creates_apart signal spsm c =
-      gate_does on Nothing (Is signal) (Is link) Nothing λ _.
+      gate_does on None (Some signal) (Some link) None λ _.
       else_does on _ _ _ with-id λ _. else_does on _ _ _ with-id λ _. else_does on _ _ _ with-id λ a. change_does on _ with-id a (free (free-slot t fit a))
 
   opens_apart : (room s : ℕ) (up : Bool) → Does (ApartSlot link) t (opened t room s link up)
   unfolding opened
   opens_apart room s up =
-      gate-at on (Is room) Nothing (Is link) s λ a.
+      gate-at on (Some room) None (Some link) s λ a.
       else_does on _ _ _ itself λ b. else_does on _ _ _ itself λ d.
       let x : Slot = slot_at t s in
       let h : holder x ≡ by link = in_use (λ k. not (is_disconnected k)) refl x.state x.link (ap not b) ∙ ap by (eqb-true x.link link (not-false _ d)) in
@@ -110,59 +101,59 @@ module _ (t : Table) (fit : Fit t) (link : ℕ) where
 
   down_apart : (room : ℕ) → Does (ApartSlot link) t (disconnected t room link)
   unfolding disconnected
-  down_apart room = gate_does on (Is room) Nothing (Is link) Nothing λ _. sweep_does on (of_link link) (λ x e. its (of (λ k. not (is_disconnected k)) refl x link e))
+  down_apart room = gate_does on (Some room) None (Some link) None λ _. sweep_does on (of_link link) (λ x e. its (of (λ k. not (is_disconnected k)) refl x link e))
 
   -- ---- Signals.antt
 
-  reject-apart : (id : ℕ) (b : CommandRejectResRead) → Does (ApartSlot link) t (on_reject t id b)
+  reject-apart : (id : ℕ) (b : Option CommandRejectRes) → Does (ApartSlot link) t (on_reject t id b)
   unfolding on_reject
-  reject-apart id CommandRejectRes.Decode = still_does on itself
-  reject-apart id (CommandRejectRes.Is res) = still_does on itself
+  reject-apart id None = still_does on itself
+  reject-apart id (Some res) = still_does on itself
 
-  disconnection_req-apart : (id : ℕ) (b : DisconnectionReqRead) → Does (ApartSlot link) t (on_disconnection_req t link id b)
+  disconnection_req-apart : (id : ℕ) (b : Option DisconnectionReq) → Does (ApartSlot link) t (on_disconnection_req t link id b)
   unfolding on_disconnection_req
-  disconnection_req-apart id DisconnectionReq.Decode = still_does on itself
-  disconnection_req-apart id (DisconnectionReq.Is req) =
+  disconnection_req-apart id None = still_does on itself
+  disconnection_req-apart id (Some req) =
       else_does on _ _ _ itself λ a. else_does on _ _ _ itself λ b.
       change_does on (slot_of req.dcid) itself (cid_slot t req.dcid (not-false _ a)) (its (of (λ k. not (is_disconnected k)) refl (slot_at t (slot_of req.dcid)) link (not-false _ b)))
 
-  disconnection_res-apart : (id : ℕ) (b : DisconnectionResRead) → Does (ApartSlot link) t (on_disconnection_res t link id b)
+  disconnection_res-apart : (id : ℕ) (b : Option DisconnectionRes) → Does (ApartSlot link) t (on_disconnection_res t link id b)
   unfolding on_disconnection_res
-  disconnection_res-apart id DisconnectionRes.Decode = still_does on itself
-  disconnection_res-apart id (DisconnectionRes.Is res) =
+  disconnection_res-apart id None = still_does on itself
+  disconnection_res-apart id (Some res) =
       else_does on _ _ _ itself λ a. else_does on _ _ _ itself λ b.
       change_does on (slot_of res.scid) itself (cid_slot t res.scid (not-false _ a)) (its (of is_disconnecting refl (slot_at t (slot_of res.scid)) link (not-false _ b)))
 
-  parameters-apart : (id : ℕ) (b : ConnParamUpdateReqRead) → Does (ApartSlot link) t (on_parameters t id b)
+  parameters-apart : (id : ℕ) (b : Option ConnParamUpdateReq) → Does (ApartSlot link) t (on_parameters t id b)
   unfolding on_parameters
-  parameters-apart id ConnParamUpdateReq.Decode = still_does on itself
-  parameters-apart id (ConnParamUpdateReq.Is req) = else_does on _ _ _ itself λ _. still_does on itself
+  parameters-apart id None = still_does on itself
+  parameters-apart id (Some req) = else_does on _ _ _ itself λ _. still_does on itself
 
-  parameter_response_apart : (id : ℕ) (b : ConnParamUpdateResRead) → Does (ApartSlot link) t (on_parameter_response t id b)
+  parameter_response_apart : (id : ℕ) (b : Option ConnParamUpdateRes) → Does (ApartSlot link) t (on_parameter_response t id b)
   unfolding on_parameter_response
-  parameter_response_apart id ConnParamUpdateRes.Decode = still_does on itself
-  parameter_response_apart id (ConnParamUpdateRes.Is res) = still_does on itself
+  parameter_response_apart id None = still_does on itself
+  parameter_response_apart id (Some res) = still_does on itself
 
-  conn_req_apart : (listening : Bool) (id : ℕ) (b : LeCreditConnReqRead) → Does (ApartSlot link) t (on_conn_req t link listening id b)
+  conn_req_apart : (listening : Bool) (id : ℕ) (b : Option LeCreditConnReq) → Does (ApartSlot link) t (on_conn_req t link listening id b)
   unfolding on_conn_req
-  conn_req_apart listening id LeCreditConnReq.Decode = still_does on itself
-  conn_req_apart listening id (LeCreditConnReq.Is req) =
+  conn_req_apart listening id None = still_does on itself
+  conn_req_apart listening id (Some req) =
       else_does on _ _ _ itself λ _. else_does on _ _ _ itself λ _. else_does on _ _ _ itself λ _. else_does on _ _ _ itself λ _. else_does on _ _ _ itself λ a.
       change_does on _ itself a (free (free-slot t fit a))
 
-  conn_res_apart : (id : ℕ) (b : LeCreditConnResRead) → Does (ApartSlot link) t (on_conn_res t link id b)
+  conn_res_apart : (id : ℕ) (b : Option LeCreditConnRes) → Does (ApartSlot link) t (on_conn_res t link id b)
   unfolding on_conn_res
-  conn_res_apart id LeCreditConnRes.Decode = still_does on itself
-  conn_res_apart id (LeCreditConnRes.Is res) =
+  conn_res_apart id None = still_does on itself
+  conn_res_apart id (Some res) =
       if_does on (λ _. sweep_does on (attempt_of link) (λ x e. its (of is_connecting refl x link e))) λ a.
       let s : ℕ = found (attempt_by link id) t in
       let h = of is_connecting refl (slot_at t s) link (and_left (attempt_of link (slot_at t s)) _ (found-passes t fit (attempt_by link id) a)) in
       if_does on (λ _. change_does on s itself a (its h)) λ _. if_does on (λ _. change_does on s itself a (its h)) λ _. change_does on s itself a (its h)
 
-  credits-apart : (id : ℕ) (b : LeCreditFlowIndRead) → Does (ApartSlot link) t (on_credits t link id b)
+  credits-apart : (id : ℕ) (b : Option LeCreditFlowInd) → Does (ApartSlot link) t (on_credits t link id b)
   unfolding on_credits
-  credits-apart id LeCreditFlowInd.Decode = still_does on itself
-  credits-apart id (LeCreditFlowInd.Is ind) =
+  credits-apart id None = still_does on itself
+  credits-apart id (Some ind) =
       else_does on _ _ _ itself λ a.
       let s : ℕ = found (connected_to link ind.cid) t in
       let x : Slot = slot_at t s in
@@ -185,13 +176,13 @@ module _ (t : Table) (fit : Fit t) (link : ℕ) where
 
   signals_apart : (room signal : ℕ) (listening central : Bool) (pdu : List ℕ) → Does (ApartSlot link) t (signalled t room signal link listening central pdu)
   unfolding signalled
-  signals_apart room signal listening central pdu = gate_does on (Is room) (Is signal) (Is link) Nothing λ _. checked-apart listening central pdu _
+  signals_apart room signal listening central pdu = gate_does on (Some room) (Some signal) (Some link) None λ _. checked-apart listening central pdu _
 
   -- ---- Asking.antt
 
   sends_signal_apart : (signal : ℕ) (s : Signal) → Does (ApartSlot link) t (send_signal t signal link s)
   unfolding send_signal
-  sends_signal_apart signal s = gate_does on Nothing (Is signal) (Is link) Nothing λ _. still_does on with-id
+  sends_signal_apart signal s = gate_does on None (Some signal) (Some link) None λ _. still_does on with-id
 
 -- ---- all calls
 

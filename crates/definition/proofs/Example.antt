@@ -19,7 +19,6 @@ use Rattle.signal_bodies.specs.LeCreditBodies.{le_credit_conn_req, le_credit_con
 use Rattle.signal_parameter_rule.specs.Parameters.{parameters_valid}
 use Rattle.channel.specs.declared.Answer.TheVariants.{Done, Refused, At, Link, Due, Frames, Job, Event}
 use Rattle.channel.specs.declared.ChannelState.TheVariants.{Disconnected, Connecting, Connected, PeerDisconnecting, Disconnecting}
-use Rattle.channel.specs.declared.Setting.TheVariants as Setting
 use Rattle.channel.specs.declared.Slot.{Slot}
 use Rattle.definition.specs.Mem.{fill, move, moves, parts, fills, written}
 use Rattle.definition.specs.Table.{fresh, slot_at, index, slot_fits, well_formed}

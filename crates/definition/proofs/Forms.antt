@@ -1,6 +1,6 @@
 -- What is said of a call slot by slot: P holds of every slot as it was, as it is left, and of the moves in its part of the room. And the
 -- laws by which a call's proof shows it, one for each form that an outcome has (Outcome.antt).
-use Rattle.std.specs.Prelude.{◌≡◌, Bool, leb, length, get_or, set}
+use Rattle.std.specs.Prelude.{◌≡◌, Bool, leb, length, get_or, set, Err, Ok, Option, Result, Some}
 use Rattle.std.proofs.Math.Path.{refl}
 use Rattle.std.proofs.Common.{sym, ◌∙◌, ap, not-suc-le-zero, le_of_suc-le-suc, arith, length-take, length-set, get_or-take, leb-false}
 use Rattle.std.proofs.Math.Bool.{true, false}
@@ -15,10 +15,6 @@ use Rattle.lists.specs.Each.{take-map_first, length-map_first}
 use Rattle.channel.specs.declared.Answer.{Answer}
 use Rattle.channel.specs.declared.ChannelState.{ChannelState}
 use Rattle.channel.specs.declared.ChannelState.TheVariants.{Disconnected, Connecting, PeerConnecting, Connected, ConnectFailed, PeerDisconnecting, Disconnecting}
-use Rattle.channel.specs.declared.Given.{Given}
-use Rattle.channel.specs.declared.Given.TheVariants.{Is}
-use Rattle.channel.specs.declared.Verdict.{Verdict}
-use Rattle.channel.specs.declared.Verdict.TheVariants.{Pass, Stop}
 use Rattle.channel.specs.declared.Slot.{Slot}
 use Rattle.channel.specs.declared.Table.{Table}
 use Rattle.definition.specs.Mem.{Fill, Move, wipe}
@@ -28,6 +24,7 @@ use Rattle.definition.specs.Outcome.{Outcome, still, only, change, filling, swee
 use Rattle.definition.specs.Calls.{nobody, by, holder_in, holder}
 use Rattle.definition.proofs.Tells.{not_stopped}
 use Rattle.definition.specs.Forms.{Basis, Does, Each, Fit, Like, next, rest}
+use Rattle.codes.specs.declared.Refusal.{Refusal}
 
 -- ---- whose a slot is
 
@@ -80,11 +77,11 @@ module _ {t : Table} where
 
 -- ---- the refusals that come first let pass only a table that is well-formed, and a slot in use
 
-pub pass_slot : (t : Table) (room signal link : Given) (s : ℕ) → verdict t room signal link (Is s) ≡ Pass → leb t.n s ≡ false
+pub pass_slot : (t : Table) (room signal link : Option ℕ) (s : ℕ) → verdict t room signal link (Some s) ≡ Ok tt → leb t.n s ≡ false
 unfolding verdict
 pass_slot t room signal link s e = (not_stopped _ _ _ (not_stopped _ _ _ (not_stopped _ _ _ (not_stopped _ _ _ (not_stopped _ _ _ e).1).1).1).1).0
 
-pub pass_well : (t : Table) (room signal link slot : Given) → verdict t room signal link slot ≡ Pass → well_formed t ≡ true
+pub pass_well : (t : Table) (room signal link slot : Option ℕ) → verdict t room signal link slot ≡ Ok tt → well_formed t ≡ true
 unfolding verdict
 pass_well t room signal link slot e = not-false _ (not_stopped _ _ _ e).0
 
@@ -138,15 +135,15 @@ module _ {P : Slot → Slot → List Move → Type 0} {t : Table} (on : Basis P 
   else_does t' a out q g = if_does (λ _. still_does q) g
 
   -- the refusals that come first
-  passed_does : (v : Verdict) {o : Outcome} → (v ≡ Pass → Does P t o) → Does P t (passed t v o)
-  passed_does Pass f = f refl
-  passed_does (Stop r) f = still_does itself
+  passed_does : (v : Result (Unit {0}) Refusal) {o : Outcome} → (v ≡ Ok tt → Does P t o) → Does P t (passed t v o)
+  passed_does (Ok tt) f = f refl
+  passed_does (Err r) f = still_does itself
 
-  pub gate_does : (room signal link slot : Given) {o : Outcome} → (verdict t room signal link slot ≡ Pass → Does P t o) → Does P t (gate t room signal link slot o)
+  pub gate_does : (room signal link slot : Option ℕ) {o : Outcome} → (verdict t room signal link slot ≡ Ok tt → Does P t o) → Does P t (gate t room signal link slot o)
   gate_does room signal link slot f = passed_does (verdict t room signal link slot) f
 
-  pub gate-at : (room signal link : Given) (s : ℕ) {o : Outcome} → (leb t.n s ≡ false → Does P t o) → Does P t (gate t room signal link (Is s) o)
-  gate-at room signal link s f = passed_does (verdict t room signal link (Is s)) (λ v. f (pass_slot t room signal link s v))
+  pub gate-at : (room signal link : Option ℕ) (s : ℕ) {o : Outcome} → (leb t.n s ≡ false → Does P t o) → Does P t (gate t room signal link (Some s) o)
+  gate-at room signal link s f = passed_does (verdict t room signal link (Some s)) (λ v. f (pass_slot t room signal link s v))
 
 -- ---- what searches tell of a slot
 

@@ -1,6 +1,6 @@
 -- What each call hands out to the caller's memory: a take, to its job buffer alone, octets of the slot's own part of the room; a send, its
 -- SDU; a portion, its octets; all else are octets that the call worked out itself. One lemma a call, and `hands` for all of them.
-use Rattle.std.specs.Prelude.{◌≡◌, Bool, false, eqb, take, get_or}
+use Rattle.std.specs.Prelude.{◌≡◌, Bool, false, eqb, take, get_or, Err, None, Ok, Option, Result, Some}
 use Rattle.std.proofs.Math.Path.{refl, ap}
 use Rattle.std.proofs.Common.{sym, ◌∙◌, suc-mul, one-mul, mul-le-mul_right, get_or-take}
 use Rattle.std.proofs.Math.Bool.{true}
@@ -11,10 +11,6 @@ use Rattle.std.proofs.Math.Dec.{leb}
 use borrow.Author.Tests.{leb-true, leb-false}
 use Rattle.lists.specs.Choose.{choose, if_cases}
 use Rattle.lists.specs.Both.{and_left, and_right}
-use Rattle.codes.specs.declared.ResultRead.{ResultRead}
-use Rattle.codes.specs.declared.ResultRead.TheVariants.{Known, Unknown}
-use Rattle.credit.specs.declared.Grant.{Grant}
-use Rattle.credit.specs.declared.Grant.TheVariants as Grant
 use Rattle.credit.specs.Account.{granted}
 use Rattle.sar_join.specs.declared.Joined.{Joined}
 use Rattle.sar_join.specs.declared.Joined.TheVariants as Joined
@@ -22,28 +18,9 @@ use Rattle.sar_cut.specs.declared.Plan.{Plan}
 use Rattle.sar_cut.specs.declared.Plan.TheVariants as Plan
 use Rattle.signal_headers.specs.declared.Checked.{Checked}
 use Rattle.signal_headers.specs.declared.Checked.TheVariants.{Good, Cut, Past}
-use Rattle.signal_bodies.specs.declared.CommandRejectResRead.{CommandRejectResRead}
-use Rattle.signal_bodies.specs.declared.CommandRejectResRead.TheVariants as CommandRejectRes
-use Rattle.signal_bodies.specs.declared.DisconnectionReqRead.{DisconnectionReqRead}
-use Rattle.signal_bodies.specs.declared.DisconnectionReqRead.TheVariants as DisconnectionReq
-use Rattle.signal_bodies.specs.declared.DisconnectionResRead.{DisconnectionResRead}
-use Rattle.signal_bodies.specs.declared.DisconnectionResRead.TheVariants as DisconnectionRes
-use Rattle.signal_bodies.specs.declared.ConnParamUpdateReqRead.{ConnParamUpdateReqRead}
-use Rattle.signal_bodies.specs.declared.ConnParamUpdateReqRead.TheVariants as ConnParamUpdateReq
-use Rattle.signal_bodies.specs.declared.ConnParamUpdateResRead.{ConnParamUpdateResRead}
-use Rattle.signal_bodies.specs.declared.ConnParamUpdateResRead.TheVariants as ConnParamUpdateRes
-use Rattle.signal_bodies.specs.declared.le_credit.LeCreditConnReqRead.{LeCreditConnReqRead}
-use Rattle.signal_bodies.specs.declared.le_credit.LeCreditConnReqRead.TheVariants as LeCreditConnReq
-use Rattle.signal_bodies.specs.declared.le_credit.LeCreditConnResRead.{LeCreditConnResRead}
-use Rattle.signal_bodies.specs.declared.le_credit.LeCreditConnResRead.TheVariants as LeCreditConnRes
-use Rattle.signal_bodies.specs.declared.le_credit.LeCreditFlowIndRead.{LeCreditFlowIndRead}
-use Rattle.signal_bodies.specs.declared.le_credit.LeCreditFlowIndRead.TheVariants as LeCreditFlowInd
 use Rattle.signal_forms.specs.declared.Signal.{Signal}
 use Rattle.channel.specs.declared.Answer.{Answer}
-use Rattle.channel.specs.declared.Given.TheVariants.{Nothing, Is}
 use Rattle.channel.specs.declared.L2capChannelConfig.{L2capChannelConfig}
-use Rattle.channel.specs.declared.Verdict.{Verdict}
-use Rattle.channel.specs.declared.Verdict.TheVariants.{Pass, Stop}
 use Rattle.channel.specs.declared.OpenJob.{OpenJob}
 use Rattle.channel.specs.declared.Slot.{Slot}
 use Rattle.channel.specs.declared.Table.{Table}
@@ -65,8 +42,17 @@ use native.Mathlib.Omega.{arith}
 use Rattle.std.proofs.Math.ListN.{length-take}
 use Rattle.lists.specs.Every.{every, every-passes}
 use Rattle.channel.specs.Limits.{slots_most}
-use Rattle.channel.specs.declared.Given.{Given}
 use Rattle.definition.specs.Handed.{Hands, OwnFills, OwnPart, Quiet, carried, more, none, plain_fills, stored, worked, zeroed}
+use Rattle.codes.specs.declared.LeCreditConnResultCode.{LeCreditConnResultCode}
+use Rattle.codes.specs.declared.Refusal.{Refusal}
+use Rattle.signal_forms.specs.declared.CommandRejectRes.{CommandRejectRes}
+use Rattle.signal_forms.specs.declared.ConnParamUpdateReq.{ConnParamUpdateReq}
+use Rattle.signal_forms.specs.declared.ConnParamUpdateRes.{ConnParamUpdateRes}
+use Rattle.signal_forms.specs.declared.DisconnectionReq.{DisconnectionReq}
+use Rattle.signal_forms.specs.declared.DisconnectionRes.{DisconnectionRes}
+use Rattle.signal_forms.specs.declared.LeCreditConnReq.{LeCreditConnReq}
+use Rattle.signal_forms.specs.declared.LeCreditConnRes.{LeCreditConnRes}
+use Rattle.signal_forms.specs.declared.LeCreditFlowInd.{LeCreditFlowInd}
 
 leaf : {o : Outcome} → plain_fills o.out ≡ true → plain_fills o.job ≡ true → Quiet o
 leaf e f = record { out = e; tray = f }
@@ -74,11 +60,11 @@ leaf e f = record { out = e; tray = f }
 either : (b : Bool) {x y : Outcome} → Quiet x → Quiet y → Quiet (choose b x y)
 either b p q = if_cases Quiet b (λ _. p) (λ _. q)
 
-let_pass : (t : Table) (v : Verdict) {o : Outcome} → Quiet o → Quiet (passed t v o)
-let_pass t Pass p = p
-let_pass t (Stop r) p = leaf refl refl
+let_pass : (t : Table) (v : Result (Unit {0}) Refusal) {o : Outcome} → Quiet o → Quiet (passed t v o)
+let_pass t (Ok tt) p = p
+let_pass t (Err r) p = leaf refl refl
 
-gated : (t : Table) (room signal link slot : Given) {o : Outcome} → Quiet o → Quiet (gate t room signal link slot o)
+gated : (t : Table) (room signal link slot : Option ℕ) {o : Outcome} → Quiet o → Quiet (gate t room signal link slot o)
 gated t room signal link slot p = let_pass t (verdict t room signal link slot) p
 
 module _ (t : Table) where
@@ -86,44 +72,44 @@ module _ (t : Table) where
 
   pends_quiet : (link : ℕ) (up : Bool) → Quiet (next_pending t link up)
   unfolding next_pending
-  pends_quiet link up = gated t Nothing Nothing (Is link) Nothing (either _ (either _ (leaf refl refl) (leaf refl refl)) (either _ (leaf refl refl) (leaf refl refl)))
+  pends_quiet link up = gated t None None (Some link) None (either _ (either _ (leaf refl refl) (leaf refl refl)) (either _ (leaf refl refl) (leaf refl refl)))
 
   rejects_all_quiet : (room signal link : ℕ) → Quiet (reject_all_pending t room signal link)
   unfolding reject_all_pending
-  rejects_all_quiet room signal link = gated t (Is room) (Is signal) (Is link) Nothing (either _ (leaf refl refl) (leaf refl refl))
+  rejects_all_quiet room signal link = gated t (Some room) (Some signal) (Some link) None (either _ (leaf refl refl) (leaf refl refl))
 
   accepts_quiet : (signal s : ℕ) (c : L2capChannelConfig) → Quiet (accept_pending t signal s c)
   unfolding accept_pending
-  accepts_quiet signal s c = gated t Nothing (Is signal) Nothing (Is s) (either _ (leaf refl refl) (either _ (leaf refl refl) (either _ (leaf refl refl) (either _ (leaf refl refl) (leaf refl refl)))))
+  accepts_quiet signal s c = gated t None (Some signal) None (Some s) (either _ (leaf refl refl) (either _ (leaf refl refl) (either _ (leaf refl refl) (either _ (leaf refl refl) (leaf refl refl)))))
 
-  rejects_quiet : (room signal s : ℕ) (result : ResultRead) → Quiet (reject_read t room signal s result)
+  rejects_quiet : (room signal s : ℕ) (result : Option LeCreditConnResultCode) → Quiet (reject_read t room signal s result)
   unfolding reject_pending not_code
-  rejects_quiet room signal s Unknown = gated t (Is room) (Is signal) Nothing (Is s) (leaf refl refl)
-  rejects_quiet room signal s (Known result) = gated t (Is room) (Is signal) Nothing (Is s) (either _ (leaf refl refl) (either _ (leaf refl refl) (leaf refl refl)))
+  rejects_quiet room signal s None = gated t (Some room) (Some signal) None (Some s) (leaf refl refl)
+  rejects_quiet room signal s (Some result) = gated t (Some room) (Some signal) None (Some s) (either _ (leaf refl refl) (either _ (leaf refl refl) (leaf refl refl)))
 
   drops_quiet : (room s : ℕ) → Quiet (drop_pending t room s)
   unfolding drop_pending
-  drops_quiet room s = gated t (Is room) Nothing Nothing (Is s) (either _ (leaf refl refl) (either _ (leaf refl refl) (either _ (leaf refl refl) (leaf refl refl))))
+  drops_quiet room s = gated t (Some room) None None (Some s) (either _ (leaf refl refl) (either _ (leaf refl refl) (either _ (leaf refl refl) (leaf refl refl))))
 
   creates_quiet : (signal link spsm : ℕ) (c : L2capChannelConfig) → Quiet (create t signal link spsm c)
   unfolding create
-  creates_quiet signal link spsm c = gated t Nothing (Is signal) (Is link) Nothing (either _ (leaf refl refl) (either _ (leaf refl refl) (either _ (leaf refl refl) (leaf refl refl))))
+  creates_quiet signal link spsm c = gated t None (Some signal) (Some link) None (either _ (leaf refl refl) (either _ (leaf refl refl) (either _ (leaf refl refl) (leaf refl refl))))
 
   opens_quiet : (room s link : ℕ) (up : Bool) → Quiet (opened t room s link up)
   unfolding opened
-  opens_quiet room s link up = gated t (Is room) Nothing (Is link) (Is s) (either _ (leaf refl refl) (either _ (leaf refl refl) (either _ (leaf refl refl) (either _ (leaf refl refl) (either _ (leaf refl refl) (either _ (leaf refl refl) (either _ (leaf refl refl) (leaf refl refl))))))))
+  opens_quiet room s link up = gated t (Some room) None (Some link) (Some s) (either _ (leaf refl refl) (either _ (leaf refl refl) (either _ (leaf refl refl) (either _ (leaf refl refl) (either _ (leaf refl refl) (either _ (leaf refl refl) (either _ (leaf refl refl) (leaf refl refl))))))))
 
   gives-quiet : (room s : ℕ) → Quiet (give_up t room s)
   unfolding give_up
-  gives-quiet room s = gated t (Is room) Nothing Nothing (Is s) (either _ (leaf refl refl) (leaf refl refl))
+  gives-quiet room s = gated t (Some room) None None (Some s) (either _ (leaf refl refl) (leaf refl refl))
 
   holds-quiet : (s : ℕ) → Quiet (inc_ref t s)
   unfolding inc_ref
-  holds-quiet s = gated t Nothing Nothing Nothing (Is s) (either _ (leaf refl refl) (leaf refl refl))
+  holds-quiet s = gated t None None None (Some s) (either _ (leaf refl refl) (leaf refl refl))
 
   releases_quiet : (room s : ℕ) → Quiet (dec_ref t room s)
   unfolding dec_ref
-  releases_quiet room s = gated t (Is room) Nothing Nothing (Is s) (either _ (leaf refl refl) (either _ (leaf refl refl) (leaf refl refl)))
+  releases_quiet room s = gated t (Some room) None None (Some s) (either _ (leaf refl refl) (either _ (leaf refl refl) (leaf refl refl)))
 
   disconnecting-quiet : (s : ℕ) → Quiet (disconnecting t s)
   unfolding disconnecting
@@ -131,61 +117,61 @@ module _ (t : Table) where
 
   leaves_quiet : (room s : ℕ) → Quiet (disconnect t room s)
   unfolding disconnect
-  leaves_quiet room s = gated t (Is room) Nothing Nothing (Is s) (disconnecting-quiet s)
+  leaves_quiet room s = gated t (Some room) None None (Some s) (disconnecting-quiet s)
 
   leaves_cid_quiet : (room cid : ℕ) → Quiet (disconnect_by_cid t room cid)
   unfolding disconnect_by_cid
-  leaves_cid_quiet room cid = gated t (Is room) Nothing Nothing Nothing (either _ (disconnecting-quiet (slot_of cid)) (leaf refl refl))
+  leaves_cid_quiet room cid = gated t (Some room) None None None (either _ (disconnecting-quiet (slot_of cid)) (leaf refl refl))
 
   down_quiet : (room link : ℕ) → Quiet (disconnected t room link)
   unfolding disconnected
-  down_quiet room link = gated t (Is room) Nothing (Is link) Nothing (leaf refl refl)
+  down_quiet room link = gated t (Some room) None (Some link) None (leaf refl refl)
 
   announces_quiet : (room signal : ℕ) → Quiet (next_disconnect t room signal)
   unfolding next_disconnect
-  announces_quiet room signal = gated t (Is room) (Is signal) Nothing Nothing (either _ (leaf refl refl) (either _ (leaf refl refl) (leaf refl refl)))
+  announces_quiet room signal = gated t (Some room) (Some signal) None None (either _ (leaf refl refl) (either _ (leaf refl refl) (leaf refl refl)))
 
   -- ---- Signals.antt
 
-  reject-quiet : (id : ℕ) (b : CommandRejectResRead) → Quiet (on_reject t id b)
+  reject-quiet : (id : ℕ) (b : Option CommandRejectRes) → Quiet (on_reject t id b)
   unfolding on_reject
-  reject-quiet id CommandRejectRes.Decode = leaf refl refl
-  reject-quiet id (CommandRejectRes.Is f) = leaf refl refl
+  reject-quiet id None = leaf refl refl
+  reject-quiet id (Some f) = leaf refl refl
 
-  disconnection_req-quiet : (link id : ℕ) (b : DisconnectionReqRead) → Quiet (on_disconnection_req t link id b)
+  disconnection_req-quiet : (link id : ℕ) (b : Option DisconnectionReq) → Quiet (on_disconnection_req t link id b)
   unfolding on_disconnection_req
-  disconnection_req-quiet link id DisconnectionReq.Decode = leaf refl refl
-  disconnection_req-quiet link id (DisconnectionReq.Is f) = either _ (leaf refl refl) (either _ (leaf refl refl) (leaf refl refl))
+  disconnection_req-quiet link id None = leaf refl refl
+  disconnection_req-quiet link id (Some f) = either _ (leaf refl refl) (either _ (leaf refl refl) (leaf refl refl))
 
-  disconnection_res-quiet : (link id : ℕ) (b : DisconnectionResRead) → Quiet (on_disconnection_res t link id b)
+  disconnection_res-quiet : (link id : ℕ) (b : Option DisconnectionRes) → Quiet (on_disconnection_res t link id b)
   unfolding on_disconnection_res
-  disconnection_res-quiet link id DisconnectionRes.Decode = leaf refl refl
-  disconnection_res-quiet link id (DisconnectionRes.Is f) = either _ (leaf refl refl) (either _ (leaf refl refl) (leaf refl refl))
+  disconnection_res-quiet link id None = leaf refl refl
+  disconnection_res-quiet link id (Some f) = either _ (leaf refl refl) (either _ (leaf refl refl) (leaf refl refl))
 
-  parameters-quiet : (id : ℕ) (b : ConnParamUpdateReqRead) → Quiet (on_parameters t id b)
+  parameters-quiet : (id : ℕ) (b : Option ConnParamUpdateReq) → Quiet (on_parameters t id b)
   unfolding on_parameters
-  parameters-quiet id ConnParamUpdateReq.Decode = leaf refl refl
-  parameters-quiet id (ConnParamUpdateReq.Is f) = either _ (leaf refl refl) (leaf refl refl)
+  parameters-quiet id None = leaf refl refl
+  parameters-quiet id (Some f) = either _ (leaf refl refl) (leaf refl refl)
 
-  parameter_response_quiet : (id : ℕ) (b : ConnParamUpdateResRead) → Quiet (on_parameter_response t id b)
+  parameter_response_quiet : (id : ℕ) (b : Option ConnParamUpdateRes) → Quiet (on_parameter_response t id b)
   unfolding on_parameter_response
-  parameter_response_quiet id ConnParamUpdateRes.Decode = leaf refl refl
-  parameter_response_quiet id (ConnParamUpdateRes.Is f) = leaf refl refl
+  parameter_response_quiet id None = leaf refl refl
+  parameter_response_quiet id (Some f) = leaf refl refl
 
-  conn_req_quiet : (link : ℕ) (listening : Bool) (id : ℕ) (b : LeCreditConnReqRead) → Quiet (on_conn_req t link listening id b)
+  conn_req_quiet : (link : ℕ) (listening : Bool) (id : ℕ) (b : Option LeCreditConnReq) → Quiet (on_conn_req t link listening id b)
   unfolding on_conn_req
-  conn_req_quiet link listening id LeCreditConnReq.Decode = leaf refl refl
-  conn_req_quiet link listening id (LeCreditConnReq.Is f) = either _ (leaf refl refl) (either _ (leaf refl refl) (either _ (leaf refl refl) (either _ (leaf refl refl) (either _ (leaf refl refl) (leaf refl refl)))))
+  conn_req_quiet link listening id None = leaf refl refl
+  conn_req_quiet link listening id (Some f) = either _ (leaf refl refl) (either _ (leaf refl refl) (either _ (leaf refl refl) (either _ (leaf refl refl) (either _ (leaf refl refl) (leaf refl refl)))))
 
-  conn_res_quiet : (link id : ℕ) (b : LeCreditConnResRead) → Quiet (on_conn_res t link id b)
+  conn_res_quiet : (link id : ℕ) (b : Option LeCreditConnRes) → Quiet (on_conn_res t link id b)
   unfolding on_conn_res
-  conn_res_quiet link id LeCreditConnRes.Decode = leaf refl refl
-  conn_res_quiet link id (LeCreditConnRes.Is f) = either _ (leaf refl refl) (either _ (leaf refl refl) (either _ (leaf refl refl) (leaf refl refl)))
+  conn_res_quiet link id None = leaf refl refl
+  conn_res_quiet link id (Some f) = either _ (leaf refl refl) (either _ (leaf refl refl) (either _ (leaf refl refl) (leaf refl refl)))
 
-  credits-quiet : (link id : ℕ) (b : LeCreditFlowIndRead) → Quiet (on_credits t link id b)
+  credits-quiet : (link id : ℕ) (b : Option LeCreditFlowInd) → Quiet (on_credits t link id b)
   unfolding on_credits
-  credits-quiet link id LeCreditFlowInd.Decode = leaf refl refl
-  credits-quiet link id (LeCreditFlowInd.Is f) = either _ (leaf refl refl) (either _ (leaf refl refl) (leaf refl refl))
+  credits-quiet link id None = leaf refl refl
+  credits-quiet link id (Some f) = either _ (leaf refl refl) (either _ (leaf refl refl) (leaf refl refl))
 
   handled-quiet : (link : ℕ) (listening central : Bool) (code id : ℕ) (body : List ℕ) → Quiet (handled t link listening central code id body)
   unfolding handled
@@ -199,7 +185,7 @@ module _ (t : Table) where
 
   signals_quiet : (room signal link : ℕ) (listening central : Bool) (pdu : List ℕ) → Quiet (signalled t room signal link listening central pdu)
   unfolding signalled
-  signals_quiet room signal link listening central pdu = gated t (Is room) (Is signal) (Is link) Nothing (checked-quiet link listening central pdu _)
+  signals_quiet room signal link listening central pdu = gated t (Some room) (Some signal) (Some link) None (checked-quiet link listening central pdu _)
 
   -- ---- Frames.antt: a frame
 
@@ -213,25 +199,25 @@ module _ (t : Table) where
   frame-quiet : (room link cid : ℕ) (head : List ℕ) (count : ℕ) → Quiet (dispatch t room link cid head count)
   unfolding dispatch
   frame-quiet room link cid head count =
-      gated t (Is room) Nothing (Is link) Nothing (either _ (leaf refl refl) (either _ (leaf refl refl) (either _ (leaf refl refl) (either _ (leaf refl refl) (joined-quiet (slot_of cid) count _ _)))))
+      gated t (Some room) None (Some link) None (either _ (leaf refl refl) (either _ (leaf refl refl) (either _ (leaf refl refl) (either _ (leaf refl refl) (joined-quiet (slot_of cid) count _ _)))))
 
   -- ---- Asking.antt
 
   register_quiet : (spsm : ℕ) → Quiet (register_spsm t spsm)
   unfolding register_spsm
-  register_quiet spsm = gated t Nothing Nothing Nothing Nothing (either _ (leaf refl refl) (leaf refl refl))
+  register_quiet spsm = gated t None None None None (either _ (leaf refl refl) (leaf refl refl))
 
   attends_quiet : Quiet (attention t)
   unfolding attention
-  attends_quiet = gated t Nothing Nothing Nothing Nothing (leaf refl refl)
+  attends_quiet = gated t None None None None (leaf refl refl)
 
   asks_quiet : (of : Slot → ℕ) (s : ℕ) → Quiet (query of t s)
   unfolding query
-  asks_quiet of s = gated t Nothing Nothing Nothing (Is s) (leaf refl refl)
+  asks_quiet of s = gated t None None None (Some s) (leaf refl refl)
 
   sends_signal_quiet : (signal link : ℕ) (x : Signal) → Quiet (send_signal t signal link x)
   unfolding send_signal
-  sends_signal_quiet signal link x = gated t Nothing (Is signal) (Is link) Nothing (leaf refl refl)
+  sends_signal_quiet signal link x = gated t None (Some signal) (Some link) None (leaf refl refl)
 
   -- ---- a chain of tests, for the two calls that hand something out
 
@@ -248,9 +234,9 @@ module _ (t : Table) where
   else_hands : {c g h : Holder} (b : Bool) (t' : Table) (a : Answer) {y : Outcome} → (b ≡ false → Hands t c g h y) → Hands t c g h (choose b (still t' a []) y)
   else_hands {c} {g} {h} b t' a f = if_cases (Hands t c g h) b (λ _. record { out = none; tray = none }) f
 
-  pass_hands : {c g h : Holder} (v : Verdict) {o : Outcome} → (v ≡ Pass → Hands t c g h o) → Hands t c g h (passed t v o)
-  pass_hands Pass f = f refl
-  pass_hands (Stop r) f = record { out = none; tray = none }
+  pass_hands : {c g h : Holder} (v : Result (Unit {0}) Refusal) {o : Outcome} → (v ≡ Ok tt → Hands t c g h o) → Hands t c g h (passed t v o)
+  pass_hands (Ok tt) f = f refl
+  pass_hands (Err r) f = record { out = none; tray = none }
 
   started-quiet : (s l size : ℕ) (x : Slot) (p : Plan) → Quiet (start_planned t s x l size p)
   unfolding start_planned
@@ -259,11 +245,11 @@ module _ (t : Table) where
 
   starts_quiet : (s l size : ℕ) → Quiet (start_job t s l size)
   unfolding start_job
-  starts_quiet s l size = gated t Nothing Nothing Nothing (Is s) (either _ (leaf refl refl) (either _ (leaf refl refl) (started-quiet s l size _ _)))
+  starts_quiet s l size = gated t None None None (Some s) (either _ (leaf refl refl) (either _ (leaf refl refl) (started-quiet s l size _ _)))
 
   cancels_quiet : (room s : ℕ) → Quiet (cancel_job t room s)
   unfolding cancel_job
-  cancels_quiet room s = gated t (Is room) Nothing Nothing (Is s) (either _ (leaf refl refl) (either _ (leaf refl refl) (either _ (leaf refl refl) (leaf refl refl))))
+  cancels_quiet room s = gated t (Some room) None None (Some s) (either _ (leaf refl refl) (either _ (leaf refl refl) (either _ (leaf refl refl) (leaf refl refl))))
 
   -- ---- a send: headers, and its SDU
 
@@ -283,7 +269,7 @@ module _ (t : Table) where
 
   sends_hands : {h : Holder} (s l out : ℕ) → Hands t h h nobody (send t s l out)
   unfolding send
-  sends_hands s l out = pass_hands (verdict t Nothing Nothing Nothing (Is s)) λ _. else_hands _ _ _ λ _. else_hands _ _ _ λ _. planned-hands s l _ _
+  sends_hands s l out = pass_hands (verdict t None None None (Some s)) λ _. else_hands _ _ _ λ _. else_hands _ _ _ λ _. planned-hands s l _ _
 
   -- ---- a portion: a header, and its octets
 
@@ -293,7 +279,7 @@ module _ (t : Table) where
   portions_hands : {h : Holder} (s count size : ℕ) → Hands t h h nobody (give_portion t s count size)
   unfolding give_portion
   portions_hands s count size =
-      pass_hands (verdict t Nothing Nothing Nothing (Is s)) λ _. else_hands _ _ _ λ _. else_hands _ _ _ λ _. else_hands _ _ _ λ _. else_hands _ _ _ λ _.
+      pass_hands (verdict t None None None (Some s)) λ _. else_hands _ _ _ λ _. else_hands _ _ _ λ _. else_hands _ _ _ λ _. else_hands _ _ _ λ _.
       record { out = filled_own (slot_at t s).peer.cid (slot_at t s).peer.mps count (slot_at t s).job; tray = none }
 
   -- ---- a take: the oldest job of its slot, which lies in its place
@@ -315,19 +301,19 @@ module _ (t : Table) where
       record { slot = s; within = lt; whose = refl; low = omega arith; high = omega (arith, room) } in
       record { out = quiet-fills signal q; tray = rw (ed, em) (more (stored part) none) }
 
-  taken-hands : {c : Holder} (s : ℕ) (g : Grant) → s < t.n → 1 ≤ t.d → get_or (slot_at t s).queue.lens 0 0 ≤ place_of t → Hands t c nobody (holder (slot_at t s)) (taken t s (slot_at t s) g)
+  taken-hands : {c : Holder} (s : ℕ) (g : Option ℕ) → s < t.n → 1 ≤ t.d → get_or (slot_at t s).queue.lens 0 0 ≤ place_of t → Hands t c nobody (holder (slot_at t s)) (taken t s (slot_at t s) g)
   unfolding taken
-  taken-hands s Grant.Nothing lt one fits = handing-hands t s (slot_at t s) [] refl refl refl lt one fits
-  taken-hands s (Grant.Credits n) lt one fits =
+  taken-hands s None lt one fits = handing-hands t s (slot_at t s) [] refl refl refl lt one fits
+  taken-hands s (Some n) lt one fits =
       handing-hands (spent t) s (with_account (granted (slot_at t s).account n) (slot_at t s)) _ refl refl refl lt one fits
 
   takes_hands : Fit t → {c : Holder} (room signal s size : ℕ) → Hands t c nobody (holder (slot_at t s)) (receive t room signal s size)
   unfolding receive well_formed slot_fits
   takes_hands fit room signal s size =
-      pass_hands (verdict t (Is room) (Is signal) Nothing (Is s)) λ v. else_hands _ _ _ λ _. else_hands _ _ _ λ z. else_hands _ _ _ λ _.
+      pass_hands (verdict t (Some room) (Some signal) None (Some s)) λ v. else_hands _ _ _ λ _. else_hands _ _ _ λ z. else_hands _ _ _ λ _.
       let x : Slot = slot_at t s in
-      let lt : s < t.n = leb-false t.n s (pass_slot t (Is room) (Is signal) Nothing s v) in
-      let well : well_formed t ≡ true = pass_well t (Is room) (Is signal) Nothing (Is s) v in
+      let lt : s < t.n = leb-false t.n s (pass_slot t (Some room) (Some signal) None s v) in
+      let well : well_formed t ≡ true = pass_well t (Some room) (Some signal) None (Some s) v in
       let all : every (slot_fits t.d (place_of t)) (live t) ≡ true = and_right (sizes_fit t.n t.d t.m) _ well in
       let mine : slot_fits t.d (place_of t) x ≡ true =
       ap (slot_fits t.d (place_of t)) (sym (get_or-take t.n t.slots s gap lt))

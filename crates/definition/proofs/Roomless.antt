@@ -1,6 +1,6 @@
 -- The calls that are not lent the room: none of them moves an octet of it, and nothing that they write was read from it. Their contracts do
 -- not name the room, so this is what says that it stays as it was. (Lift.antt has what follows for their ends.)
-use Rattle.std.specs.Prelude.{◌≡◌, Bool, true}
+use Rattle.std.specs.Prelude.{◌≡◌, Bool, true, Err, Ok, Option, Result}
 use Rattle.std.proofs.Math.Path.{refl, ap}
 use Rattle.std.proofs.Common.{◌∙◌}
 use Rattle.std.proofs.lemmas.Bool.{false≢true}
@@ -10,13 +10,10 @@ use Rattle.lists.specs.Choose.{choose, if_cases}
 use Rattle.sar_cut.specs.declared.Plan.{Plan}
 use Rattle.sar_cut.specs.declared.Plan.TheVariants as Plan
 use Rattle.signal_forms.specs.declared.Signal.{Signal}
-use Rattle.channel.specs.declared.Given.{Given}
 use Rattle.channel.specs.declared.L2capChannelConfig.{L2capChannelConfig}
 use Rattle.channel.specs.declared.OpenJob.{OpenJob}
 use Rattle.channel.specs.declared.Slot.{Slot}
 use Rattle.channel.specs.declared.Table.{Table}
-use Rattle.channel.specs.declared.Verdict.{Verdict}
-use Rattle.channel.specs.declared.Verdict.TheVariants.{Pass, Stop}
 use Rattle.definition.specs.Mem.{Fill, job, Move, parts}
 use Rattle.definition.specs.Table.{width, slot_at, found, is_free, pending_of}
 use Rattle.definition.specs.Outcome.{Outcome, only, verdict, passed, gate}
@@ -30,6 +27,7 @@ use Rattle.definition.specs.Calls.{Call, frame, sends, portions, down, plain, Re
 use Rattle.definition.specs.Ending.{itself}
 use Rattle.definition.proofs.Ending.{parts_none}
 use Rattle.definition.specs.Roomless.{Roomless, roomless, roomless_request, unheld_all}
+use Rattle.codes.specs.declared.Refusal.{Refusal}
 
 module _ (t : Table) where
   none : {o : Outcome} → o.parts ≡ [] → unheld_all o.out ≡ true → unheld_all o.job ≡ true → Roomless t o
@@ -39,11 +37,11 @@ module _ (t : Table) where
   at : (s : ℕ) {o : Outcome} → o.parts ≡ only s [] → unheld_all o.out ≡ true → unheld_all o.job ≡ true → Roomless t o
   at s {o} e f g = record { room = λ js room. ap (λ (mss : List (List Move)). parts itself js (width t) mss room) e ∙ parts_none js (width t) s room; out = f; tray = g }
 
-  of-passed : (v : Verdict) {o : Outcome} → Roomless t o → Roomless t (passed t v o)
-  of-passed Pass p = p
-  of-passed (Stop r) p = none refl refl refl
+  of-passed : (v : Result (Unit {0}) Refusal) {o : Outcome} → Roomless t o → Roomless t (passed t v o)
+  of-passed (Ok tt) p = p
+  of-passed (Err r) p = none refl refl refl
 
-  of-gate : (room signal link slot : Given) {o : Outcome} → Roomless t o → Roomless t (gate t room signal link slot o)
+  of-gate : (room signal link slot : Option ℕ) {o : Outcome} → Roomless t o → Roomless t (gate t room signal link slot o)
   of-gate room signal link slot p = of-passed (verdict t room signal link slot) p
 
   of-both : (b : Bool) {x y : Outcome} → Roomless t x → Roomless t y → Roomless t (choose b x y)

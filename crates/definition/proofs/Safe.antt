@@ -1,7 +1,7 @@
 -- What each call has to see to, so that no link's jobs reach another (demand 3): job octets go into slots of the link that carries them,
 -- alone, and a slot that changes hands was free or is wiped. Said of tables and moves, without an octet: one lemma a call, and
 -- `safe` for all of them. And a link-down that answers 0 leaves no slot of its link.
-use Rattle.std.specs.Prelude.{◌≡◌, Bool, true, false, ◌&&◌, List, [], ◌∷◌, map, eqb, leb}
+use Rattle.std.specs.Prelude.{◌≡◌, Bool, true, false, ◌&&◌, List, [], ◌∷◌, map, eqb, leb, Err, None, Ok, Option, Result, Some}
 use Rattle.std.proofs.Math.Path.{refl, ap}
 use Rattle.std.proofs.Common.{sym, ◌∙◌, eqb-true, ne_eqb}
 use Rattle.std.proofs.Math.Bool.{not}
@@ -11,10 +11,6 @@ use Rattle.lists.specs.Choose.{choose}
 use Rattle.lists.specs.Both.{and_left}
 use Rattle.lists.specs.Each.{take-map_first}
 use Rattle.codes.specs.declared.Refusal.{Refusal}
-use Rattle.codes.specs.declared.ResultRead.{ResultRead}
-use Rattle.codes.specs.declared.ResultRead.TheVariants.{Known, Unknown}
-use Rattle.credit.specs.declared.Grant.{Grant}
-use Rattle.credit.specs.declared.Grant.TheVariants as Grant
 use Rattle.credit.specs.Account.{granted}
 use Rattle.sar_join.specs.declared.Joined.{Joined}
 use Rattle.sar_join.specs.declared.Joined.TheVariants as Joined
@@ -22,30 +18,11 @@ use Rattle.sar_cut.specs.declared.Plan.{Plan}
 use Rattle.sar_cut.specs.declared.Plan.TheVariants as Plan
 use Rattle.signal_headers.specs.declared.Checked.{Checked}
 use Rattle.signal_headers.specs.declared.Checked.TheVariants.{Good, Cut, Past}
-use Rattle.signal_bodies.specs.declared.CommandRejectResRead.{CommandRejectResRead}
-use Rattle.signal_bodies.specs.declared.CommandRejectResRead.TheVariants as CommandRejectRes
-use Rattle.signal_bodies.specs.declared.DisconnectionReqRead.{DisconnectionReqRead}
-use Rattle.signal_bodies.specs.declared.DisconnectionReqRead.TheVariants as DisconnectionReq
-use Rattle.signal_bodies.specs.declared.DisconnectionResRead.{DisconnectionResRead}
-use Rattle.signal_bodies.specs.declared.DisconnectionResRead.TheVariants as DisconnectionRes
-use Rattle.signal_bodies.specs.declared.ConnParamUpdateReqRead.{ConnParamUpdateReqRead}
-use Rattle.signal_bodies.specs.declared.ConnParamUpdateReqRead.TheVariants as ConnParamUpdateReq
-use Rattle.signal_bodies.specs.declared.ConnParamUpdateResRead.{ConnParamUpdateResRead}
-use Rattle.signal_bodies.specs.declared.ConnParamUpdateResRead.TheVariants as ConnParamUpdateRes
-use Rattle.signal_bodies.specs.declared.le_credit.LeCreditConnReqRead.{LeCreditConnReqRead}
-use Rattle.signal_bodies.specs.declared.le_credit.LeCreditConnReqRead.TheVariants as LeCreditConnReq
-use Rattle.signal_bodies.specs.declared.le_credit.LeCreditConnResRead.{LeCreditConnResRead}
-use Rattle.signal_bodies.specs.declared.le_credit.LeCreditConnResRead.TheVariants as LeCreditConnRes
-use Rattle.signal_bodies.specs.declared.le_credit.LeCreditFlowIndRead.{LeCreditFlowIndRead}
-use Rattle.signal_bodies.specs.declared.le_credit.LeCreditFlowIndRead.TheVariants as LeCreditFlowInd
 use Rattle.signal_forms.specs.declared.Signal.{Signal}
 use Rattle.channel.specs.declared.Answer.TheVariants.{Done, Refused}
 use Rattle.channel.specs.declared.ChannelState.{ChannelState}
 use Rattle.channel.specs.declared.ChannelState.TheVariants.{Disconnected, Connecting, PeerConnecting, Connected, ConnectFailed, PeerDisconnecting, Disconnecting}
-use Rattle.channel.specs.declared.Given.TheVariants.{Nothing, Is}
 use Rattle.channel.specs.declared.L2capChannelConfig.{L2capChannelConfig}
-use Rattle.channel.specs.declared.Verdict.{Verdict}
-use Rattle.channel.specs.declared.Verdict.TheVariants.{Pass, Stop}
 use Rattle.channel.specs.declared.Slot.{Slot}
 use Rattle.channel.specs.declared.Table.{Table}
 use Rattle.definition.specs.States.{is_disconnected, is_connecting, is_peer_connecting, is_connected, is_due}
@@ -67,6 +44,15 @@ use Rattle.definition.specs.Forms.{Fit, Basis, Like}
 use Rattle.definition.proofs.Forms.{in_use, itself, with-id, with-spsm, still_does, change_does, filling_does, sweep_does, if_does, else_does, gate_does, gate-at, found-passes, free-slot}
 use Rattle.definition.proofs.Tells.{cid_slot}
 use Rattle.definition.specs.Safe.{Safe, SafeSlot, Without, allotted, kept, mine, wiped}
+use Rattle.codes.specs.declared.LeCreditConnResultCode.{LeCreditConnResultCode}
+use Rattle.signal_forms.specs.declared.CommandRejectRes.{CommandRejectRes}
+use Rattle.signal_forms.specs.declared.ConnParamUpdateReq.{ConnParamUpdateReq}
+use Rattle.signal_forms.specs.declared.ConnParamUpdateRes.{ConnParamUpdateRes}
+use Rattle.signal_forms.specs.declared.DisconnectionReq.{DisconnectionReq}
+use Rattle.signal_forms.specs.declared.DisconnectionRes.{DisconnectionRes}
+use Rattle.signal_forms.specs.declared.LeCreditConnReq.{LeCreditConnReq}
+use Rattle.signal_forms.specs.declared.LeCreditConnRes.{LeCreditConnRes}
+use Rattle.signal_forms.specs.declared.LeCreditFlowInd.{LeCreditFlowInd}
 
 module _ (t : Table) (fit : Fit t) where
   on : {l : Holder} → Basis (SafeSlot l) t
@@ -81,32 +67,32 @@ module _ (t : Table) (fit : Fit t) where
   pends_safe : {l : Holder} (link : ℕ) (up : Bool) → Safe t l (next_pending t link up)
   unfolding next_pending
   pends_safe link up =
-      gate_does on Nothing Nothing (Is link) Nothing λ _.
+      gate_does on None None (Some link) None λ _.
       if_does on (λ _. else_does on _ _ _ itself λ _. still_does on itself) λ a.
       else_does on _ _ _ itself λ _. change_does on _ itself a (kept refl refl)
 
   rejects_all_safe : {l : Holder} (room signal link : ℕ) → Safe t l (reject_all_pending t room signal link)
   unfolding reject_all_pending
-  rejects_all_safe room signal link = gate_does on (Is room) (Is signal) (Is link) Nothing λ _. else_does on _ _ _ itself λ a. change_does on _ itself a wiped
+  rejects_all_safe room signal link = gate_does on (Some room) (Some signal) (Some link) None λ _. else_does on _ _ _ itself λ a. change_does on _ itself a wiped
 
   accepts_safe : {l : Holder} (signal s : ℕ) (c : L2capChannelConfig) → Safe t l (accept_pending t signal s c)
   unfolding accept_pending
   accepts_safe signal s c =
-      gate-at on Nothing (Is signal) Nothing s λ v.
+      gate-at on None (Some signal) None s λ v.
       else_does on _ _ _ itself λ _. else_does on _ _ _ itself λ _. else_does on _ _ _ itself λ a. else_does on _ _ _ itself λ _.
       change_does on s itself v (kept (own is_peer_connecting refl s (not-false _ a)) refl)
 
-  rejects_safe : {l : Holder} (room signal s : ℕ) (result : ResultRead) → Safe t l (reject_read t room signal s result)
+  rejects_safe : {l : Holder} (room signal s : ℕ) (result : Option LeCreditConnResultCode) → Safe t l (reject_read t room signal s result)
   unfolding reject_pending not_code
-  rejects_safe room signal s Unknown = gate-at on (Is room) (Is signal) Nothing s λ _. still_does on itself
-  rejects_safe room signal s (Known result) =
-      gate-at on (Is room) (Is signal) Nothing s λ v.
+  rejects_safe room signal s None = gate-at on (Some room) (Some signal) None s λ _. still_does on itself
+  rejects_safe room signal s (Some result) =
+      gate-at on (Some room) (Some signal) None s λ v.
       else_does on _ _ _ itself λ _. else_does on _ _ _ itself λ _. change_does on s itself v wiped
 
   drops_safe : {l : Holder} (room s : ℕ) → Safe t l (drop_pending t room s)
   unfolding drop_pending
   drops_safe room s =
-      gate-at on (Is room) Nothing Nothing s λ a.
+      gate-at on (Some room) None None s λ a.
       else_does on _ _ _ itself λ _. else_does on _ _ _ itself λ _.
       if_does on (λ _. change_does on s itself a wiped) λ _. change_does on s itself a (kept refl refl)
 
@@ -115,14 +101,14 @@ module _ (t : Table) (fit : Fit t) where
   creates_safe : {l : Holder} (signal link spsm : ℕ) (c : L2capChannelConfig) → Safe t l (create t signal link spsm c)
   unfolding create
   creates_safe signal link spsm c =
-      gate_does on Nothing (Is signal) (Is link) Nothing λ _.
+      gate_does on None (Some signal) (Some link) None λ _.
       else_does on _ _ _ with-id λ _. else_does on _ _ _ with-id λ _. else_does on _ _ _ with-id λ a.
       change_does on _ with-id a (allotted (free-slot t fit a) refl)
 
   opens_safe : {l : Holder} (room s link : ℕ) (up : Bool) → Safe t l (opened t room s link up)
   unfolding opened
   opens_safe room s link up =
-      gate-at on (Is room) Nothing (Is link) s λ a.
+      gate-at on (Some room) None (Some link) s λ a.
       else_does on _ _ _ itself λ _. else_does on _ _ _ itself λ _.
       if_does on (λ _. change_does on s itself a wiped) λ _. if_does on (λ _. change_does on s itself a wiped) λ _.
       if_does on (λ _. change_does on s itself a wiped) λ _.
@@ -131,19 +117,19 @@ module _ (t : Table) (fit : Fit t) where
   gives_safe : {l : Holder} (room s : ℕ) → Safe t l (give_up t room s)
   unfolding give_up
   gives_safe room s =
-      gate-at on (Is room) Nothing Nothing s λ v.
+      gate-at on (Some room) None None s λ v.
       if_does on (λ _. change_does on s itself v wiped) λ _. still_does on itself
 
   -- ---- Closing.antt
 
   holds_safe : {l : Holder} (s : ℕ) → Safe t l (inc_ref t s)
   unfolding inc_ref
-  holds_safe s = gate-at on Nothing Nothing Nothing s λ v. else_does on _ _ _ itself λ _. change_does on s itself v (kept refl refl)
+  holds_safe s = gate-at on None None None s λ v. else_does on _ _ _ itself λ _. change_does on s itself v (kept refl refl)
 
   releases_safe : {l : Holder} (room s : ℕ) → Safe t l (dec_ref t room s)
   unfolding dec_ref
   releases_safe room s =
-      gate-at on (Is room) Nothing Nothing s λ a.
+      gate-at on (Some room) None None s λ a.
       else_does on _ _ _ itself λ _.
       if_does on (λ b. change_does on s itself a (kept (own is_connected refl s (and_left (is_connected (slot_at t s).state) _ b)) refl)) λ _.
       change_does on s itself a (kept refl refl)
@@ -154,75 +140,75 @@ module _ (t : Table) (fit : Fit t) where
 
   leaves_safe : {l : Holder} (room s : ℕ) → Safe t l (disconnect t room s)
   unfolding disconnect
-  leaves_safe room s = gate-at on (Is room) Nothing Nothing s λ v. disconnecting_safe s v
+  leaves_safe room s = gate-at on (Some room) None None s λ v. disconnecting_safe s v
 
   leaves_cid_safe : {l : Holder} (room cid : ℕ) → Safe t l (disconnect_by_cid t room cid)
   unfolding disconnect_by_cid
-  leaves_cid_safe room cid = gate_does on (Is room) Nothing Nothing Nothing λ _. if_does on (λ b. disconnecting_safe (slot_of cid) (cid_slot t cid b)) λ _. still_does on itself
+  leaves_cid_safe room cid = gate_does on (Some room) None None None λ _. if_does on (λ b. disconnecting_safe (slot_of cid) (cid_slot t cid b)) λ _. still_does on itself
 
   down_safe : {l : Holder} (room link : ℕ) → Safe t l (disconnected t room link)
   unfolding disconnected
-  down_safe room link = gate_does on (Is room) Nothing (Is link) Nothing λ _. sweep_does on (of_link link) (λ x _. wiped)
+  down_safe room link = gate_does on (Some room) None (Some link) None λ _. sweep_does on (of_link link) (λ x _. wiped)
 
   announces_safe : {l : Holder} (room signal : ℕ) → Safe t l (next_disconnect t room signal)
   unfolding next_disconnect
   announces_safe room signal =
-      gate_does on (Is room) (Is signal) Nothing Nothing λ _.
+      gate_does on (Some room) (Some signal) None None λ _.
       else_does on _ _ _ itself λ a. if_does on (λ _. change_does on _ itself a wiped) λ _.
       change_does on _ with-id a (kept (own is_due refl _ (found-passes t fit due_slot a)) refl)
 
   -- ---- Signals.antt
 
-  reject_safe : {l : Holder} (id : ℕ) (b : CommandRejectResRead) → Safe t l (on_reject t id b)
+  reject_safe : {l : Holder} (id : ℕ) (b : Option CommandRejectRes) → Safe t l (on_reject t id b)
   unfolding on_reject
-  reject_safe id CommandRejectRes.Decode = still_does on itself
-  reject_safe id (CommandRejectRes.Is res) = still_does on itself
+  reject_safe id None = still_does on itself
+  reject_safe id (Some res) = still_does on itself
 
-  disconnection_req_safe : {l : Holder} (link id : ℕ) (b : DisconnectionReqRead) → Safe t l (on_disconnection_req t link id b)
+  disconnection_req_safe : {l : Holder} (link id : ℕ) (b : Option DisconnectionReq) → Safe t l (on_disconnection_req t link id b)
   unfolding on_disconnection_req
-  disconnection_req_safe link id DisconnectionReq.Decode = still_does on itself
-  disconnection_req_safe link id (DisconnectionReq.Is req) =
+  disconnection_req_safe link id None = still_does on itself
+  disconnection_req_safe link id (Some req) =
       else_does on _ _ _ itself λ a. else_does on _ _ _ itself λ b.
       change_does on (slot_of req.dcid) itself (cid_slot t req.dcid (not-false _ a))
       (kept (own (λ k. not (is_disconnected k)) refl (slot_of req.dcid) (and_left (not (is_disconnected (slot_at t (slot_of req.dcid)).state)) _ (not-false _ b))) refl)
 
-  disconnection_res_safe : {l : Holder} (link id : ℕ) (b : DisconnectionResRead) → Safe t l (on_disconnection_res t link id b)
+  disconnection_res_safe : {l : Holder} (link id : ℕ) (b : Option DisconnectionRes) → Safe t l (on_disconnection_res t link id b)
   unfolding on_disconnection_res
-  disconnection_res_safe link id DisconnectionRes.Decode = still_does on itself
-  disconnection_res_safe link id (DisconnectionRes.Is res) =
+  disconnection_res_safe link id None = still_does on itself
+  disconnection_res_safe link id (Some res) =
       else_does on _ _ _ itself λ a. else_does on _ _ _ itself λ _. change_does on (slot_of res.scid) itself (cid_slot t res.scid (not-false _ a)) wiped
 
-  parameters_safe : {l : Holder} (id : ℕ) (b : ConnParamUpdateReqRead) → Safe t l (on_parameters t id b)
+  parameters_safe : {l : Holder} (id : ℕ) (b : Option ConnParamUpdateReq) → Safe t l (on_parameters t id b)
   unfolding on_parameters
-  parameters_safe id ConnParamUpdateReq.Decode = still_does on itself
-  parameters_safe id (ConnParamUpdateReq.Is req) = else_does on _ _ _ itself λ _. still_does on itself
+  parameters_safe id None = still_does on itself
+  parameters_safe id (Some req) = else_does on _ _ _ itself λ _. still_does on itself
 
-  parameter_response_safe : {l : Holder} (id : ℕ) (b : ConnParamUpdateResRead) → Safe t l (on_parameter_response t id b)
+  parameter_response_safe : {l : Holder} (id : ℕ) (b : Option ConnParamUpdateRes) → Safe t l (on_parameter_response t id b)
   unfolding on_parameter_response
-  parameter_response_safe id ConnParamUpdateRes.Decode = still_does on itself
-  parameter_response_safe id (ConnParamUpdateRes.Is res) = still_does on itself
+  parameter_response_safe id None = still_does on itself
+  parameter_response_safe id (Some res) = still_does on itself
 
-  conn_req_safe : {l : Holder} (link : ℕ) (listening : Bool) (id : ℕ) (b : LeCreditConnReqRead) → Safe t l (on_conn_req t link listening id b)
+  conn_req_safe : {l : Holder} (link : ℕ) (listening : Bool) (id : ℕ) (b : Option LeCreditConnReq) → Safe t l (on_conn_req t link listening id b)
   unfolding on_conn_req
-  conn_req_safe link listening id LeCreditConnReq.Decode = still_does on itself
-  conn_req_safe link listening id (LeCreditConnReq.Is req) =
+  conn_req_safe link listening id None = still_does on itself
+  conn_req_safe link listening id (Some req) =
       else_does on _ _ _ itself λ _. else_does on _ _ _ itself λ _. else_does on _ _ _ itself λ _. else_does on _ _ _ itself λ _. else_does on _ _ _ itself λ a.
       change_does on _ itself a (allotted (free-slot t fit a) refl)
 
-  conn_res_safe : {l : Holder} (link id : ℕ) (b : LeCreditConnResRead) → Safe t l (on_conn_res t link id b)
+  conn_res_safe : {l : Holder} (link id : ℕ) (b : Option LeCreditConnRes) → Safe t l (on_conn_res t link id b)
   unfolding on_conn_res
-  conn_res_safe link id LeCreditConnRes.Decode = still_does on itself
-  conn_res_safe link id (LeCreditConnRes.Is res) =
+  conn_res_safe link id None = still_does on itself
+  conn_res_safe link id (Some res) =
       if_does on (λ _. sweep_does on (attempt_of link) (λ x _. wiped)) λ a.
       let s : ℕ = found (attempt_by link id) t in
       let x : Slot = slot_at t s in
       let e = own is_connecting refl s (and_left (is_connecting x.state) _ (and_left (attempt_of link x) _ (found-passes t fit (attempt_by link id) a))) in
       if_does on (λ _. change_does on s itself a (kept e refl)) λ _. if_does on (λ _. change_does on s itself a (kept e refl)) λ _. change_does on s itself a (kept e refl)
 
-  credits_safe : {l : Holder} (link id : ℕ) (b : LeCreditFlowIndRead) → Safe t l (on_credits t link id b)
+  credits_safe : {l : Holder} (link id : ℕ) (b : Option LeCreditFlowInd) → Safe t l (on_credits t link id b)
   unfolding on_credits
-  credits_safe link id LeCreditFlowInd.Decode = still_does on itself
-  credits_safe link id (LeCreditFlowInd.Is ind) =
+  credits_safe link id None = still_does on itself
+  credits_safe link id (Some ind) =
       else_does on _ _ _ itself λ a.
       let s : ℕ = found (connected_to link ind.cid) t in
       let e = own is_connected refl s (and_left (is_connected (slot_at t s).state) _ (found-passes t fit (connected_to link ind.cid) a)) in
@@ -245,7 +231,7 @@ module _ (t : Table) (fit : Fit t) where
 
   signals_safe : {l : Holder} (room signal link : ℕ) (listening central : Bool) (pdu : List ℕ) → Safe t l (signalled t room signal link listening central pdu)
   unfolding signalled
-  signals_safe room signal link listening central pdu = gate_does on (Is room) (Is signal) (Is link) Nothing λ _. checked_safe link listening central pdu _
+  signals_safe room signal link listening central pdu = gate_does on (Some room) (Some signal) (Some link) None λ _. checked_safe link listening central pdu _
 
   -- ---- Frames.antt
 
@@ -261,7 +247,7 @@ module _ (t : Table) (fit : Fit t) where
   frame_safe : (room link cid : ℕ) (head : List ℕ) (count : ℕ) → Safe t (by link) (dispatch t room link cid head count)
   unfolding dispatch
   frame_safe room link cid head count =
-      gate_does on (Is room) Nothing (Is link) Nothing λ _.
+      gate_does on (Some room) None (Some link) None λ _.
       else_does on _ _ _ itself λ a. else_does on _ _ _ itself λ b. else_does on _ _ _ itself λ d. if_does on (λ _. change_does on _ itself (cid_slot t cid (not-false _ a)) (kept refl refl)) λ _.
       let s : ℕ = slot_of cid in
       let e = own is_connected refl s (not-false _ b) in
@@ -277,22 +263,22 @@ module _ (t : Table) (fit : Fit t) where
 
   sends_safe : {l : Holder} (s count out : ℕ) → Safe t l (send t s count out)
   unfolding send
-  sends_safe s count out = gate-at on Nothing Nothing Nothing s λ v. else_does on _ _ _ itself λ _. else_does on _ _ _ itself λ _. planned_safe s count v _
+  sends_safe s count out = gate-at on None None None s λ v. else_does on _ _ _ itself λ _. else_does on _ _ _ itself λ _. planned_safe s count v _
 
   handing_safe : {l : Holder} {t' : Table} (s : ℕ) (x : Slot) (signal : List Fill) → Like t t' → leb t.n s ≡ false → holder x ≡ holder (slot_at t s) → Safe t l (handing t' s x signal)
   handing_safe {t' = t'} s x signal q a e =
       let c = change_does on s {y = with_queue (shifted x.queue) x} {ms = moving_up t' x} {a = Done} {out = signal} q a (kept e refl) in
       record { parts = c.parts; slots = c.slots; width = c.width; fit = c.fit }
 
-  taken_safe : {l : Holder} (s : ℕ) → leb t.n s ≡ false → (g : Grant) → Safe t l (taken t s (slot_at t s) g)
+  taken_safe : {l : Holder} (s : ℕ) → leb t.n s ≡ false → (g : Option ℕ) → Safe t l (taken t s (slot_at t s) g)
   unfolding taken
-  taken_safe s a Grant.Nothing = handing_safe s (slot_at t s) _ itself a refl
-  taken_safe s a (Grant.Credits n) = handing_safe s (with_account (granted (slot_at t s).account n) (slot_at t s)) _ with-id a refl
+  taken_safe s a None = handing_safe s (slot_at t s) _ itself a refl
+  taken_safe s a (Some n) = handing_safe s (with_account (granted (slot_at t s).account n) (slot_at t s)) _ with-id a refl
 
   takes_safe : {l : Holder} (room signal s size : ℕ) → Safe t l (receive t room signal s size)
   unfolding receive
   takes_safe room signal s size =
-      gate-at on (Is room) (Is signal) Nothing s λ v.
+      gate-at on (Some room) (Some signal) None s λ v.
       else_does on _ _ _ itself λ _. else_does on _ _ _ itself λ _. else_does on _ _ _ itself λ _. taken_safe s v _
 
   -- ---- Portions.antt
@@ -304,18 +290,18 @@ module _ (t : Table) (fit : Fit t) where
 
   starts_safe : {l : Holder} (s count size : ℕ) → Safe t l (start_job t s count size)
   unfolding start_job
-  starts_safe s count size = gate-at on Nothing Nothing Nothing s λ v. else_does on _ _ _ itself λ _. else_does on _ _ _ itself λ _. started_safe s count size v _
+  starts_safe s count size = gate-at on None None None s λ v. else_does on _ _ _ itself λ _. else_does on _ _ _ itself λ _. started_safe s count size v _
 
   portions_safe : {l : Holder} (s count size : ℕ) → Safe t l (give_portion t s count size)
   unfolding give_portion
   portions_safe s count size =
-      gate-at on Nothing Nothing Nothing s λ v.
+      gate-at on None None None s λ v.
       else_does on _ _ _ itself λ _. else_does on _ _ _ itself λ _. else_does on _ _ _ itself λ _. else_does on _ _ _ itself λ _. filling_does on s v (kept refl refl)
 
   cancels_safe : {l : Holder} (room s : ℕ) → Safe t l (cancel_job t room s)
   unfolding cancel_job
   cancels_safe room s =
-      gate-at on (Is room) Nothing Nothing s λ v.
+      gate-at on (Some room) None None s λ v.
       else_does on _ _ _ itself λ c. else_does on _ _ _ itself λ _.
       if_does on (λ _. change_does on s itself v (kept refl refl)) λ _. change_does on s itself v (kept (own is_connected refl s (not-false _ c)) refl)
 
@@ -323,19 +309,19 @@ module _ (t : Table) (fit : Fit t) where
 
   register_safe : {l : Holder} (spsm : ℕ) → Safe t l (register_spsm t spsm)
   unfolding register_spsm
-  register_safe spsm = gate_does on Nothing Nothing Nothing Nothing λ _. else_does on _ _ _ itself λ _. still_does on (with-spsm spsm)
+  register_safe spsm = gate_does on None None None None λ _. else_does on _ _ _ itself λ _. still_does on (with-spsm spsm)
 
   attends_safe : {l : Holder} → Safe t l (attention t)
   unfolding attention
-  attends_safe = gate_does on Nothing Nothing Nothing Nothing λ _. still_does on itself
+  attends_safe = gate_does on None None None None λ _. still_does on itself
 
   asks_safe : {l : Holder} (of : Slot → ℕ) (s : ℕ) → Safe t l (query of t s)
   unfolding query
-  asks_safe of s = gate-at on Nothing Nothing Nothing s λ _. still_does on itself
+  asks_safe of s = gate-at on None None None s λ _. still_does on itself
 
   sends_signal_safe : {l : Holder} (signal link : ℕ) (s : Signal) → Safe t l (send_signal t signal link s)
   unfolding send_signal
-  sends_signal_safe signal link s = gate_does on Nothing (Is signal) (Is link) Nothing λ _. still_does on with-id
+  sends_signal_safe signal link s = gate_does on None (Some signal) (Some link) None λ _. still_does on with-id
 
   -- ---- all calls
 
@@ -393,8 +379,8 @@ without_swept k (x ∷ xs) = (swept_not k x (of_link k x) refl, without_swept k 
 -- "Link down frees all its slots"
 pub down_clears : (t : Table) (k room : ℕ) → answer_number (disconnected t room k).answer ≡ 0 → Without k (live (disconnected t room k).table)
 unfolding disconnected
-down_clears t k room = go (verdict t (Is room) Nothing (Is k) Nothing)
+down_clears t k room = go (verdict t (Some room) None (Some k) None)
   where
-    go : (v : Verdict) → answer_number (passed t v (sweep t (of_link k) Done)).answer ≡ 0 → Without k (live (passed t v (sweep t (of_link k) Done)).table)
-    go Pass e = rw (take-map_first t.n (λ x. choose (of_link k x) (freed x) x) t.slots) (without_swept k (live t))
-    go (Stop r) e = absurd (eqb-false _ 0 (refused_not_0 r) e)
+    go : (v : Result (Unit {0}) Refusal) → answer_number (passed t v (sweep t (of_link k) Done)).answer ≡ 0 → Without k (live (passed t v (sweep t (of_link k) Done)).table)
+    go (Ok tt) e = rw (take-map_first t.n (λ x. choose (of_link k x) (freed x) x) t.slots) (without_swept k (live t))
+    go (Err r) e = absurd (eqb-false _ 0 (refused_not_0 r) e)

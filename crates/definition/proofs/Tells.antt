@@ -1,5 +1,5 @@
 -- What a test of the definition tells once it has passed: of a CID, of a slot's state, of what the gate was given.
-use Rattle.std.specs.Prelude.{◌≡◌, refl, Bool, true, false, ℕ, ◌<◌, leb}
+use Rattle.std.specs.Prelude.{◌≡◌, refl, Bool, true, false, ℕ, ◌<◌, leb, Err, None, Ok, Option, Result, Some}
 use Rattle.std.proofs.lemmas.Bool.{false≢true, lt-leb}
 use Rattle.std.proofs.Common.{arith, leb-false, ltb-true}
 use Rattle.lists.specs.Choose.{choose}
@@ -8,11 +8,7 @@ use Rattle.codes.specs.declared.Refusal.{Refusal}
 use Rattle.channel.specs.Limits.{cid_base}
 use Rattle.channel.specs.declared.ChannelState.{ChannelState}
 use Rattle.channel.specs.declared.ChannelState.TheVariants.{Disconnected, Connecting, PeerConnecting, Connected, ConnectFailed, PeerDisconnecting, Disconnecting}
-use Rattle.channel.specs.declared.Given.{Given}
-use Rattle.channel.specs.declared.Given.TheVariants.{Nothing, Is}
 use Rattle.channel.specs.declared.Table.{Table}
-use Rattle.channel.specs.declared.Verdict.{Verdict}
-use Rattle.channel.specs.declared.Verdict.TheVariants.{Pass, Stop}
 use Rattle.definition.specs.Table.{is_disconnected, is_connecting, is_peer_connecting, is_connected, identifier_of, is_cid, slot_of}
 use Rattle.definition.specs.Outcome.{fails}
 use Rattle.definition.specs.Tells.{InUse}
@@ -66,11 +62,11 @@ connected-is (Disconnecting a) e = absurd (false≢true e)
 -- ---- what the gate was given
 
 -- a refusal that does not come, and then what follows it
-pub not_stopped : (b : Bool) (r : Refusal) (v : Verdict) → choose b (Stop r) v ≡ Pass → (b ≡ false) × (v ≡ Pass)
+pub not_stopped : (b : Bool) (r : Refusal) (v : Result (Unit {0}) Refusal) → choose b (Err r) v ≡ Ok tt → (b ≡ false) × (v ≡ Ok tt)
 unfolding choose
 not_stopped true r v e = let z : ◌≡◌ {A = ℕ} 0 1 = cc in absurd (omega arith)
 not_stopped false r v e = (refl, e)
 
-pub given_in_use : (t : Table) (slot : Given) → fails (λ s. leb t.n s) slot ≡ false → InUse t slot
-given_in_use t Nothing e = tt
-given_in_use t (Is s) e = leb-false t.n s e
+pub given_in_use : (t : Table) (slot : Option ℕ) → fails (λ s. leb t.n s) slot ≡ false → InUse t slot
+given_in_use t None e = tt
+given_in_use t (Some s) e = leb-false t.n s e

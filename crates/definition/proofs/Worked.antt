@@ -20,7 +20,6 @@ use Rattle.signal_write.specs.Writer.{encode_of}
 use Rattle.channel.specs.declared.Answer.TheVariants.{Done, At, Link, Due, Frames, Job}
 use Rattle.channel.specs.declared.ChannelState.{ChannelState}
 use Rattle.channel.specs.declared.ChannelState.TheVariants.{Disconnected, PeerConnecting, Connected, PeerDisconnecting}
-use Rattle.channel.specs.declared.Setting.TheVariants as Setting
 use Rattle.channel.specs.declared.Slot.{Slot}
 use Rattle.definition.specs.Mem.{fill, move, moves, parts, fills, written}
 use Rattle.definition.specs.Table.{index, slot_fits, well_formed}

@@ -1,6 +1,6 @@
 -- Making and registering, the attention set, the five queries and those of the tallies, the two parameter senders. Document 01, 'The job and its edge',
 -- rows 1, 2 and 5, and 'Slots'; the senders and queries as S has them (READINGS L3).
-use Rattle.std.specs.Prelude.{◌&&◌, not, List, [], ◌∷◌, map, ℕ, eqb, leb, ltb, length, replicate}
+use Rattle.std.specs.Prelude.{◌&&◌, not, List, [], ◌∷◌, map, ℕ, eqb, leb, ltb, length, replicate, None, Some}
 use Rattle.lists.specs.First.{first}
 use Rattle.lists.specs.Bits.{bitset, count}
 use Rattle.codes.specs.declared.Refusal.{Refusal}
@@ -11,7 +11,6 @@ use Rattle.signal_forms.specs.declared.Signal.TheVariants.{ConnParamUpdateReq, C
 use Rattle.channel.specs.Limits.{slots_most, spsm_most}
 use Rattle.channel.specs.declared.Answer.{Answer}
 use Rattle.channel.specs.declared.Answer.TheVariants.{Done, Refused, Attention, Number}
-use Rattle.channel.specs.declared.Given.TheVariants.{Nothing, Is}
 use Rattle.channel.specs.declared.Slot.{Slot}
 use Rattle.channel.specs.declared.Table.{Table}
 use Rattle.definition.specs.Mem.{given}
@@ -48,7 +47,7 @@ make n d m room =
 
 unfoldable pub register_spsm : Table → (spsm : ℕ) → Outcome
 register_spsm t spsm =
-    gate t Nothing Nothing Nothing Nothing
+    gate t None None None None
     (when not (leb 1 spsm && leb spsm spsm_most) then refuse t BadSpsm
     else still (registered t spsm) Done [])
 
@@ -57,7 +56,7 @@ register_spsm t spsm =
 
 unfoldable pub attention : Table → Outcome
 attention t =
-    gate t Nothing Nothing Nothing Nothing
+    gate t None None None None
     (still t (Attention (bitset calls (live t)) (count calls (live t)) (first calls (live t))) [])
 
 -- ---- "Finding the lowest free slot is also offered over a run of slot records lent by the caller": the lowest Disconnected one without
@@ -73,7 +72,7 @@ free_among slot none l = when ltb (lowest_free l) (length l) then slot (lowest_f
 -- ---- the five queries of a slot, in any state
 
 unfoldable pub query : (Slot → ℕ) → Table → (slot : ℕ) → Outcome
-query of t s = gate t Nothing Nothing Nothing (Is s) (still t (Number (of (slot_at t s))) [])
+query of t s = gate t None None None (Some s) (still t (Number (of (slot_at t s))) [])
 
 abbrev pub spsm : Table → ℕ → Outcome
 spsm = query (λ x. x.spsm)
@@ -108,7 +107,7 @@ tally_blocked_receives = query (λ x. x.tallies.receives.blocked)
 
 unfoldable pub send_signal : Table → (signal link : ℕ) → Signal → Outcome
 send_signal t signal link s =
-    gate t Nothing (Is signal) (Is link) Nothing
+    gate t None (Some signal) (Some link) None
     (still (spent t) Done (given (encode_of (next_id t) s) ∷ []))
 
 abbrev pub send_conn_param_update_req : Table → (signal link min max latency timeout : ℕ) → Outcome

@@ -1,9 +1,8 @@
 -- All calls, and what is job and what is public in each (document 01, 'Slots': "Job octets are the SDU octets handed to a send, and a
 -- frame's payload but for the two length octets of a frame that arrives with no assembly open"; document 02: a portion's octets, for its frame
 -- buffer "counts as that link's sent job", and "portion lengths [are] public").
-use Rattle.std.specs.Prelude.{Bool, false, ◌&&◌, not, List, [], ◌∷◌, ℕ, eqb, length, take, drop}
+use Rattle.std.specs.Prelude.{Bool, false, ◌&&◌, not, List, [], ◌∷◌, ℕ, eqb, length, take, drop, Option}
 use Rattle.lists.specs.Choose.{choose}
-use Rattle.codes.specs.declared.ResultRead.{ResultRead}
 use Rattle.signal_forms.specs.declared.Signal.{Signal}
 use Rattle.sar_join.specs.Joining.{is_idle}
 use Rattle.channel.specs.declared.ChannelState.{ChannelState}
@@ -22,6 +21,7 @@ use Rattle.definition.specs.Signals.{signalled}
 use Rattle.definition.specs.Frames.{dispatch, send, receive}
 use Rattle.definition.specs.Portions.{start_job, give_portion, cancel_job}
 use Rattle.definition.specs.Asking.{register_spsm, attention, query, send_signal}
+use Rattle.codes.specs.declared.LeCreditConnResultCode.{LeCreditConnResultCode}
 
 -- The part of the caller's memory that a call is lent: `size` octets from `from` on.
 pub record Window : Type 0 where
@@ -35,7 +35,7 @@ pub data Request : Type 0 where
   pends : (link : ℕ) (up : Bool) → Request
   rejects_all : (link : ℕ) → Request
   accepts : (slot : ℕ) → L2capChannelConfig → Request
-  rejects : (slot : ℕ) → ResultRead → Request  -- a result code, or a number that is none
+  rejects : (slot : ℕ) → Option LeCreditConnResultCode → Request  -- a result code, or a number that is none
   drops : (slot : ℕ) → Request
   creates : (link spsm : ℕ) → L2capChannelConfig → Request
   opens : (slot link : ℕ) (up : Bool) → Request

@@ -1,5 +1,5 @@
 -- Holds, disconnects, link down, next disconnect. Document 01, 'Slots'.
-use Rattle.std.specs.Prelude.{true, false, ◌&&◌, [], ◌∷◌, ℕ, ◌+◌, ◌-◌, eqb, leb}
+use Rattle.std.specs.Prelude.{true, false, ◌&&◌, [], ◌∷◌, ℕ, ◌+◌, ◌-◌, eqb, leb, None, Some}
 use Rattle.codes.specs.declared.Refusal.TheVariants.{Held}
 use Rattle.signal_write.specs.Writer.{encode_of}
 use Rattle.signal_forms.specs.declared.DisconnectionReq.{DisconnectionReq}
@@ -8,7 +8,6 @@ use Rattle.signal_forms.specs.declared.Signal.TheVariants as Signal
 use Rattle.channel.specs.Limits.{holds_most}
 use Rattle.channel.specs.declared.Answer.TheVariants.{Done, Due}
 use Rattle.channel.specs.declared.ChannelState.TheVariants.{Disconnecting}
-use Rattle.channel.specs.declared.Given.TheVariants.{Nothing, Is}
 use Rattle.channel.specs.declared.Slot.{Slot}
 use Rattle.channel.specs.declared.Table.{Table}
 use Rattle.definition.specs.Mem.{given}
@@ -20,7 +19,7 @@ use Rattle.definition.specs.Outcome.{Outcome, change, sweep, refuse, done, freei
 -- "Adding a hold at 255, or releasing at 0, gives 22."
 unfoldable pub inc_ref : Table → (slot : ℕ) → Outcome
 inc_ref t s =
-    gate t Nothing Nothing Nothing (Is s)
+    gate t None None None (Some s)
     (let x = slot_at t s in
     when leb holds_most x.hold then refuse t Held
     else change t s (with_hold (x.hold + 1) x) [] Done [])
@@ -28,7 +27,7 @@ inc_ref t s =
 -- "Releasing to hold 0 turns Connected into Disconnecting"
 unfoldable pub dec_ref : Table → (room slot : ℕ) → Outcome
 dec_ref t room s =
-    gate t (Is room) Nothing Nothing (Is s)
+    gate t (Some room) None None (Some s)
     (let x = slot_at t s in
     when eqb x.hold 0 then refuse t Held
     else when is_connected x.state && eqb x.hold 1 then leaving t s (with_hold 0 x) (Disconnecting false) Done
@@ -43,17 +42,17 @@ disconnecting t s =
 
 -- "so does a disconnect by slot or by CID, which does nothing in other states or for a CID of no slot"
 unfoldable pub disconnect : Table → (room slot : ℕ) → Outcome
-disconnect t room s = gate t (Is room) Nothing Nothing (Is s) (disconnecting t s)
+disconnect t room s = gate t (Some room) None None (Some s) (disconnecting t s)
 
 unfoldable pub disconnect_by_cid : Table → (room cid : ℕ) → Outcome
 disconnect_by_cid t room cid =
-    gate t (Is room) Nothing Nothing Nothing
+    gate t (Some room) None None None
     (when is_cid t cid then disconnecting t (slot_of cid)
     else done t)
 
 -- "Link down frees all its slots; holds stay until released"
 unfoldable pub disconnected : Table → (room link : ℕ) → Outcome
-disconnected t room link = gate t (Is room) Nothing (Is link) Nothing (sweep t (of_link link) Done)
+disconnected t room link = gate t (Some room) None (Some link) None (sweep t (of_link link) Done)
 
 -- "The next disconnect, given with its link, is the lowest slot in PeerDisconnecting (response written, freed) or Disconnecting not
 -- yet announced (request written with the next identifier, marked); none: nothing. The response carries our CID as DCID and the
@@ -75,7 +74,7 @@ requested t s x = change (spent t) s (in_state (Disconnecting true) x) [] (Due x
 
 unfoldable pub next_disconnect : Table → (room signal : ℕ) → Outcome
 next_disconnect t room signal =
-    gate t (Is room) (Is signal) Nothing Nothing
+    gate t (Some room) (Some signal) None None
     (let s = found due_slot t in
     let x = slot_at t s in
     when leb t.n s then done t

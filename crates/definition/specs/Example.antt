@@ -1,13 +1,12 @@
 -- Runs worked out, with job octets and identifiers that may be any: what the calls really do, and that demand 3 isn't empty. One channel
 -- from request to link-down; the client's accident, which leaves nothing behind; two phones' signals.
-use Rattle.std.specs.Prelude.{true, List, [], ◌∷◌, ◌++◌, map, ℕ, replicate, take}
+use Rattle.std.specs.Prelude.{true, List, [], ◌∷◌, ◌++◌, map, ℕ, replicate, take, None, Some}
 use Rattle.credit.specs.declared.CreditFlowPolicy.TheVariants.{Every}
 use Rattle.codes.specs.declared.Refusal.TheVariants as Refusal
 use Rattle.signal_headers.specs.Headers.{rest_of}
 use Rattle.channel.specs.declared.Answer.{Answer}
 use Rattle.channel.specs.declared.ChannelState.{ChannelState}
 use Rattle.channel.specs.declared.L2capChannelConfig.{L2capChannelConfig}
-use Rattle.channel.specs.declared.Setting.TheVariants as Setting
 use Rattle.definition.specs.Calls.{Window, Call, frame, sends, down, plain, register, signals, pends, accepts, creates, releases, leaves, announces, takes}
 use Rattle.definition.specs.Run.{State, made, outcomes}
 
@@ -28,7 +27,7 @@ abbrev pub start : State
 start = made 2 1 29 (replicate 92 5) (replicate 30 9)
 
 abbrev pub config : L2capChannelConfig
-config = record { mtu = Setting.Default; mps = Setting.Default; policy = Every 1; credits = Setting.Is 5 }
+config = record { mtu = None; mps = None; policy = Every 1; credits = Some 5 }
 
 -- A phone asks for a channel (SPSM 0x80, its CID 0x50, MTU 64, MPS 23, 5 credits), and gets it.
 abbrev pub opening : (link id : ℕ) → List Call

@@ -1,11 +1,9 @@
 -- Frames in, jobs out: frame in, send, take. Document 01, 'Cutting, joining, credits'. None of these sees a job octet: a frame comes
 -- as its length octets (`head`) and the number of its job octets, a send as the number of octets of its SDU.
-use Rattle.std.specs.Prelude.{Bool, false, ◌||◌, not, List, [], ◌∷◌, ◌++◌, ℕ, zero, suc, ◌+◌, ◌-◌, ◌*◌, min, eqb, ltb, length, get_or, set, drop}
+use Rattle.std.specs.Prelude.{Bool, false, ◌||◌, not, List, [], ◌∷◌, ◌++◌, ℕ, zero, suc, ◌+◌, ◌-◌, ◌*◌, min, eqb, ltb, length, get_or, set, drop, None, Option, Some}
 use Rattle.octets.specs.Octets.{le16, u16_at}
 use Rattle.codes.specs.declared.Refusal.{Refusal}
 use Rattle.codes.specs.declared.Refusal.TheVariants.{InvalidChannelId, NotFound, OutOfMemory, ChannelClosed, InsufficientSpace, QueueFull, JobOpen}
-use Rattle.credit.specs.declared.Grant.{Grant}
-use Rattle.credit.specs.declared.Grant.TheVariants as Grant
 use Rattle.credit.specs.Account.{received, granted, grant_of}
 use Rattle.sar_join.specs.declared.Assembly.{Assembly}
 use Rattle.sar_join.specs.declared.Joined.{Joined}
@@ -20,7 +18,6 @@ use Rattle.signal_forms.specs.declared.Signal.TheVariants as Signal
 use Rattle.channel.specs.declared.Answer.TheVariants.{Done, Refused, Frames, Job}
 use Rattle.channel.specs.declared.ChannelState.{ChannelState}
 use Rattle.channel.specs.declared.ChannelState.TheVariants.{Disconnecting}
-use Rattle.channel.specs.declared.Given.TheVariants.{Nothing, Is}
 use Rattle.channel.specs.declared.Queue.{Queue}
 use Rattle.channel.specs.declared.Slot.{Slot}
 use Rattle.channel.specs.declared.Table.{Table}
@@ -95,7 +92,7 @@ admitted t link cid head count =
     else joined t s (count_received (with_account (received x.account 1) x)) count (step_of (arriving t x head count))
 
 unfoldable pub dispatch : Table → (room link cid : ℕ) (head : List ℕ) (count : ℕ) → Outcome
-dispatch t room link cid head count = gate t (Is room) Nothing (Is link) Nothing (admitted t link cid head count)
+dispatch t room link cid head count = gate t (Some room) None (Some link) None (admitted t link cid head count)
 
 -- ---- send
 
@@ -139,7 +136,7 @@ sent_on t s l out =
     else planned t s x l (plan_send l x.peer.mtu x.peer.mps x.peer.credits out)
 
 unfoldable pub send : Table → (slot l out : ℕ) → Outcome
-send t s l out = gate t Nothing Nothing Nothing (Is s) (sent_on t s l out)
+send t s l out = gate t None None None (Some s) (sent_on t s l out)
 
 -- ---- take
 
@@ -167,16 +164,16 @@ abbrev pub handing : Table → (slot : ℕ) → Slot → List Fill → Outcome
 handing t s x signal = handout t s (with_queue (shifted x.queue) x) (moving_up t x) (Job x.link (oldest x)) signal (held (oldest_at t s) (oldest x) ∷ [])
 
 -- "Connected only: Every(k) grants all received when received ≥ k, MinThreshold(t) when credits < t, never 0 credits."
-unfoldable pub grant_in : Slot → Grant
-grant_in x = when is_connected x.state then grant_of x.account else Grant.Nothing
+unfoldable pub grant_in : Slot → Option ℕ
+grant_in x = when is_connected x.state then grant_of x.account else None
 
 -- The signal that grants n credits to slot s's peer (Core Vol 3 Part A 4.24).
 abbrev pub crediting : (slot n : ℕ) → LeCreditFlowInd
 crediting s n = record { cid = cid_of s; credits = n }
 
-unfoldable pub taken : Table → (slot : ℕ) → Slot → Grant → Outcome
-taken t s x Grant.Nothing = handing t s x []
-taken t s x (Grant.Credits n) = handing (spent t) s (with_account (granted x.account n) x) (given (encode_of (next_id t) (Signal.LeCreditFlowInd (crediting s n))) ∷ [])
+unfoldable pub taken : Table → (slot : ℕ) → Slot → Option ℕ → Outcome
+taken t s x None = handing t s x []
+taken t s x (Some n) = handing (spent t) s (with_account (granted x.account n) x) (given (encode_of (next_id t) (Signal.LeCreditFlowInd (crediting s n))) ∷ [])
 
 -- Row 11: "taking when free, connecting, pending or failed"
 abbrev pub closed : ChannelState → Bool
@@ -193,4 +190,4 @@ taken_on t s size =
     else taken t s x (grant_in x)
 
 unfoldable pub receive : Table → (room signal slot size : ℕ) → Outcome
-receive t room signal s size = gate t (Is room) (Is signal) Nothing (Is s) (taken_on t s size)
+receive t room signal s size = gate t (Some room) (Some signal) None (Some s) (taken_on t s size)

@@ -1,5 +1,5 @@
 -- What every call does. A reader must believe the pages of the first part, in this order; those of the second part have the words of
--- its theorems, which stand in proofs/ under the same names: that they say what document 01 says, and what the crates above rest on.
+-- its theorems (those of `Line` stand here, all others in proofs/ under the same names): that they say what document 01 says, and what the crates above rest on.
 
 -- ---- to believe
 
@@ -19,8 +19,6 @@ pub mod Pending
 pub mod Opening
 -- holds, disconnects, link down, next disconnect
 pub mod Closing
--- the bodies of signals in one shape, read or bad
-pub mod Readers
 -- one signal PDU: header check, the eight signals, all other codes
 pub mod Signals
 -- frame in, send, take

@@ -1,6 +1,6 @@
 -- What a worked line is (Worked.antt): a table of two slots, a call, and what the call answers and leaves. The expected side is written
 -- with records and octets of its own, from document 01 and its readings; of the definition's functions it uses none.
-use Rattle.std.specs.Prelude.{◌≡◌, List, [], ◌∷◌, ◌++◌, map, ℕ, ◌-◌, length, take, drop, replicate, set}
+use Rattle.std.specs.Prelude.{◌≡◌, List, [], ◌∷◌, ◌++◌, map, ℕ, ◌-◌, length, take, drop, replicate, set, None, Some}
 use Rattle.octets.specs.Octets.{le16}
 use Rattle.codes.specs.Codes.{refusal_number}
 use Rattle.codes.specs.declared.LeCreditConnResultCode.{LeCreditConnResultCode}
@@ -14,7 +14,6 @@ use Rattle.channel.specs.declared.ChannelState.TheVariants.{Disconnected, Connec
 use Rattle.channel.specs.declared.L2capChannelConfig.{L2capChannelConfig}
 use Rattle.channel.specs.declared.Peer.{Peer}
 use Rattle.channel.specs.declared.Queue.{Queue}
-use Rattle.channel.specs.declared.Setting.TheVariants as Setting
 use Rattle.channel.specs.declared.Slot.{Slot}
 use Rattle.channel.specs.declared.Table.{Table}
 use Rattle.channel.specs.declared.Tallies.{Tallies}
@@ -269,10 +268,10 @@ knowing bits t = record { slots = t.slots; n = t.n; d = t.d; m = t.m; identifier
 -- ---- what is asked for
 
 abbrev pub usual : L2capChannelConfig
-usual = record { mtu = Setting.Default; mps = Setting.Default; policy = Every 1; credits = Setting.Default }
+usual = record { mtu = None; mps = None; policy = Every 1; credits = None }
 
 abbrev pub sized : (mtu mps : ℕ) → L2capChannelConfig
-sized mtu mps = record { mtu = Setting.Is mtu; mps = Setting.Is mps; policy = MinThreshold 2; credits = Setting.Is 7 }
+sized mtu mps = record { mtu = Some mtu; mps = Some mps; policy = MinThreshold 2; credits = Some 7 }
 
 -- ---- signals that come, and replies
 

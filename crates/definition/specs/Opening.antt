@@ -1,5 +1,5 @@
 -- Connections that we ask for: create, the opened query, give-up. Document 01, 'Slots' and row 13.
-use Rattle.std.specs.Prelude.{Bool, ◌&&◌, ◌||◌, not, [], ◌∷◌, ℕ, eqb, leb}
+use Rattle.std.specs.Prelude.{Bool, ◌&&◌, ◌||◌, not, [], ◌∷◌, ℕ, eqb, leb, None, Some}
 use Rattle.codes.specs.declared.Refusal.TheVariants.{NotFound, InsufficientSpace, NoChannelAvailable, ConnectError, Disconnected, Held}
 use Rattle.credit.specs.declared.CreditFlowControl.{CreditFlowControl}
 use Rattle.credit.specs.Account.{new_account}
@@ -8,7 +8,6 @@ use Rattle.signal_forms.specs.declared.LeCreditConnReq.{LeCreditConnReq}
 use Rattle.signal_forms.specs.declared.Signal.TheVariants as Signal
 use Rattle.channel.specs.declared.Answer.TheVariants.{Done, Refused, At, Opened}
 use Rattle.channel.specs.declared.ChannelState.TheVariants.{Connecting}
-use Rattle.channel.specs.declared.Given.TheVariants.{Nothing, Is}
 use Rattle.channel.specs.declared.L2capChannelConfig.{L2capChannelConfig}
 use Rattle.channel.specs.declared.Slot.{Slot}
 use Rattle.channel.specs.declared.Table.{Table}
@@ -54,7 +53,7 @@ started t s link spsm c =
 -- "A create refused by 12 or 13 has used an identifier, as in S."
 unfoldable pub create : Table → (signal link spsm : ℕ) → L2capChannelConfig → Outcome
 create t signal link spsm c =
-    gate t Nothing (Is signal) (Is link) Nothing
+    gate t None (Some signal) (Some link) None
     (let s = found is_free t in
     when mps_too_large t c then refuse (spent t) InsufficientSpace
     else when mtu_too_large t c then refuse (spent t) InsufficientSpace
@@ -76,7 +75,7 @@ polled t s x up =
 
 unfoldable pub opened : Table → (room slot link : ℕ) (up : Bool) → Outcome
 opened t room s link up =
-    gate t (Is room) Nothing (Is link) (Is s)
+    gate t (Some room) None (Some link) (Some s)
     (let x = slot_at t s in
     when is_disconnected x.state then refuse t Disconnected
     else when not (eqb x.link link) then refuse t NotFound
@@ -85,7 +84,7 @@ opened t room s link up =
 -- "Give-up frees Connecting, ConnectFailed, or Connected without holds, else 8 (added)."
 unfoldable pub give_up : Table → (room slot : ℕ) → Outcome
 give_up t room s =
-    gate t (Is room) Nothing Nothing (Is s)
+    gate t (Some room) None None (Some s)
     (let x = slot_at t s in
     when is_connecting x.state || (is_connect_failed x.state || (is_connected x.state && eqb x.hold 0))
     then freeing t s x Done []

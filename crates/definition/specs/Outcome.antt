@@ -1,6 +1,6 @@
 -- What a call comes to: an answer, the table after it, and what it does to memory as data (Mem.antt). An outcome is built from
 -- five forms only: `still`, `change`, `handout`, `filling` and `sweep`. And `gate`, the refusals that come first in every call.
-use Rattle.std.specs.Prelude.{Bool, false, not, List, [], ◌∷◌, map, ℕ, zero, suc, eqb, leb, ltb}
+use Rattle.std.specs.Prelude.{Bool, false, not, List, [], ◌∷◌, map, ℕ, zero, suc, eqb, leb, ltb, Err, None, Ok, Option, Result, Some}
 use Rattle.lists.specs.Choose.{choose}
 use Rattle.lists.specs.Each.{map_first}
 use Rattle.codes.specs.declared.Refusal.{Refusal}
@@ -9,10 +9,6 @@ use Rattle.channel.specs.Limits.{signal_most, handle_most}
 use Rattle.channel.specs.declared.Answer.{Answer}
 use Rattle.channel.specs.declared.Answer.TheVariants.{Done, Refused}
 use Rattle.channel.specs.declared.ChannelState.{ChannelState}
-use Rattle.channel.specs.declared.Given.{Given}
-use Rattle.channel.specs.declared.Given.TheVariants.{Nothing, Is}
-use Rattle.channel.specs.declared.Verdict.{Verdict}
-use Rattle.channel.specs.declared.Verdict.TheVariants.{Pass, Stop}
 use Rattle.channel.specs.declared.Slot.{Slot}
 use Rattle.channel.specs.declared.Table.{Table}
 use Rattle.definition.specs.Mem.{Fill, zeros, Move, put, wipe, sizes}
@@ -90,23 +86,23 @@ leaving t s x k a = change t s (left k x) (unassembled (place_of t) ∷ []) a []
 
 -- ---- "First 1, 2, 3 (signal buffer), 4, 6, then the order of each section."
 
-abbrev pub fails : (ℕ → Bool) → Given → Bool
-fails bad Nothing = false
-fails bad (Is x) = bad x
+abbrev pub fails : (ℕ → Bool) → Option ℕ → Bool
+fails bad None = false
+fails bad (Some x) = bad x
 
-unfoldable pub verdict : Table → (room signal link slot : Given) → Verdict
+unfoldable pub verdict : Table → (room signal link slot : Option ℕ) → Result (Unit {0}) Refusal
 verdict t room signal link slot =
-    when not (well_formed t) then Stop BadTable
-    else when fails (λ size. not (eqb size (room_size t))) room then Stop BadRoom
-    else when fails (λ size. ltb size signal_most) signal then Stop NoRoom
-    else when fails (λ l. ltb handle_most l) link then Stop BadHandle
-    else when fails (λ s. leb t.n s) slot then Stop BadSlot
-    else Pass
+    when not (well_formed t) then Err BadTable
+    else when fails (λ size. not (eqb size (room_size t))) room then Err BadRoom
+    else when fails (λ size. ltb size signal_most) signal then Err NoRoom
+    else when fails (λ l. ltb handle_most l) link then Err BadHandle
+    else when fails (λ s. leb t.n s) slot then Err BadSlot
+    else Ok tt
 
 -- what follows is done only where the verdict lets it pass
-abbrev pub passed : Table → Verdict → Outcome → Outcome
-passed t Pass o = o
-passed t (Stop r) o = refuse t r
+abbrev pub passed : Table → Result (Unit {0}) Refusal → Outcome → Outcome
+passed t (Ok tt) o = o
+passed t (Err r) o = refuse t r
 
-abbrev pub gate : Table → (room signal link slot : Given) → Outcome → Outcome
+abbrev pub gate : Table → (room signal link slot : Option ℕ) → Outcome → Outcome
 gate t room signal link slot o = passed t (verdict t room signal link slot) o

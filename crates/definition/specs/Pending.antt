@@ -1,11 +1,9 @@
 -- Connections that the peer asks for: next pending, the reject-all step, accept, reject, drop. Document 01, 'Slots'; the names of S.
-use Rattle.std.specs.Prelude.{Bool, not, List, [], ◌∷◌, ℕ, ◌-◌, eqb, leb, ltb}
+use Rattle.std.specs.Prelude.{Bool, not, List, [], ◌∷◌, ℕ, ◌-◌, eqb, leb, ltb, None, Option, Some}
 use Rattle.codes.specs.declared.LeCreditConnResultCode.{LeCreditConnResultCode}
 use Rattle.codes.specs.declared.LeCreditConnResultCode.TheVariants.{Success, NoResources}
 use Rattle.codes.specs.Codes.{result_of}
 use Rattle.codes.specs.declared.Refusal.TheVariants.{NotFound, InsufficientSpace, Decode, Disconnected, Held}
-use Rattle.codes.specs.declared.ResultRead.{ResultRead}
-use Rattle.codes.specs.declared.ResultRead.TheVariants.{Known, Unknown}
 use Rattle.credit.specs.declared.CreditFlowControl.{CreditFlowControl}
 use Rattle.credit.specs.Account.{new_account}
 use Rattle.signal_forms.specs.Forms.{reject_res}
@@ -14,10 +12,7 @@ use Rattle.signal_forms.specs.declared.LeCreditConnRes.{LeCreditConnRes}
 use Rattle.signal_forms.specs.declared.Signal.TheVariants as Signal
 use Rattle.channel.specs.declared.Answer.TheVariants.{Done, At, Link}
 use Rattle.channel.specs.declared.ChannelState.TheVariants.{Connected}
-use Rattle.channel.specs.declared.Given.TheVariants.{Nothing, Is}
 use Rattle.channel.specs.declared.L2capChannelConfig.{L2capChannelConfig}
-use Rattle.channel.specs.declared.Setting.{Setting}
-use Rattle.channel.specs.declared.Setting.TheVariants as Setting
 use Rattle.channel.specs.declared.Slot.{Slot}
 use Rattle.channel.specs.declared.Table.{Table}
 use Rattle.definition.specs.Mem.{Fill, given}
@@ -28,9 +23,9 @@ use Rattle.definition.specs.Outcome.{Outcome, change, refuse, done, freeing, gat
 
 -- ---- "Defaults: credits D, MTU M-6, MPS M-4."
 
-abbrev pub settled : ℕ → Setting → ℕ
-settled usual Setting.Default = usual
-settled usual (Setting.Is n) = n
+abbrev pub settled : ℕ → Option ℕ → ℕ
+settled usual None = usual
+settled usual (Some n) = n
 
 abbrev pub mtu_of : Table → L2capChannelConfig → ℕ
 mtu_of t c = settled (place_of t) c.mtu
@@ -58,7 +53,7 @@ refused_response id result = given (encode_of id (Signal.LeCreditConnRes (reject
 
 unfoldable pub next_pending : Table → (link : ℕ) (up : Bool) → Outcome
 next_pending t link up =
-    gate t Nothing Nothing (Is link) Nothing
+    gate t None None (Some link) None
     (let s = found (pending_of link) t in
     when leb t.n s then (when up then done t else refuse t Disconnected)
     else when not (eqb (slot_at t s).hold 0) then refuse t Held
@@ -68,7 +63,7 @@ next_pending t link up =
 
 unfoldable pub reject_all_pending : Table → (room signal link : ℕ) → Outcome
 reject_all_pending t room signal link =
-    gate t (Is room) (Is signal) (Is link) Nothing
+    gate t (Some room) (Some signal) (Some link) None
     (let s = found (unheld_pending_of link) t in
     when leb t.n s then done t
     else freeing t s (slot_at t s) (At (index s)) (refused_response (identifier_of (slot_at t s).state) NoResources))
@@ -108,7 +103,7 @@ agreed t s x c =
 
 unfoldable pub accept_pending : Table → (signal slot : ℕ) → L2capChannelConfig → Outcome
 accept_pending t signal s c =
-    gate t Nothing (Is signal) Nothing (Is s)
+    gate t None (Some signal) None (Some s)
     (let x = slot_at t s in
     when mps_too_large t c then refuse t InsufficientSpace
     else when mtu_too_large t c then refuse t InsufficientSpace
@@ -120,7 +115,7 @@ accept_pending t signal s c =
 
 unfoldable pub reject_pending : Table → (room signal slot : ℕ) → LeCreditConnResultCode → Outcome
 reject_pending t room signal s result =
-    gate t (Is room) (Is signal) Nothing (Is s)
+    gate t (Some room) (Some signal) None (Some s)
     (let x = slot_at t s in
     when not (is_peer_connecting x.state) then refuse t NotFound
     else when eqb x.hold 0 then refuse t Held
@@ -130,11 +125,11 @@ reject_pending t room signal s result =
 -- before the state, and nothing is written (READINGS F7).
 
 unfoldable pub not_code : Table → (room signal slot : ℕ) → Outcome
-not_code t room signal s = gate t (Is room) (Is signal) Nothing (Is s) (refuse t Decode)
+not_code t room signal s = gate t (Some room) (Some signal) None (Some s) (refuse t Decode)
 
-abbrev pub reject_read : Table → (room signal slot : ℕ) → ResultRead → Outcome
-reject_read t room signal s (Known result) = reject_pending t room signal s result
-reject_read t room signal s Unknown = not_code t room signal s
+abbrev pub reject_read : Table → (room signal slot : ℕ) → Option LeCreditConnResultCode → Outcome
+reject_read t room signal s (Some result) = reject_pending t room signal s result
+reject_read t room signal s None = not_code t room signal s
 
 abbrev pub reject_numbered : Table → (room signal slot number : ℕ) → Outcome
 reject_numbered t room signal s number = reject_read t room signal s (result_of number)
@@ -143,7 +138,7 @@ reject_numbered t room signal s number = reject_read t room signal s (result_of 
 
 unfoldable pub drop_pending : Table → (room slot : ℕ) → Outcome
 drop_pending t room s =
-    gate t (Is room) Nothing Nothing (Is s)
+    gate t (Some room) None None (Some s)
     (let x = slot_at t s in
     when is_connected x.state then done t
     else when eqb x.hold 0 then refuse t Held

@@ -1,7 +1,7 @@
 -- Jobs handed over in portions: start, portion, cancel. Document 02 (i). "The sender states the SDU length first, gets n credits set aside, then gives
 -- octets in portions of its choosing and takes frames as they fill." The frame that is being filled stands in a buffer that the caller lends for the
 -- whole job; the table has the numbers alone. None of these sees a job octet: a portion comes as the number of its octets.
-use Rattle.std.specs.Prelude.{Bool, false, ◌&&◌, ◌||◌, not, List, [], ◌∷◌, ℕ, ◌+◌, ◌-◌, min, eqb, ltb}
+use Rattle.std.specs.Prelude.{Bool, false, ◌&&◌, ◌||◌, not, List, [], ◌∷◌, ℕ, ◌+◌, ◌-◌, min, eqb, ltb, None, Some}
 use Rattle.codes.specs.declared.Refusal.TheVariants.{NoRoom, NotFound, ChannelClosed, JobOpen, WrongLength}
 use Rattle.sar_cut.specs.declared.Plan.{Plan}
 use Rattle.sar_cut.specs.declared.Plan.TheVariants as Plan
@@ -9,7 +9,6 @@ use Rattle.sar_cut.specs.Cutting.{frames_length, plan_send}
 use Rattle.channel.specs.Limits.{frame_head}
 use Rattle.channel.specs.declared.Answer.TheVariants.{Done, Frames, Portion}
 use Rattle.channel.specs.declared.ChannelState.TheVariants.{Disconnecting}
-use Rattle.channel.specs.declared.Given.TheVariants.{Nothing, Is}
 use Rattle.channel.specs.declared.OpenJob.{OpenJob}
 use Rattle.channel.specs.declared.Slot.{Slot}
 use Rattle.channel.specs.declared.Table.{Table}
@@ -61,7 +60,7 @@ start_on t s l size =
     else start_planned t s x l size (plan_send l x.peer.mtu x.peer.mps x.peer.credits (frames_length l x.peer.mps))
 
 unfoldable pub start_job : Table → (slot l size : ℕ) → Outcome
-start_job t s l size = gate t Nothing Nothing Nothing (Is s) (start_on t s l size)
+start_job t s l size = gate t None None None (Some s) (start_on t s l size)
 
 -- ---- portion: "A portion call stops where a frame fills, and reports that and the octets taken"
 
@@ -117,7 +116,7 @@ portion_on t s count size =
     else portioned t s x count
 
 unfoldable pub give_portion : Table → (slot count size : ℕ) → Outcome
-give_portion t s count size = gate t Nothing Nothing Nothing (Is s) (portion_on t s count size)
+give_portion t s count size = gate t None None None (Some s) (portion_on t s count size)
 
 -- ---- cancel: "Cancelling before the first frame is given out returns the credits; later it turns Connected into Disconnecting"
 
@@ -133,4 +132,4 @@ cancel_on t s =
     else leaving t s x (Disconnecting false) Done
 
 unfoldable pub cancel_job : Table → (room slot : ℕ) → Outcome
-cancel_job t room s = gate t (Is room) Nothing Nothing (Is s) (cancel_on t s)
+cancel_job t room s = gate t (Some room) None None (Some s) (cancel_on t s)

@@ -1,6 +1,6 @@
 -- One signal PDU: document 01, 'Signals'. Every header is checked, then the first signal is handled; the part after it is `rest_of`
 -- (crate signal_headers), which the next call is given, until nothing is left (Run.antt, `signal_calls`). Core Vol 3 Part A, 4.
-use Rattle.std.specs.Prelude.{Bool, false, ◌&&◌, not, List, [], ◌∷◌, ℕ, ◌+◌, eqb, leb, ltb, length, get_or}
+use Rattle.std.specs.Prelude.{Bool, false, ◌&&◌, not, List, [], ◌∷◌, ℕ, ◌+◌, eqb, leb, ltb, length, get_or, None, Option, Some}
 use Rattle.codes.specs.declared.LeCreditConnResultCode.TheVariants as Result
 use Rattle.codes.specs.Codes.{result_number}
 use Rattle.codes.specs.declared.Refusal.TheVariants.{NotFound, InvalidValue, Decode, NotSupported, ConnectError}
@@ -15,19 +15,23 @@ use Rattle.signal_forms.specs.declared.Signal.TheVariants as Signal
 use Rattle.channel.specs.Limits.{credits_most}
 use Rattle.channel.specs.declared.Answer.TheVariants.{Done, Refused, Event}
 use Rattle.channel.specs.declared.ChannelState.TheVariants.{PeerConnecting, Connected, ConnectFailed, PeerDisconnecting, Disconnecting}
-use Rattle.channel.specs.declared.Given.TheVariants.{Nothing, Is}
 use Rattle.channel.specs.declared.Peer.{Peer}
 use Rattle.channel.specs.declared.Slot.{Slot}
 use Rattle.channel.specs.declared.Table.{Table}
-use Rattle.definition.specs.Readers.{CommandRejectResRead, DisconnectionReqRead, DisconnectionResRead, ConnParamUpdateReqRead, ConnParamUpdateResRead, LeCreditConnReqRead, LeCreditConnResRead, LeCreditFlowIndRead}
-use Rattle.definition.specs.Readers.{Body, bad, read, reject_body, disconnection_req_body, disconnection_res_body, parameters_body, parameter_response_body, conn_req_body, conn_res_body, credits_body}
-use Rattle.definition.specs.Readers.{command_reject_res, disconnection_req, disconnection_res, conn_param_update_req, conn_param_update_res, le_credit_conn_req, le_credit_conn_res, le_credit_flow_ind}
+use Rattle.signal_bodies.specs.Bodies.{command_reject_res, disconnection_req, disconnection_res, conn_param_update_req, conn_param_update_res}
+use Rattle.signal_bodies.specs.LeCreditBodies.{le_credit_conn_req, le_credit_conn_res, le_credit_flow_ind}
 use Rattle.definition.specs.Mem.{Fill, given}
 use Rattle.definition.specs.States.{is_disconnecting}
 use Rattle.definition.specs.Slots.{in_state, with_peer, with_peer_credits}
 use Rattle.definition.specs.Table.{when◌then◌else◌, slot_at, found, fresh, is_free, of_link, attempt_of, attempt_by, connected_to, uses_peer, below_least, is_cid, slot_of, is_registered}
 use Rattle.definition.specs.Outcome.{Outcome, still, change, sweep, refuse, done, freeing, leaving, gate}
 use Rattle.definition.specs.Pending.{refused_response}
+use Rattle.signal_forms.specs.declared.CommandRejectRes.{CommandRejectRes}
+use Rattle.signal_forms.specs.declared.ConnParamUpdateReq.{ConnParamUpdateReq}
+use Rattle.signal_forms.specs.declared.ConnParamUpdateRes.{ConnParamUpdateRes}
+use Rattle.signal_forms.specs.declared.DisconnectionReq.{DisconnectionReq}
+use Rattle.signal_forms.specs.declared.DisconnectionRes.{DisconnectionRes}
+use Rattle.signal_forms.specs.declared.LeCreditFlowInd.{LeCreditFlowInd}
 
 -- ---- replies
 
@@ -39,10 +43,10 @@ reject_reply id reason = given (encode_of id (Signal.CommandRejectRes (record { 
 abbrev pub bad_body : Table → (id : ℕ) → Outcome
 bad_body t id = still t (Refused Decode) (reject_reply id 0)
 
--- Each rule below is for a body that was read.
-abbrev pub on_body : {A : Type 0} → Table → (id : ℕ) → Body A → (A → Outcome) → Outcome
-on_body t id bad rule = bad_body t id
-on_body t id (read x) rule = rule x
+-- Each rule below is for a body that was read (crate signal_bodies).
+abbrev pub on_body : {A : Type 0} → Table → (id : ℕ) → Option A → (A → Outcome) → Outcome
+on_body t id None rule = bad_body t id
+on_body t id (Some x) rule = rule x
 
 -- ---- 0x14 (4.22): "SPSM not registered → result 2; not listening → 4; peer CID used on this link by a slot not Disconnected → 10 ..;
 -- no free slot → 4. Else the lowest free slot becomes PeerConnecting. All of these answer 0." "A connect request below either [least] gets result 0x000B ..
@@ -69,9 +73,9 @@ pending link id req =
       tallies = (fresh 0).tallies;
     }
 
-unfoldable pub on_conn_req : Table → (link : ℕ) (listening : Bool) (id : ℕ) → LeCreditConnReqRead → Outcome
+unfoldable pub on_conn_req : Table → (link : ℕ) (listening : Bool) (id : ℕ) → Option LeCreditConnReq → Outcome
 on_conn_req t link listening id b =
-    on_body t id (conn_req_body b) λ req.
+    on_body t id b λ req.
     let s = found is_free t in
     when not (is_registered t req.spsm) then still t Done (refused_response id Result.SpsmNotSupported)
     else when not listening then still t Done (refused_response id Result.NoResources)
@@ -96,9 +100,9 @@ answered t s res =
     else when below_least (responder res) then change t s (in_state (Disconnecting false) y) [] (Refused InvalidValue) []
     else change t s (in_state Connected y) [] Done []
 
-unfoldable pub on_conn_res : Table → (link id : ℕ) → LeCreditConnResRead → Outcome
+unfoldable pub on_conn_res : Table → (link id : ℕ) → Option LeCreditConnRes → Outcome
 on_conn_res t link id b =
-    on_body t id (conn_res_body b) λ res.
+    on_body t id b λ res.
     let s = found (attempt_by link id) t in
     when leb t.n s then sweep t (attempt_of link) (Refused NotFound)
     else answered t s res
@@ -106,9 +110,9 @@ on_conn_res t link id b =
 -- ---- 0x16 (4.24): "first Connected slot of this link with that peer CID. A sum above 65,535: Disconnecting, credits kept." "0x16's sum counts
 -- credits set aside" (document 02).
 
-unfoldable pub on_credits : Table → (link id : ℕ) → LeCreditFlowIndRead → Outcome
+unfoldable pub on_credits : Table → (link id : ℕ) → Option LeCreditFlowInd → Outcome
 on_credits t link id b =
-    on_body t id (credits_body b) λ ind.
+    on_body t id b λ ind.
     let s = found (connected_to link ind.cid) t in
     let x = slot_at t s in
     when leb t.n s then refuse t NotFound
@@ -117,9 +121,9 @@ on_credits t link id b =
 
 -- ---- 0x06 (4.6): "slot with that CID, this link, not Disconnected → PeerDisconnecting; else reject reason 2"
 
-unfoldable pub on_disconnection_req : Table → (link id : ℕ) → DisconnectionReqRead → Outcome
+unfoldable pub on_disconnection_req : Table → (link id : ℕ) → Option DisconnectionReq → Outcome
 on_disconnection_req t link id b =
-    on_body t id (disconnection_req_body b) λ req.
+    on_body t id b λ req.
     let s = slot_of req.dcid in
     when not (is_cid t req.dcid) then still t Done (reject_reply id 2)
     else when not (of_link link (slot_at t s)) then still t Done (reject_reply id 2)
@@ -127,9 +131,9 @@ on_disconnection_req t link id b =
 
 -- ---- 0x07 (4.7): "SCID names a Disconnecting slot of this link: freed; else nothing."
 
-unfoldable pub on_disconnection_res : Table → (link id : ℕ) → DisconnectionResRead → Outcome
+unfoldable pub on_disconnection_res : Table → (link id : ℕ) → Option DisconnectionRes → Outcome
 on_disconnection_res t link id b =
-    on_body t id (disconnection_res_body b) λ res.
+    on_body t id b λ res.
     let s = slot_of res.scid in
     when not (is_cid t res.scid) then done t
     else when not (is_disconnecting (slot_at t s).state && eqb (slot_at t s).link link) then done t
@@ -137,9 +141,9 @@ on_disconnection_res t link id b =
 
 -- ---- 0x12 (4.20): "not Central → reject, answer 0, before the body is read. .. Invalid → response 1; valid → an event, no reply."
 
-unfoldable pub on_parameters : Table → (id : ℕ) → ConnParamUpdateReqRead → Outcome
+unfoldable pub on_parameters : Table → (id : ℕ) → Option ConnParamUpdateReq → Outcome
 on_parameters t id b =
-    on_body t id (parameters_body b) λ req.
+    on_body t id b λ req.
     when parameters_valid req then still t (Event req.min req.max req.latency req.timeout) []
     else still t Done (given (encode_of id (Signal.ConnParamUpdateRes (record { result = 1 }))) ∷ [])
 
@@ -149,11 +153,11 @@ on_update t central id body = when central then on_parameters t id (conn_param_u
 
 -- ---- "0x01 and 0x13: read, no reply, answer 0." (4.1, 4.21)
 
-unfoldable pub on_reject : Table → (id : ℕ) → CommandRejectResRead → Outcome
-on_reject t id b = on_body t id (reject_body b) λ res. done t
+unfoldable pub on_reject : Table → (id : ℕ) → Option CommandRejectRes → Outcome
+on_reject t id b = on_body t id b λ res. done t
 
-unfoldable pub on_parameter_response : Table → (id : ℕ) → ConnParamUpdateResRead → Outcome
-on_parameter_response t id b = on_body t id (parameter_response_body b) λ res. done t
+unfoldable pub on_parameter_response : Table → (id : ℕ) → Option ConnParamUpdateRes → Outcome
+on_parameter_response t id b = on_body t id b λ res. done t
 
 -- ---- "A match on the code number 0x01, 0x06, 0x07, 0x12 to 0x16, and all others, each to its own handler."
 
@@ -180,4 +184,4 @@ checked t link listening central pdu Good =
 
 unfoldable pub signalled : Table → (room signal link : ℕ) (listening central : Bool) (pdu : List ℕ) → Outcome
 signalled t room signal link listening central pdu =
-    gate t (Is room) (Is signal) (Is link) Nothing (checked t link listening central pdu (headers_of pdu))
+    gate t (Some room) (Some signal) (Some link) None (checked t link listening central pdu (headers_of pdu))

@@ -1,13 +1,12 @@
 -- A worked run, and worked lines in which every test of every call decides: drop a test, or swap it with the next, and a line breaks. Two
 -- slots, two links whose peers both use CID 0x40, D 2. Each line stands by itself (Line.antt) and is computed; its note says which test
 -- decides ("a before b": both hold). At the end, test by test, the lines that break, and what no line can tell.
-use Rattle.std.specs.Prelude.{◌≡◌, Bool, true, false, List, [], ◌∷◌, ◌++◌, map, ℕ, replicate}
+use Rattle.std.specs.Prelude.{◌≡◌, Bool, true, false, List, [], ◌∷◌, ◌++◌, map, ℕ, replicate, None, Some}
 use Rattle.lists.specs.Bits.{count}
 use Rattle.lists.specs.Every as Each
 use Rattle.codes.specs.Codes.{result_of}
 use Rattle.codes.specs.declared.LeCreditConnResultCode.TheVariants.{Success, NoResources, ScidAlreadyAllocated}
 use Rattle.codes.specs.declared.Refusal.TheVariants.{ConnectError}
-use Rattle.codes.specs.declared.ResultRead.TheVariants.{Known, Unknown}
 use Rattle.credit.specs.declared.CreditFlowPolicy.TheVariants.{Every}
 use Rattle.credit.specs.declared.CreditFlowControl.{CreditFlowControl}
 use Rattle.sar_join.specs.declared.Assembly.{Assembly}
@@ -16,7 +15,6 @@ use Rattle.channel.specs.declared.Answer.TheVariants.{Done, Refused, At, Link, O
 use Rattle.channel.specs.declared.ChannelState.{ChannelState}
 use Rattle.channel.specs.declared.ChannelState.TheVariants.{Disconnected, Connecting, PeerConnecting, Connected, ConnectFailed, PeerDisconnecting, Disconnecting}
 use Rattle.channel.specs.declared.L2capChannelConfig.{L2capChannelConfig}
-use Rattle.channel.specs.declared.Setting.TheVariants as Setting
 use Rattle.channel.specs.declared.Queue.{Queue}
 use Rattle.channel.specs.declared.Slot.{Slot}
 use Rattle.channel.specs.declared.Table.{Table}
@@ -41,7 +39,7 @@ abbrev pub says : (link : ℕ) → List ℕ → Call
 says link pdu = now (signals link true true pdu)
 
 abbrev pub three-credits : L2capChannelConfig
-three-credits = record { mtu = Setting.Default; mps = Setting.Default; policy = Every 1; credits = Setting.Is 3 }
+three-credits = record { mtu = None; mps = None; policy = Every 1; credits = Some 3 }
 
 abbrev pub wide : (id spsm scid : ℕ) → List ℕ
 wide id spsm scid = 0x14 ∷ id ∷ 10 ∷ 0 ∷ spsm ∷ 0 ∷ scid ∷ 0 ∷ 64 ∷ 0 ∷ 23 ∷ 0 ∷ 3 ∷ 0 ∷ []
@@ -109,12 +107,12 @@ pub record Pending_lines : Type 0 where
       & writes (14 ∷ 0 ∷ 5 ∷ 0 ∷ 0x15 ∷ 7 ∷ 10 ∷ 0 ∷ 0x41 ∷ 0 ∷ 23 ∷ 0 ∷ 25 ∷ 0 ∷ 7 ∷ 0 ∷ 0 ∷ 0 ∷ [])
       ∷ [])
   pub reject-one : Hold (
-      two (free 1) (free 0) ⊢ ask (rejects 0 (Known Success)) ⇒ no 8  -- state
-      ∷ two (ours 1 7 0) (free 0) ⊢ ask (rejects 0 (Known Success)) ⇒ no 8  -- state before hold
-      ∷ two (asked 1 7 0) (free 0) ⊢ ask (rejects 0 (Known Success)) ⇒ no 22  -- hold 0
-      ∷ two (asked 1 7 2) (free 0) ⊢ ask (rejects 0 (Known ScidAlreadyAllocated)) ⇒ yes (Link 1) & slots (free 1) (free 0) & wiped0 & writes (refusal 7 10)
-      ∷ two (asked 1 7 1) (free 0) ⊢ ask (rejects 0 Unknown) ⇒ no 15  -- no code
-      ∷ two (free 0) (free 0) ⊢ ask (rejects 0 Unknown) ⇒ no 15  -- no code, before state and hold
+      two (free 1) (free 0) ⊢ ask (rejects 0 (Some Success)) ⇒ no 8  -- state
+      ∷ two (ours 1 7 0) (free 0) ⊢ ask (rejects 0 (Some Success)) ⇒ no 8  -- state before hold
+      ∷ two (asked 1 7 0) (free 0) ⊢ ask (rejects 0 (Some Success)) ⇒ no 22  -- hold 0
+      ∷ two (asked 1 7 2) (free 0) ⊢ ask (rejects 0 (Some ScidAlreadyAllocated)) ⇒ yes (Link 1) & slots (free 1) (free 0) & wiped0 & writes (refusal 7 10)
+      ∷ two (asked 1 7 1) (free 0) ⊢ ask (rejects 0 None) ⇒ no 15  -- no code
+      ∷ two (free 0) (free 0) ⊢ ask (rejects 0 None) ⇒ no 15  -- no code, before state and hold
       ∷ [])
   -- "Result codes: 0, 2 and 4 to 11": of 0 to 12, which are codes, on a slot that is no pending
   pub codes : map (λ n. answer_number (outcome (start (two (free 0) (free 0))) (ask (rejects 0 (result_of n)))).answer) (0 ∷ 1 ∷ 2 ∷ 3 ∷ 4 ∷ 5 ∷ 6 ∷ 7 ∷ 8 ∷ 9 ∷ 10 ∷ 11 ∷ 12 ∷ [])
@@ -585,7 +583,7 @@ pub record State_lines : Type 0 where
   --                                               Disconnected, Connecting, PeerConnecting, Connected, ConnectFailed, PeerDisconnecting, Disconnecting (new, announced)
   pub next-pending : in_each 1 (ask (pends 1 true)) ≡ 0 ∷ 0 ∷ 22 ∷ 0 ∷ 0 ∷ 0 ∷ 0 ∷ 0 ∷ []
   pub accept : in_each 1 (ask (accepts 0 usual)) ≡ 8 ∷ 8 ∷ 0 ∷ 8 ∷ 8 ∷ 8 ∷ 8 ∷ 8 ∷ []
-  pub reject-one : in_each 1 (ask (rejects 0 (Known Success))) ≡ 8 ∷ 8 ∷ 0 ∷ 8 ∷ 8 ∷ 8 ∷ 8 ∷ 8 ∷ []
+  pub reject-one : in_each 1 (ask (rejects 0 (Some Success))) ≡ 8 ∷ 8 ∷ 0 ∷ 8 ∷ 8 ∷ 8 ∷ 8 ∷ 8 ∷ []
   pub drop-pending : in_each 0 (ask (drops 0)) ≡ 22 ∷ 22 ∷ 22 ∷ 0 ∷ 22 ∷ 22 ∷ 22 ∷ 22 ∷ []
   pub opened-query : in_each 1 (ask (opens 0 1 true)) ≡ 18 ∷ 0 ∷ 0 ∷ 22 ∷ 17 ∷ 18 ∷ 18 ∷ 18 ∷ []
   pub give_up_lem : in_each 0 (ask (gives 0)) ≡ 8 ∷ 0 ∷ 8 ∷ 0 ∷ 0 ∷ 8 ∷ 8 ∷ 8 ∷ []
@@ -649,8 +647,8 @@ pub record Gate_lines : Type 0 where
   pub next-pending : ladder (λ l s. ask (pends l true)) ≡ 1 ∷ 4 ∷ 4 ∷ 4 ∷ 0 ∷ 0 ∷ []
   pub reject_all : ladder (λ l s. ask (rejects_all l)) ≡ 1 ∷ 2 ∷ 3 ∷ 4 ∷ 0 ∷ 0 ∷ []
   pub accept : ladder (λ l s. ask (accepts s usual)) ≡ 1 ∷ 3 ∷ 3 ∷ 6 ∷ 6 ∷ 8 ∷ []
-  pub reject-one : ladder (λ l s. ask (rejects s (Known Success))) ≡ 1 ∷ 2 ∷ 3 ∷ 6 ∷ 6 ∷ 8 ∷ []
-  pub reject_no_code : ladder (λ l s. ask (rejects s Unknown)) ≡ 1 ∷ 2 ∷ 3 ∷ 6 ∷ 6 ∷ 15 ∷ []
+  pub reject-one : ladder (λ l s. ask (rejects s (Some Success))) ≡ 1 ∷ 2 ∷ 3 ∷ 6 ∷ 6 ∷ 8 ∷ []
+  pub reject_no_code : ladder (λ l s. ask (rejects s None)) ≡ 1 ∷ 2 ∷ 3 ∷ 6 ∷ 6 ∷ 15 ∷ []
   pub drop-pending : ladder (λ l s. ask (drops s)) ≡ 1 ∷ 2 ∷ 6 ∷ 6 ∷ 6 ∷ 22 ∷ []
   pub creating : ladder (λ l s. ask (creates l 0x81 (sized 24 26))) ≡ 1 ∷ 3 ∷ 3 ∷ 4 ∷ 12 ∷ 12 ∷ []
   pub opened-query : ladder (λ l s. ask (opens s l true)) ≡ 1 ∷ 2 ∷ 4 ∷ 4 ∷ 6 ∷ 18 ∷ []

@@ -1,6 +1,6 @@
 -- What a call from another language leaves: its number, the table's octets, the answer's octets, and the lent buffers. It is the end of the
 -- call (Ending.antt of `definition`), lifted through the table's layout and the answer's.
-use Rattle.std.specs.Prelude.{◌≡◌, Bool, not, List, [], ℕ, eqb, ltb, length}
+use Rattle.std.specs.Prelude.{◌≡◌, Bool, not, List, [], ℕ, eqb, ltb, length, Option, None, Some}
 use Rattle.std.proofs.Common.{sym, ap, ◌∙◌}
 use Rattle.std.proofs.lemmas.List.Edits.{sets}
 use Rattle.lists.specs.Choose.{choose}
@@ -8,7 +8,6 @@ use Rattle.credit.specs.declared.CreditFlowPolicy.{CreditFlowPolicy}
 use Rattle.credit.specs.declared.CreditFlowPolicy.TheVariants.{Every, MinThreshold}
 use Rattle.channel.specs.declared.L2capChannelConfig.{L2capChannelConfig}
 use Rattle.channel.specs.declared.Served.{Served}
-use Rattle.channel.specs.declared.Setting.{Setting}
 use Rattle.channel.specs.declared.Table.{Table}
 use Rattle.definition.specs.Table.{when◌then◌else◌}
 use Rattle.definition.specs.Ending.{End, end}
@@ -103,8 +102,8 @@ abbrev pub flag : ℕ → Bool
 flag n = not (eqb n 0)
 
 -- a setting above 65,535 is the default
-unfoldable pub setting_of : ℕ → Setting
-setting_of n = when ltb 65535 n then Setting.Default else Setting.Is n
+unfoldable pub setting_of : ℕ → Option ℕ
+setting_of n = when ltb 65535 n then None else Some n
 
 -- kind 0 is Every, another MinThreshold
 unfoldable pub policy_by : (kind value : ℕ) → CreditFlowPolicy

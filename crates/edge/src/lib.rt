@@ -8,7 +8,7 @@ ghost use Rattle.definition.specs.Ending.{end};
 ghost use Rattle.edge_layout.specs.Layout.{written};
 ghost use Rattle.edge.specs.Edge.{edge, lifted, setting_of, policy_by, config_of};
 
-use channel::{L2capChannelConfig, Served, Setting, Table};
+use channel::{L2capChannelConfig, Served, Table};
 use credit::CreditFlowPolicy;
 
 // Writes the table back where its octets were a table's.
@@ -40,13 +40,13 @@ pub fn slots_if(fits: bool, n: u16) -> u16
 }
 
 // A setting above 65,535 is the default.
-fn setting(n: u32) -> Setting
+fn setting(n: u32) -> Option<u16>
     ensures { result ≡ setting_of n }
 {
     if 65535 < n {
-        return Setting::Default;
+        return None;
     }
-    Setting::Is(n as u16)
+    Some(n as u16)
 }
 
 // Kind 0 is Every, another MinThreshold.

@@ -16,7 +16,7 @@ use channel::{Answer, HANDLE_MOST, SIGNAL_MOST, Slot};
 use codes::Refusal;
 use edge_layout::cells::{number, octet};
 use edge_layout::{KIND, LINK, PEER_CID};
-use signal_bodies::le_credit::{LeCreditFlowIndRead, read_le_credit_flow_ind};
+use signal_bodies::le_credit::read_le_credit_flow_ind;
 use signal_forms::LeCreditFlowInd;
 use signal_headers::Checked;
 
@@ -27,16 +27,16 @@ const CREDITS: u8 = 0x16;
 const CONNECTED: u8 = 3;
 
 // The credits that the PDU's first signal gives. The code is asked before the headers, so that a PDU that begins with another signal has its headers checked once.
-pub fn credits_in(pdu: &[u8]) -> LeCreditFlowIndRead
+pub fn credits_in(pdu: &[u8]) -> Option<LeCreditFlowInd>
     ensures { result ≡ credits_in pdu.now }
 {
     if octets::octet(pdu, 0) != CREDITS {
-        return LeCreditFlowIndRead::Decode;
+        return None;
     }
     match signal_headers::check_headers(pdu) {
         Checked::Good => read_le_credit_flow_ind(signal_headers::body(pdu)),
-        Checked::Cut => LeCreditFlowIndRead::Decode,
-        Checked::Past(_) => LeCreditFlowIndRead::Decode,
+        Checked::Cut => None,
+        Checked::Past(_) => None,
     }
 }
 

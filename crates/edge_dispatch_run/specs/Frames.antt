@@ -1,8 +1,7 @@
 -- What a run of frames leaves on octets: what the frames leave one after the other (`dispatch_edge`), each of them a call of the run (crate edge_run).
-use Rattle.std.specs.Prelude.{List, [], ℕ, ◌+◌, length}
+use Rattle.std.specs.Prelude.{List, [], ℕ, ◌+◌, length, None, Some}
 use Rattle.std.proofs.lemmas.List.Edits.{sets}
 use Rattle.octets.specs.Octets.{u16_at, part}
-use Rattle.channel.specs.declared.Given.TheVariants.{Nothing, Is}
 use Rattle.definition.specs.Outcome.{verdict}
 use Rattle.edge_layout.specs.Layout.{read}
 use Rattle.edge.specs.Edge.{Edge}
@@ -38,4 +37,4 @@ left_by e table room answers = ended e.stop e.count e.used (record { table = tab
 -- A run of frames.
 abbrev pub dispatch_run_edge : (table answer room frames answers : List ℕ) → RunEdge
 dispatch_run_edge table answer room frames answers =
-    told answer (begun (verdict (read table).table (Is (length room)) Nothing Nothing Nothing) (lent_by table room answers) (frames_run table room frames answers))
+    told answer (begun (verdict (read table).table (Some (length room)) None None None) (lent_by table room answers) (frames_run table room frames answers))

@@ -1,18 +1,14 @@
 -- Octets that spell no table are read as a table of no slots (Layout.antt of `edge_layout`). Row 1 of document 01 stands first in every call: a table that
 -- is not well formed is refused by 1, whatever is asked and whatever is lent, and nothing changes. So an entry on octets that spell no table
 -- returns 1, tells that refusal, and leaves the table's octets, the room and the buffers as they were.
-use Rattle.std.specs.Prelude.{◌≡◌, refl, Bool, true, false, not, List, ◌∷◌, ℕ, length, replicate}
+use Rattle.std.specs.Prelude.{◌≡◌, refl, Bool, true, false, not, List, ◌∷◌, ℕ, length, replicate, Err, None, Option, Result, Some}
 use Rattle.std.proofs.Common.{sym, ap, ◌∙◌}
 use Rattle.std.proofs.lemmas.Bool.{false≢true}
 use Rattle.std.proofs.lemmas.List.Edits.{sets}
 use Rattle.lists.specs.Choose.{choose, choose_true}
 use Rattle.codes.specs.Codes.{result_in}
 use Rattle.codes.specs.declared.Refusal.TheVariants.{BadTable}
-use Rattle.codes.specs.declared.ResultRead.TheVariants.{Known, Unknown}
 use Rattle.channel.specs.declared.Answer.TheVariants.{Refused}
-use Rattle.channel.specs.declared.Given.{Given}
-use Rattle.channel.specs.declared.Verdict.{Verdict}
-use Rattle.channel.specs.declared.Verdict.TheVariants.{Stop}
 use Rattle.channel.specs.declared.Table.{Table}
 use Rattle.definition.specs.Table.{well_formed}
 use Rattle.definition.specs.Outcome.{Outcome, refuse, verdict, passed, gate}
@@ -30,15 +26,16 @@ use Rattle.edge_layout.specs.declared.Decoded.{Decoded}
 use Rattle.edge_layout.specs.Layout.{read}
 use Rattle.edge_answer.specs.Answers.{answer_octets}
 use Rattle.edge.specs.Edge.{Edge, edge, lifted, on_table}
+use Rattle.codes.specs.declared.Refusal.{Refusal}
 
 -- ---- the gate is shut
 
-pub stopped : (t : Table) (room signal link slot : Given) → well_formed t ≡ false → verdict t room signal link slot ≡ Stop BadTable
+pub stopped : (t : Table) (room signal link slot : Option ℕ) → well_formed t ≡ false → verdict t room signal link slot ≡ Err BadTable
 unfolding verdict
 stopped t room signal link slot bad = choose_true (not (well_formed t)) _ _ (ap not bad)
 
-pub shut : (t : Table) (room signal link slot : Given) (o : Outcome) → well_formed t ≡ false → gate t room signal link slot o ≡ refuse t BadTable
-shut t room signal link slot o bad = ap (λ (v : Verdict). passed t v o) (stopped t room signal link slot bad)
+pub shut : (t : Table) (room signal link slot : Option ℕ) (o : Outcome) → well_formed t ≡ false → gate t room signal link slot o ≡ refuse t BadTable
+shut t room signal link slot o bad = ap (λ (v : Result (Unit {0}) Refusal). passed t v o) (stopped t room signal link slot bad)
 
 -- ---- every call, for every argument and whatever is lent
 
@@ -82,8 +79,8 @@ module _ (t : Table) (bad : well_formed t ≡ false) where
   serve_refuses (pends link up) is room out job = shut t _ _ _ _ _ bad
   serve_refuses (rejects_all link) is room out job = shut t _ _ _ _ _ bad
   serve_refuses (accepts s c) is room out job = shut t _ _ _ _ _ bad
-  serve_refuses (rejects s (Known result)) is room out job = shut t _ _ _ _ _ bad
-  serve_refuses (rejects s Unknown) is room out job = shut t _ _ _ _ _ bad
+  serve_refuses (rejects s (Some result)) is room out job = shut t _ _ _ _ _ bad
+  serve_refuses (rejects s None) is room out job = shut t _ _ _ _ _ bad
   serve_refuses (drops s) is room out job = shut t _ _ _ _ _ bad
   serve_refuses (creates link spsm c) is room out job = shut t _ _ _ _ _ bad
   serve_refuses (opens s link up) is room out job = shut t _ _ _ _ _ bad

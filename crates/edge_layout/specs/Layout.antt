@@ -3,14 +3,12 @@
 --   lines 1, 2    a bit for each registered SPSM: SPSM s is bit s % 8 of octet s / 8
 --   lines 3..81   a column each: one octet of every slot's row, slot 0 first
 -- A number of 16 bits takes two columns, one of 64 bits eight, the lower octets first. A table has ONE spelling; other octets are refusal 1.
-use Rattle.std.specs.Prelude.{Bool, true, false, ◌&&◌, List, [], ◌∷◌, ◌++◌, map, ℕ, zero, suc, ◌+◌, ◌*◌, ◌/◌, ◌%◌, eqb, ltb, length, get_or, replicate}
+use Rattle.std.specs.Prelude.{Bool, true, false, ◌&&◌, List, [], ◌∷◌, ◌++◌, map, ℕ, zero, suc, ◌+◌, ◌*◌, ◌/◌, ◌%◌, eqb, ltb, length, get_or, replicate, None, Option, Some}
 use Rattle.std.proofs.lemmas.List.Edits.{sets}
 use Rattle.lists.specs.Bits.{bit}
 use Rattle.octets.specs.Octets.{part, u16_at, le16}
 use Rattle.octets.specs.Limbs.{of_limbs, le64}
 use Rattle.codes.specs.Codes.{result_number, result_of}
-use Rattle.codes.specs.declared.ResultRead.{ResultRead}
-use Rattle.codes.specs.declared.ResultRead.TheVariants.{Known, Unknown}
 use Rattle.credit.specs.declared.CreditFlowControl.{CreditFlowControl}
 use Rattle.credit.specs.declared.CreditFlowPolicy.{CreditFlowPolicy}
 use Rattle.credit.specs.declared.CreditFlowPolicy.TheVariants.{Every, MinThreshold}
@@ -28,6 +26,7 @@ use Rattle.channel.specs.declared.Tally.{Tally}
 use Rattle.definition.specs.Table.{when◌then◌else◌}
 use Rattle.definition.specs.Asking.{no_slots}
 use Rattle.edge_layout.specs.declared.Decoded.{Decoded}
+use Rattle.codes.specs.declared.LeCreditConnResultCode.{LeCreditConnResultCode}
 
 -- ---- sizes
 
@@ -136,9 +135,9 @@ spell t = head t ++ columns t.slots
 
 -- ---- what octets say, whatever they are
 
-abbrev pub failed_by : ResultRead → ChannelState
-failed_by (Known result) = ConnectFailed result
-failed_by Unknown = Disconnected
+abbrev pub failed_by : Option LeCreditConnResultCode → ChannelState
+failed_by (Some result) = ConnectFailed result
+failed_by None = Disconnected
 
 unfoldable pub state_of : (kind value : ℕ) → ChannelState
 state_of kind value =

@@ -10,7 +10,7 @@ ghost use Rattle.edge_layout.specs.Layout.{state_kind, state_value, policy_kind,
 ghost use Rattle.edge_layout.specs.Spelled.{state_spelled};
 
 use channel::{ChannelState, DEPTH, SLOTS, Table};
-use codes::ResultRead;
+use codes::LeCreditConnResultCode;
 use credit::CreditFlowPolicy;
 
 // What octets were read as: the table, where they are exactly its spelling; else a table of no slots.
@@ -140,12 +140,12 @@ pub fn state_of(kind: u8, value: u8) -> ChannelState
     ChannelState::Disconnected
 }
 
-fn failed_by(r: ResultRead) -> ChannelState
+fn failed_by(r: Option<LeCreditConnResultCode>) -> ChannelState
     ensures { result ≡ failed_by r }
 {
     match r {
-        ResultRead::Known(c) => ChannelState::ConnectFailed(c),
-        ResultRead::Unknown => ChannelState::Disconnected,
+        Some(c) => ChannelState::ConnectFailed(c),
+        None => ChannelState::Disconnected,
     }
 }
 

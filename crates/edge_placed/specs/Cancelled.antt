@@ -1,15 +1,12 @@
 -- A cancel on the table's octets where they stand: one row read, the work on its slot and its part of the room, and the row written.
-use Rattle.std.specs.Prelude.{◌≡◌, true, false, ℕ, leb, length, get_or}
+use Rattle.std.specs.Prelude.{◌≡◌, true, false, ℕ, leb, length, get_or, Err, None, Ok, Result, Some}
 use Rattle.std.proofs.Math.Path.{refl, sym, ap}
 use Rattle.std.proofs.Common.{◌∙◌}
 use mathlib.Core.List.{List, []}
 use Rattle.octets.specs.Octets.{u16_at}
 use Rattle.codes.specs.declared.Refusal.{Refusal}
 use Rattle.channel.specs.declared.Answer.TheVariants.{Refused}
-use Rattle.channel.specs.declared.Given.TheVariants.{Nothing, Is}
 use Rattle.channel.specs.declared.Table.{Table}
-use Rattle.channel.specs.declared.Verdict.{Verdict}
-use Rattle.channel.specs.declared.Verdict.TheVariants.{Pass, Stop}
 use Rattle.channel_answer.specs.Tells.{answer_number}
 use Rattle.definition.specs.Mem.{sizes, parts}
 use Rattle.definition.specs.Table.{place_size, place_of, part_width, slot_at, put_slot}
@@ -40,15 +37,15 @@ module _ (o a room : List ℕ) (slot : ℕ) where
   abbrev t : Table
   t = (read o).table
 
-  abbrev Gate : Verdict → Type 0
-  Gate x = verdict t (Is (length room)) Nothing Nothing (Is slot) ≡ x
+  abbrev Gate : Result (Unit {0}) Refusal → Type 0
+  Gate x = verdict t (Some (length room)) None None (Some slot) ≡ x
 
   -- a cancel that the gate stops leaves the octets
-  pub cancel_stopped : (r : Refusal) → Gate (Stop r) → edge (answer_number (Refused r)) o (answered a (Refused r) 0) room [] [] ≡ cancel_edge o a room slot
+  pub cancel_stopped : (r : Refusal) → Gate (Err r) → edge (answer_number (Refused r)) o (answered a (Refused r) 0) room [] [] ≡ cancel_edge o a room slot
   unfolding cancel_job
-  cancel_stopped r e = stopped o a room [] [] (λ t. []) (λ t. cancel_on t slot) (Is (length room)) Nothing Nothing (Is slot) r e
+  cancel_stopped r e = stopped o a room [] [] (λ t. []) (λ t. cancel_on t slot) (Some (length room)) None None (Some slot) r e
 
-  module _ (v : valid_octets o ≡ true) (p : Gate Pass) (n : leb (get_or o 1 0) slot ≡ false) where
+  module _ (v : valid_octets o ≡ true) (p : Gate (Ok tt)) (n : leb (get_or o 1 0) slot ≡ false) where
     abbrev w : Work
     w = cancel_of (place_of t) (slot_at t slot)
 
@@ -59,7 +56,7 @@ module _ (o a room : List ℕ) (slot : ℕ) where
     ends : end_of t [] room [] [] (cancel_job t (length room) slot) ≡ end (gave w.answer (put_slot t slot w.slot) 0) (parts itself [] (part_width t.d t.m) (only slot w.moves) room) [] []
     unfolding cancel_job
     ends =
-        ap (λ (x : Verdict). end_of t [] room [] [] (passed t x (cancel_on t slot))) p
+        ap (λ (x : Result (Unit {0}) Refusal). end_of t [] room [] [] (passed t x (cancel_on t slot))) p
         ∙ cancel_into t slot [] room [] []
         ∙ sym (works_in t slot w [] room [] [] {r = worked_of w} (ap (λ (k : ℕ). gave w.answer (put_slot t slot w.slot) k) quiet) refl refl
         (rw (cancel_quiet (place_of t) (slot_at t slot)) (sym (written_none [] room []))))

@@ -1,5 +1,5 @@
 -- A credit signal on the table's octets where they stand: the row that is searched for, the work on its slot, and the columns written that it changes.
-use Rattle.std.specs.Prelude.{◌≡◌, refl, Bool, true, false, ℕ, ◌+◌, ◌≤◌, ◌<◌, eqb, leb, ltb, length, get_or, take}
+use Rattle.std.specs.Prelude.{◌≡◌, refl, Bool, true, false, ℕ, ◌+◌, ◌≤◌, ◌<◌, eqb, leb, ltb, length, get_or, take, Err, None, Ok, Option, Result, Some}
 use Rattle.std.proofs.Math.Path.{sym, ap}
 use Rattle.std.proofs.Common.{◌∙◌, arith, length-take, get_or-take, eqb-true, leb-false}
 use mathlib.Core.List.{List, []}
@@ -9,19 +9,13 @@ use Rattle.lists.specs.First.{first, first_passes}
 use Rattle.octets.specs.Octets.{le16, u16_at}
 use Rattle.codes.specs.declared.Refusal.{Refusal}
 use Rattle.codes.specs.declared.Refusal.TheVariants.{NotFound}
-use Rattle.codes.specs.declared.ResultRead.{ResultRead}
-use Rattle.codes.specs.declared.ResultRead.TheVariants.{Known, Unknown}
 use Rattle.codes.specs.Codes.{result_of}
 use Rattle.signal_forms.specs.declared.LeCreditFlowInd.{LeCreditFlowInd}
-use Rattle.signal_bodies.specs.declared.le_credit.LeCreditFlowIndRead.TheVariants as Flow
 use Rattle.channel.specs.Limits.{slots_most, credits_most}
 use Rattle.channel.specs.declared.Answer.TheVariants.{Refused}
 use Rattle.channel.specs.declared.ChannelState.{ChannelState}
-use Rattle.channel.specs.declared.Given.TheVariants.{Nothing, Is}
 use Rattle.channel.specs.declared.Slot.{Slot}
 use Rattle.channel.specs.declared.Table.{Table}
-use Rattle.channel.specs.declared.Verdict.{Verdict}
-use Rattle.channel.specs.declared.Verdict.TheVariants.{Pass, Stop}
 use Rattle.channel_answer.specs.Tells.{answer_number}
 use Rattle.definition.specs.Mem.{sizes, parts}
 use Rattle.definition.specs.Table.{when◌then◌else◌, gap, place_size, place_of, part_width, slot_at, found, is_connected, connected_to, put_slot}
@@ -42,17 +36,18 @@ use Rattle.edge_row.proofs.Framed.{left-written}
 use Rattle.edge_row.specs.Gate.{answered}
 use Rattle.edge_row.proofs.Gate.{stays, changes, stopped, valid_read, valid_slots}
 use Rattle.edge_row.proofs.Room.{row_low}
+use Rattle.codes.specs.declared.LeCreditConnResultCode.{LeCreditConnResultCode}
 
 -- What the call leaves for a PDU that begins with a good credit signal. (Its identifier is of no account: no reply is written.)
 abbrev pub credits_edge : (table answer room signal : List ℕ) (link : ℕ) → LeCreditFlowInd → Edge
 credits_edge table answer room signal link ind =
-    on_table table answer (λ t. end_of t [] room signal [] (gate t (Is (length room)) (Is (length signal)) (Is link) Nothing (on_credits t link 0 (Flow.Is ind))))
+    on_table table answer (λ t. end_of t [] room signal [] (gate t (Some (length room)) (Some (length signal)) (Some link) None (on_credits t link 0 (Some ind))))
 
 -- ---- the row
 
-failed-apart : (r : ResultRead) → is_connected (failed_by r) ≡ false
-failed-apart (Known result) = refl
-failed-apart Unknown = refl
+failed-apart : (r : Option LeCreditConnResultCode) → is_connected (failed_by r) ≡ false
+failed-apart (Some result) = refl
+failed-apart None = refl
 
 -- a Connected slot has kind 3, whatever stands beside it
 module _ (kind value : ℕ) where
@@ -124,17 +119,17 @@ module _ (o a room signal : List ℕ) (link : ℕ) (ind : LeCreditFlowInd) where
   abbrev t : Table
   t = (read o).table
 
-  abbrev Gate : Verdict → Type 0
-  Gate x = verdict t (Is (length room)) (Is (length signal)) (Is link) Nothing ≡ x
+  abbrev Gate : Result (Unit {0}) Refusal → Type 0
+  Gate x = verdict t (Some (length room)) (Some (length signal)) (Some link) None ≡ x
 
   -- a signal that the gate stops leaves the octets
-  pub credits_stopped : (r : Refusal) → Gate (Stop r) → edge (answer_number (Refused r)) o (answered a (Refused r) 0) room signal [] ≡ credits_edge o a room signal link ind
-  credits_stopped r e = stopped o a room signal [] (λ t. []) (λ t. on_credits t link 0 (Flow.Is ind)) (Is (length room)) (Is (length signal)) (Is link) Nothing r e
+  pub credits_stopped : (r : Refusal) → Gate (Err r) → edge (answer_number (Refused r)) o (answered a (Refused r) 0) room signal [] ≡ credits_edge o a room signal link ind
+  credits_stopped r e = stopped o a room signal [] (λ t. []) (λ t. on_credits t link 0 (Some ind)) (Some (length room)) (Some (length signal)) (Some link) None r e
 
-  module _ (v : valid_octets o ≡ true) (p : Gate Pass) where
-    behind : end_of t [] room signal [] (gate t (Is (length room)) (Is (length signal)) (Is link) Nothing (on_credits t link 0 (Flow.Is ind)))
-        ≡ end_of t [] room signal [] (on_credits t link 0 (Flow.Is ind))
-    behind = ap (λ (x : Verdict). end_of t [] room signal [] (passed t x (on_credits t link 0 (Flow.Is ind)))) p
+  module _ (v : valid_octets o ≡ true) (p : Gate (Ok tt)) where
+    behind : end_of t [] room signal [] (gate t (Some (length room)) (Some (length signal)) (Some link) None (on_credits t link 0 (Some ind)))
+        ≡ end_of t [] room signal [] (on_credits t link 0 (Some ind))
+    behind = ap (λ (x : Result (Unit {0}) Refusal). end_of t [] room signal [] (passed t x (on_credits t link 0 (Some ind)))) p
 
     abbrev s : ℕ
     s = row_of o (get_or o 1 0) link ind.cid
@@ -145,7 +140,7 @@ module _ (o a room signal : List ℕ) (link : ℕ) (ind : LeCreditFlowInd) where
     -- REFUSAL 8
     pub refused_8 : leb (get_or o 1 0) s ≡ true → edge (answer_number (Refused NotFound)) o (answered a (Refused NotFound) 0) room signal [] ≡ credits_edge o a room signal link ind
     refused_8 n =
-        stays o a room signal [] (λ t. end_of t [] room signal [] (gate t (Is (length room)) (Is (length signal)) (Is link) Nothing (on_credits t link 0 (Flow.Is ind)))) (Refused NotFound) 0
+        stays o a room signal [] (λ t. end_of t [] room signal [] (gate t (Some (length room)) (Some (length signal)) (Some link) None (on_credits t link 0 (Some ind)))) (Refused NotFound) 0
         (behind ∙ ap (end_of t [] room signal []) (credits_astray t link 0 ind (tested true n)) ∙ end-still t t (Refused NotFound) [] room signal [])
 
     module _ (n : leb (get_or o 1 0) s ≡ false) where
@@ -162,10 +157,10 @@ module _ (o a room signal : List ℕ) (link : ℕ) (ind : LeCreditFlowInd) where
       unfolding sizes
       quiet = ap sizes (sym (credits-quiet (place_of t) (slot_at t s) ind.credits))
 
-      into : on_credits t link 0 (Flow.Is ind) ≡ in_table t s w
+      into : on_credits t link 0 (Some ind) ≡ in_table t s w
       into = rw (row-found o (valid_read o v) link ind.cid) at (credits-into t link 0 ind (tested false n))
 
-      ends : end_of t [] room signal [] (gate t (Is (length room)) (Is (length signal)) (Is link) Nothing (on_credits t link 0 (Flow.Is ind)))
+      ends : end_of t [] room signal [] (gate t (Some (length room)) (Some (length signal)) (Some link) None (on_credits t link 0 (Some ind)))
           ≡ end (gave w.answer (put_slot t s w.slot) 0) (parts itself [] (part_width t.d t.m) (only s w.moves) room) signal []
       ends =
           behind
@@ -182,5 +177,5 @@ module _ (o a room signal : List ℕ) (link : ℕ) (ind : LeCreditFlowInd) where
       credits_placed =
           let ok = valid_read o v in
           rw (← depth_told o ok, ← packet_told o ok, ← slot_read o ok s low)
-          (changes o a (parts itself [] (part_width t.d t.m) (only s w.moves) room) signal [] (λ t. end_of t [] room signal [] (gate t (Is (length room)) (Is (length signal)) (Is link) Nothing (on_credits t link 0 (Flow.Is ind))))
+          (changes o a (parts itself [] (part_width t.d t.m) (only s w.moves) room) signal [] (λ t. end_of t [] room signal [] (gate t (Some (length room)) (Some (length signal)) (Some link) None (on_credits t link 0 (Some ind))))
           w.answer (put_slot t s w.slot) 0 ok ends (sym (credited_written o ok s low (place_of t) ind.credits connected)))

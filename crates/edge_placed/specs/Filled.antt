@@ -1,16 +1,13 @@
 -- A start and a portion on the table's octets where they stand: one row read, the work on its slot and on the job's frame buffer, and what it changes of the row written.
-use Rattle.std.specs.Prelude.{◌≡◌, refl, true, false, ℕ, leb, length, get_or}
+use Rattle.std.specs.Prelude.{◌≡◌, refl, true, false, ℕ, leb, length, get_or, Err, None, Result, Some}
 use Rattle.std.proofs.Common.{sym, ◌∙◌}
 use Rattle.std.proofs.Math.Path.{ap}
 use mathlib.Core.List.{List, []}
 use Rattle.codes.specs.declared.Refusal.{Refusal}
 use Rattle.channel.specs.declared.Answer.TheVariants.{Refused}
-use Rattle.channel.specs.declared.Given.TheVariants.{Nothing, Is}
 use Rattle.channel.specs.declared.OpenJob.{OpenJob}
 use Rattle.channel.specs.declared.Slot.{Slot}
 use Rattle.channel.specs.declared.Table.{Table}
-use Rattle.channel.specs.declared.Verdict.{Verdict}
-use Rattle.channel.specs.declared.Verdict.TheVariants.{Stop}
 use Rattle.channel_answer.specs.Tells.{answer_number}
 use Rattle.definition.specs.Table.{slot_at, put_slot, with_job}
 use Rattle.definition.specs.Outcome.{Outcome, verdict, passed, gate}
@@ -38,11 +35,11 @@ use Rattle.edge_placed.specs.Sent.{slot-within}
 
 module _ (o a jobs buffer : List ℕ) (slot : ℕ) (on : Table → Outcome) where
   abbrev fill_edge : Edge
-  fill_edge = on_table o a (λ t. end_of t jobs [] buffer [] (gate t Nothing Nothing Nothing (Is slot) (on t)))
+  fill_edge = on_table o a (λ t. end_of t jobs [] buffer [] (gate t None None None (Some slot) (on t)))
 
   -- one that the gate stops leaves the octets
-  fill_stopped : (r : Refusal) → verdict (read o).table Nothing Nothing Nothing (Is slot) ≡ Stop r → edge (answer_number (Refused r)) o (answered a (Refused r) 0) [] buffer [] ≡ fill_edge
-  fill_stopped r e = stopped o a [] buffer [] (λ t. jobs) on Nothing Nothing Nothing (Is slot) r e
+  fill_stopped : (r : Refusal) → verdict (read o).table None None None (Some slot) ≡ Err r → edge (answer_number (Refused r)) o (answered a (Refused r) 0) [] buffer [] ≡ fill_edge
+  fill_stopped r e = stopped o a [] buffer [] (λ t. jobs) on None None None (Some slot) r e
 
   -- the work on the slot, put into the table
   fill_placed : (v : valid_octets o ≡ true) → leb (get_or o 1 0) slot ≡ false → (w : Filled) {r : Worked} {buffer' o' : List ℕ}
@@ -51,14 +48,14 @@ module _ (o a jobs buffer : List ℕ) (slot : ℕ) (on : Table → Outcome) wher
       → edge (answer_number r.answer) o' (answered a r.answer r.octets) [] buffer' [] ≡ fill_edge
   fill_placed v n w {r} {buffer'} into worked put =
       let t = (read o).table in
-      let ends : end_of t jobs [] buffer [] (gate t Nothing Nothing Nothing (Is slot) (on t)) ≡ end (gave r.answer (put_slot t slot r.slot) r.octets) [] buffer' [] =
-      ap (λ (x : Verdict). end_of t jobs [] buffer [] (passed t x (on t))) (passes_6 o v slot n) ∙ into ∙ sym (fills_in t slot w jobs buffer refl worked) in
-      changes o a [] buffer' [] (λ t. end_of t jobs [] buffer [] (gate t Nothing Nothing Nothing (Is slot) (on t))) r.answer (put_slot t slot r.slot) r.octets (valid_read o v) ends put
+      let ends : end_of t jobs [] buffer [] (gate t None None None (Some slot) (on t)) ≡ end (gave r.answer (put_slot t slot r.slot) r.octets) [] buffer' [] =
+      ap (λ (x : Result (Unit {0}) Refusal). end_of t jobs [] buffer [] (passed t x (on t))) (passes_6 o v slot n) ∙ into ∙ sym (fills_in t slot w jobs buffer refl worked) in
+      changes o a [] buffer' [] (λ t. end_of t jobs [] buffer [] (gate t None None None (Some slot) (on t))) r.answer (put_slot t slot r.slot) r.octets (valid_read o v) ends put
 
 -- ---- a start
 
 module _ (o a buffer : List ℕ) (slot l : ℕ) where
-  pub start_stopped : (r : Refusal) → verdict (read o).table Nothing Nothing Nothing (Is slot) ≡ Stop r → edge (answer_number (Refused r)) o (answered a (Refused r) 0) [] buffer [] ≡ start_edge o a buffer slot l
+  pub start_stopped : (r : Refusal) → verdict (read o).table None None None (Some slot) ≡ Err r → edge (answer_number (Refused r)) o (answered a (Refused r) 0) [] buffer [] ≡ start_edge o a buffer slot l
   unfolding start_job
   start_stopped r e = fill_stopped o a [] buffer slot (λ t. start_on t slot l (length buffer)) r e
 
@@ -82,7 +79,7 @@ module _ (o a buffer : List ℕ) (slot l : ℕ) where
 -- ---- a portion
 
 module _ (o a buffer : List ℕ) (slot : ℕ) (octets : List ℕ) where
-  pub portion_stopped : (r : Refusal) → verdict (read o).table Nothing Nothing Nothing (Is slot) ≡ Stop r → edge (answer_number (Refused r)) o (answered a (Refused r) 0) [] buffer [] ≡ portion_edge o a buffer slot octets
+  pub portion_stopped : (r : Refusal) → verdict (read o).table None None None (Some slot) ≡ Err r → edge (answer_number (Refused r)) o (answered a (Refused r) 0) [] buffer [] ≡ portion_edge o a buffer slot octets
   unfolding give_portion
   portion_stopped r e = fill_stopped o a octets buffer slot (λ t. portion_on t slot (length octets) (length buffer)) r e
 

@@ -1,6 +1,6 @@
 -- A frame in on the table's octets where they stand: the first refusals told from the octets, one row read, the work on its slot, and the columns written that a
 -- frame can change.
-use Rattle.std.specs.Prelude.{◌≡◌, refl, Bool, true, false, not, ◌&&◌, ℕ, ◌≤◌, ◌<◌, eqb, leb, ltb, length, get_or}
+use Rattle.std.specs.Prelude.{◌≡◌, refl, Bool, true, false, not, ◌&&◌, ℕ, ◌≤◌, ◌<◌, eqb, leb, ltb, length, get_or, Err, None, Ok, Result, Some}
 use Rattle.std.proofs.Math.Path.{sym, ap}
 use Rattle.std.proofs.Common.{◌∙◌}
 use Rattle.std.proofs.lemmas.Bool.{false≢true}
@@ -15,11 +15,8 @@ use Rattle.sar_join.specs.declared.Joined.TheVariants as Joined
 use Rattle.sar_join.specs.Joining.{job_octets}
 use Rattle.channel.specs.Limits.{slots_most, handle_most, cid_base}
 use Rattle.channel.specs.declared.Answer.TheVariants.{Refused}
-use Rattle.channel.specs.declared.Given.TheVariants.{Nothing, Is}
 use Rattle.channel.specs.declared.Slot.{Slot}
 use Rattle.channel.specs.declared.Table.{Table}
-use Rattle.channel.specs.declared.Verdict.{Verdict}
-use Rattle.channel.specs.declared.Verdict.TheVariants.{Pass, Stop}
 use Rattle.channel_answer.specs.Tells.{answer_number}
 use Rattle.definition.specs.Mem.{Fill, sizes, parts}
 use Rattle.definition.specs.Table.{place_size, part_width, room_width, place_of, slot_at, slot_of, is_cid, is_connected, with_account, count_received, put_slot}
@@ -102,21 +99,21 @@ frame_local d place x link p =
 -- ---- what the gate says of a call that is given a room and a link
 
 module _ (o : List ℕ) (v : valid_octets o ≡ true) (long link : ℕ) where
-  abbrev Says : Verdict → Type 0
-  Says x = verdict (read o).table (Is long) Nothing (Is link) Nothing ≡ x
+  abbrev Says : Result (Unit {0}) Refusal → Type 0
+  Says x = verdict (read o).table (Some long) None (Some link) None ≡ x
 
-  pub refused_4 : eqb long (room_width (get_or o 1 0) (get_or o 2 0) (u16_at o 3)) ≡ true → ltb handle_most link ≡ true → Says (Stop BadHandle)
-  refused_4 e f = stops_4 o v (Is long) Nothing (Is link) Nothing (ap not e) refl f
+  pub refused_4 : eqb long (room_width (get_or o 1 0) (get_or o 2 0) (u16_at o 3)) ≡ true → ltb handle_most link ≡ true → Says (Err BadHandle)
+  refused_4 e f = stops_4 o v (Some long) None (Some link) None (ap not e) refl f
 
-  pub passes_4 : eqb long (room_width (get_or o 1 0) (get_or o 2 0) (u16_at o 3)) ≡ true → ltb handle_most link ≡ false → Says Pass
-  passes_4 e f = passes o v (Is long) Nothing (Is link) Nothing (ap not e) refl f refl
+  pub passes_4 : eqb long (room_width (get_or o 1 0) (get_or o 2 0) (u16_at o 3)) ≡ true → ltb handle_most link ≡ false → Says (Ok tt)
+  passes_4 e f = passes o v (Some long) None (Some link) None (ap not e) refl f refl
 
 -- a frame that the gate stops leaves the octets
-pub frame_stopped : (o a room p : List ℕ) (link cid : ℕ) (r : Refusal) → verdict (read o).table (Is (length room)) Nothing (Is link) Nothing ≡ Stop r
+pub frame_stopped : (o a room p : List ℕ) (link cid : ℕ) (r : Refusal) → verdict (read o).table (Some (length room)) None (Some link) None ≡ Err r
     → edge (answer_number (Refused r)) o (answered a (Refused r) 0) room [] [] ≡ dispatch_edge o a room link cid p
 unfolding dispatch
 frame_stopped o a room p link cid r e =
-    stopped o a room [] [] (λ t. jobs t (frame link cid p)) (λ t. admitted t link cid (head_of t cid p) (length (jobs t (frame link cid p)))) (Is (length room)) Nothing (Is link) Nothing r e
+    stopped o a room [] [] (λ t. jobs t (frame link cid p)) (λ t. admitted t link cid (head_of t cid p) (length (jobs t (frame link cid p)))) (Some (length room)) None (Some link) None r e
 
 -- the test of the CID, by the slots in line 0
 pub cid_told : (o : List ℕ) → valid_octets o ≡ true → (cid : ℕ) {n : ℕ} {b : Bool} → n ≡ get_or o 1 0 → b ≡ (leb cid_base cid && ltb (slot_of cid) n) → b ≡ is_cid (read o).table cid
@@ -131,7 +128,7 @@ module _ (o a room p : List ℕ) (link cid : ℕ) (v : valid_octets o ≡ true) 
   behind : end_of t (jobs t (frame link cid p)) room [] [] (frame_in t (length room) link cid p)
       ≡ end_of t (jobs t (frame link cid p)) room [] [] (admitted t link cid (head_of t cid p) (length (jobs t (frame link cid p))))
   unfolding dispatch
-  behind = ap (λ (x : Verdict). end_of t (jobs t (frame link cid p)) room [] [] (passed t x (admitted t link cid (head_of t cid p) (length (jobs t (frame link cid p)))))) (passes_4 o v (length room) link e f)
+  behind = ap (λ (x : Result (Unit {0}) Refusal). end_of t (jobs t (frame link cid p)) room [] [] (passed t x (admitted t link cid (head_of t cid p) (length (jobs t (frame link cid p)))))) (passes_4 o v (length room) link e f)
 
   -- REFUSAL 7
   pub refused_7 : is_cid t cid ≡ false → edge (answer_number (Refused InvalidChannelId)) o (answered a (Refused InvalidChannelId) 0) room [] [] ≡ dispatch_edge o a room link cid p

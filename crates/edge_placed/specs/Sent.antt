@@ -1,16 +1,13 @@
 -- A send on the table's octets where they stand: one row read, the work on its slot, and the peer's credits and what is counted of sends written.
-use Rattle.std.specs.Prelude.{◌≡◌, refl, true, false, ℕ, ◌≤◌, ◌<◌, leb, length, get_or}
+use Rattle.std.specs.Prelude.{◌≡◌, refl, true, false, ℕ, ◌≤◌, ◌<◌, leb, length, get_or, Err, None, Ok, Result, Some}
 use Rattle.std.proofs.Common.{sym, ◌∙◌, arith, leb-false}
 use Rattle.std.proofs.Math.Path.{ap}
 use mathlib.Core.List.{List, []}
 use Rattle.codes.specs.declared.Refusal.{Refusal}
 use Rattle.channel.specs.Limits.{slots_most}
 use Rattle.channel.specs.declared.Answer.TheVariants.{Refused}
-use Rattle.channel.specs.declared.Given.TheVariants.{Nothing, Is}
 use Rattle.channel.specs.declared.Slot.{Slot}
 use Rattle.channel.specs.declared.Table.{Table}
-use Rattle.channel.specs.declared.Verdict.{Verdict}
-use Rattle.channel.specs.declared.Verdict.TheVariants.{Pass, Stop}
 use Rattle.channel_answer.specs.Tells.{answer_number}
 use Rattle.definition.specs.Table.{slot_at, put_slot}
 use Rattle.definition.specs.Outcome.{verdict, passed}
@@ -36,17 +33,17 @@ pub slot-within : (o : List ℕ) (slot : ℕ) → valid_octets o ≡ true → le
 slot-within o slot v n = omega (arith, valid_slots o v, leb-false (get_or o 1 0) slot n)
 
 -- a send that the gate stops leaves the octets
-pub send_stopped : (o a out sdu : List ℕ) (slot : ℕ) (r : Refusal) → verdict (read o).table Nothing Nothing Nothing (Is slot) ≡ Stop r
+pub send_stopped : (o a out sdu : List ℕ) (slot : ℕ) (r : Refusal) → verdict (read o).table None None None (Some slot) ≡ Err r
     → edge (answer_number (Refused r)) o (answered a (Refused r) 0) [] out [] ≡ send_edge o a out slot sdu
 unfolding send
-send_stopped o a out sdu slot r e = stopped o a [] out [] (λ t. sdu) (λ t. sent_on t slot (length sdu) (length out)) Nothing Nothing Nothing (Is slot) r e
+send_stopped o a out sdu slot r e = stopped o a [] out [] (λ t. sdu) (λ t. sent_on t slot (length sdu) (length out)) None None None (Some slot) r e
 
 -- and writes no frame
-pub stopped_octets : (o out sdu : List ℕ) (slot : ℕ) (r : Refusal) → verdict (read o).table Nothing Nothing Nothing (Is slot) ≡ Stop r → 0 ≡ sent_octets o out slot sdu
+pub stopped_octets : (o out sdu : List ℕ) (slot : ℕ) (r : Refusal) → verdict (read o).table None None None (Some slot) ≡ Err r → 0 ≡ sent_octets o out slot sdu
 unfolding send
 stopped_octets o out sdu slot r e =
     let t = (read o).table in
-    sym (ap (λ (x : End). x.served.octets) (ap (λ (v : Verdict). end_of t sdu [] out [] (passed t v (sent_on t slot (length sdu) (length out)))) e ∙ end-still t t (Refused r) sdu [] out []))
+    sym (ap (λ (x : End). x.served.octets) (ap (λ (v : Result (Unit {0}) Refusal). end_of t sdu [] out [] (passed t v (sent_on t slot (length sdu) (length out)))) e ∙ end-still t t (Refused r) sdu [] out []))
 
 -- what the send leaves, with its slot put into the table
 module _ (o a out sdu : List ℕ) (slot : ℕ) (v : valid_octets o ≡ true) (n : leb (get_or o 1 0) slot ≡ false) where
@@ -57,7 +54,7 @@ module _ (o a out sdu : List ℕ) (slot : ℕ) (v : valid_octets o ≡ true) (n 
   unfolding send
   left =
       let t = (read o).table in
-      ap (λ (x : Verdict). end_of t sdu [] out [] (passed t x (sent_on t slot (length sdu) (length out)))) (passes_6 o v slot n)
+      ap (λ (x : Result (Unit {0}) Refusal). end_of t sdu [] out [] (passed t x (sent_on t slot (length sdu) (length out)))) (passes_6 o v slot n)
       ∙ sent-into t slot sdu out
 
   pub sent-table : edge (answer_number l.gave.answer) (written o (put_slot (read o).table slot l.gave.slot)) (answered a l.gave.answer l.gave.octets) [] l.out [] ≡ send_edge o a out slot sdu
@@ -93,11 +90,11 @@ module _ (o a out sdu : List ℕ) (slot : ℕ) (v : valid_octets o ≡ true) (n 
 
 -- ---- how much a send writes, whatever the octets say
 
-sent_octets_lem : (t : Table) (slot : ℕ) (sdu out : List ℕ) (v : Verdict) → (end_of t sdu [] out [] (passed t v (sent_on t slot (length sdu) (length out)))).served.octets ≤ length out
-sent_octets_lem t slot sdu out (Stop r) = rw (end-still t t (Refused r) sdu [] out []) (omega arith)
-sent_octets_lem t slot sdu out Pass = rw (sent-into t slot sdu out) (sent-within (slot_at t slot) sdu out)
+sent_octets_lem : (t : Table) (slot : ℕ) (sdu out : List ℕ) (v : Result (Unit {0}) Refusal) → (end_of t sdu [] out [] (passed t v (sent_on t slot (length sdu) (length out)))).served.octets ≤ length out
+sent_octets_lem t slot sdu out (Err r) = rw (end-still t t (Refused r) sdu [] out []) (omega arith)
+sent_octets_lem t slot sdu out (Ok tt) = rw (sent-into t slot sdu out) (sent-within (slot_at t slot) sdu out)
 
 -- its frames are no more octets than the output has
 pub octets_within : (o out sdu : List ℕ) (slot : ℕ) → sent_octets o out slot sdu ≤ length out
 unfolding send
-octets_within o out sdu slot = let t = (read o).table in sent_octets_lem t slot sdu out (verdict t Nothing Nothing Nothing (Is slot))
+octets_within o out sdu slot = let t = (read o).table in sent_octets_lem t slot sdu out (verdict t None None None (Some slot))

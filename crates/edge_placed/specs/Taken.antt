@@ -1,6 +1,6 @@
 -- A take on the table's octets where they stand: the first refusals told from the octets, one row read, the work on its slot, and its account, its queue and the next
 -- identifier written.
-use Rattle.std.specs.Prelude.{◌≡◌, Bool, ℕ, ◌<◌, eqb, leb, ltb, length, get_or}
+use Rattle.std.specs.Prelude.{◌≡◌, Bool, ℕ, ◌<◌, eqb, leb, ltb, length, get_or, Err, None, Result, Some}
 use Rattle.std.proofs.Math.Path.{refl, sym, ap}
 use Rattle.std.proofs.Common.{◌∙◌, leb-false}
 use Rattle.std.proofs.Math.Bool.{true, false, not}
@@ -12,11 +12,8 @@ use Rattle.codes.specs.declared.Refusal.{Refusal}
 use Rattle.codes.specs.declared.Refusal.TheVariants.{NoRoom, BadSlot}
 use Rattle.channel.specs.Limits.{slots_most, signal_most}
 use Rattle.channel.specs.declared.Answer.TheVariants.{Refused}
-use Rattle.channel.specs.declared.Given.TheVariants.{Nothing, Is}
 use Rattle.channel.specs.declared.Slot.{Slot}
 use Rattle.channel.specs.declared.Table.{Table}
-use Rattle.channel.specs.declared.Verdict.{Verdict}
-use Rattle.channel.specs.declared.Verdict.TheVariants.{Stop}
 use Rattle.channel_answer.specs.Tells.{answer_number}
 use Rattle.definition.specs.Mem.{sizes, parts}
 use Rattle.definition.specs.Mem as mem
@@ -71,10 +68,10 @@ taken-edge o a room out job d m s {x} {next} {id} {r} said stands given took =
     ∙ ap (λ (y : Slot). leaves o a room out job (part_width d m) s (get_or o 5 0) (take_of d m s (choose (eqb (get_or o 5 0) 0) 1 (get_or o 5 0)) y (length job))) said
 
 -- a take that the gate stops leaves the octets
-pub take_stopped : (o a room out job : List ℕ) (slot : ℕ) (r : Refusal) → verdict (read o).table (Is (length room)) (Is (length out)) Nothing (Is slot) ≡ Stop r
+pub take_stopped : (o a room out job : List ℕ) (slot : ℕ) (r : Refusal) → verdict (read o).table (Some (length room)) (Some (length out)) None (Some slot) ≡ Err r
     → edge (answer_number (Refused r)) o (answered a (Refused r) 0) room out job ≡ receive_edge o a room out job slot
 unfolding receive
-take_stopped o a room out job slot r e = stopped o a room out job (λ t. []) (λ t. taken_on t slot (length job)) (Is (length room)) (Is (length out)) Nothing (Is slot) r e
+take_stopped o a room out job slot r e = stopped o a room out job (λ t. []) (λ t. taken_on t slot (length job)) (Some (length room)) (Some (length out)) None (Some slot) r e
 
 module _ (o a room out job : List ℕ) (s : ℕ) (v : valid_octets o ≡ true) (e : eqb (length room) (room_width (get_or o 1 0) (get_or o 2 0) (u16_at o 3)) ≡ true) where
   abbrev t : Table
@@ -82,11 +79,11 @@ module _ (o a room out job : List ℕ) (s : ℕ) (v : valid_octets o ≡ true) (
 
   -- REFUSALS 3 AND 6
   pub take_3 : ltb (length out) signal_most ≡ true → edge (answer_number (Refused NoRoom)) o (answered a (Refused NoRoom) 0) room out job ≡ receive_edge o a room out job s
-  take_3 f = take_stopped o a room out job s NoRoom (stops_3 o v (Is (length room)) (Is (length out)) Nothing (Is s) (ap not e) f)
+  take_3 f = take_stopped o a room out job s NoRoom (stops_3 o v (Some (length room)) (Some (length out)) None (Some s) (ap not e) f)
 
   pub take_6 : ltb (length out) signal_most ≡ false → leb (get_or o 1 0) s ≡ true
       → edge (answer_number (Refused BadSlot)) o (answered a (Refused BadSlot) 0) room out job ≡ receive_edge o a room out job s
-  take_6 f g = take_stopped o a room out job s BadSlot (stops_6 o v (Is (length room)) (Is (length out)) Nothing (Is s) (ap not e) f refl g)
+  take_6 f g = take_stopped o a room out job s BadSlot (stops_6 o v (Some (length room)) (Some (length out)) None (Some s) (ap not e) f refl g)
 
   -- ---- behind them
 
@@ -109,7 +106,7 @@ module _ (o a room out job : List ℕ) (s : ℕ) (v : valid_octets o ≡ true) (
         (parts itself [] (part_width t.d t.m) (only s k.work.moves) room) (mem.written itself [] room 0 k.work.out out) (mem.written itself [] room 0 k.job job)
     unfolding receive
     ends =
-        ap (λ (x : Verdict). end_of t [] room out job (passed t x (taken_on t s (length job)))) (passes o v (Is (length room)) (Is (length out)) Nothing (Is s) (ap not e) f refl g)
+        ap (λ (x : Result (Unit {0}) Refusal). end_of t [] room out job (passed t x (taken_on t s (length job)))) (passes o v (Some (length room)) (Some (length out)) None (Some s) (ap not e) f refl g)
         ∙ sym (takes_in t s room out job {r = worked_of k.work} refl refl refl (record { gave = refl; moved = refl; told = refl; handed = refl }))
 
     -- the row written, for the slot that the take leaves

@@ -1,5 +1,5 @@
 -- A frame in and a send leave a valid table's octets valid, whatever they answer: so a run of them tests its table once.
-use Rattle.std.specs.Prelude.{◌≡◌, refl, Bool, true, false, not, List, ℕ, ◌+◌, ◌-◌, ◌≤◌, ◌<◌, eqb, leb, ltb, get_or}
+use Rattle.std.specs.Prelude.{◌≡◌, refl, Bool, true, false, not, List, ℕ, ◌+◌, ◌-◌, ◌≤◌, ◌<◌, eqb, leb, ltb, get_or, None, Some}
 use Rattle.std.proofs.Common.{sym, ap, ◌∙◌, subst, add-one, arith, length-take, get_or-take}
 use Rattle.std.proofs.Math.ListN.{length, length-set}
 use borrow.Author.Tests.{eqb-false, le-leb, leb-true, leb-false, ltb-true, ltb-false}
@@ -16,7 +16,6 @@ use Rattle.sar_join.specs.declared.Joined.{Joined}
 use Rattle.sar_join.specs.declared.Joined.TheVariants as Joined
 use Rattle.sar_join.specs.Joining.{reached, first_step, join_step}
 use Rattle.channel.specs.Limits.{slots_most, depth_most, handle_most, credits_most}
-use Rattle.channel.specs.declared.Given.TheVariants.{Nothing, Is}
 use Rattle.channel.specs.declared.Slot.{Slot}
 use Rattle.channel.specs.declared.Table.{Table}
 use Rattle.channel.specs.declared.Tally.{Tally}
@@ -220,7 +219,7 @@ module _ (o : List ℕ) (v : valid_octets o ≡ true) where
     by-link e false f = by_cid e f (is_cid t cid) refl
 
     by-room : (b : Bool) → fitting ≡ b → Kept (dispatch_edge o a room link cid p)
-    by-room false e = subst Kept (frame_stopped o a room p link cid BadRoom (refused_2 o v (length room) Nothing (Is link) Nothing e)) v
+    by-room false e = subst Kept (frame_stopped o a room p link cid BadRoom (refused_2 o v (length room) None (Some link) None e)) v
     by-room true e = by-link e (ltb handle_most link) refl
 
     -- A FRAME

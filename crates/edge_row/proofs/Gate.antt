@@ -1,5 +1,5 @@
 -- The first refusals, told from the table's octets, and what stays then: for calls that don't read the whole table.
-use Rattle.std.specs.Prelude.{◌≡◌, refl, Bool, true, false, not, List, ℕ, ◌≤◌, eqb, leb, length, get_or}
+use Rattle.std.specs.Prelude.{◌≡◌, refl, Bool, true, false, not, List, ℕ, ◌≤◌, eqb, leb, length, get_or, Err, None, Ok, Option, Result, Some}
 use Rattle.std.proofs.Common.{sym, ap, ◌∙◌, arith, leb-true}
 use Rattle.std.proofs.lemmas.Bool.{false≢true}
 use Rattle.lists.specs.Choose.{choose}
@@ -11,11 +11,7 @@ use Rattle.codes.specs.declared.Refusal.TheVariants.{BadTable, BadRoom, NoRoom, 
 use Rattle.channel.specs.Limits.{slots_most}
 use Rattle.channel.specs.declared.Answer.{Answer}
 use Rattle.channel.specs.declared.Answer.TheVariants.{Refused}
-use Rattle.channel.specs.declared.Given.{Given}
-use Rattle.channel.specs.declared.Given.TheVariants.{Nothing, Is}
 use Rattle.channel.specs.declared.Table.{Table}
-use Rattle.channel.specs.declared.Verdict.{Verdict}
-use Rattle.channel.specs.declared.Verdict.TheVariants.{Pass, Stop}
 use Rattle.channel_answer.specs.Tells.{answer_number}
 use Rattle.definition.specs.Table.{place_of, room_width, live, sizes_fit, slot_fits, well_formed}
 use Rattle.definition.specs.Asking.{no_slots}
@@ -85,81 +81,81 @@ pub valid_slots : (o : List ℕ) → valid_octets o ≡ true → get_or o 1 0 �
 valid_slots o e = omega (arith, formed_slots (read o).table (valid_formed o e), slots-told o (valid_read o e))
 
 -- a call that the gate stops
-pub stopped : (o a room out job : List ℕ) (jobs : Table → List ℕ) (f : Table → Outcome) (roomed signal link slot : Given) (r : Refusal)
-    → verdict (read o).table roomed signal link slot ≡ Stop r
+pub stopped : (o a room out job : List ℕ) (jobs : Table → List ℕ) (f : Table → Outcome) (roomed signal link slot : Option ℕ) (r : Refusal)
+    → verdict (read o).table roomed signal link slot ≡ Err r
     → edge (answer_number (Refused r)) o (answered a (Refused r) 0) room out job ≡ on_table o a (λ t. end_of t (jobs t) room out job (gate t roomed signal link slot (f t)))
 stopped o a room out job jobs f roomed signal link slot r e =
     let t = (read o).table in
     stays o a room out job (λ t. end_of t (jobs t) room out job (gate t roomed signal link slot (f t))) (Refused r) 0
-    (ap (λ (v : Verdict). end_of t (jobs t) room out job (passed t v (f t))) e ∙ end-still t t (Refused r) (jobs t) room out job)
+    (ap (λ (v : Result (Unit {0}) Refusal). end_of t (jobs t) room out job (passed t v (f t))) e ∙ end-still t t (Refused r) (jobs t) room out job)
 
 -- REFUSAL 1
-pub refused_1 : (o : List ℕ) → valid_octets o ≡ false → (roomed signal link slot : Given) → verdict (read o).table roomed signal link slot ≡ Stop BadTable
+pub refused_1 : (o : List ℕ) → valid_octets o ≡ false → (roomed signal link slot : Option ℕ) → verdict (read o).table roomed signal link slot ≡ Err BadTable
 unfolding verdict choose
 refused_1 o e roomed signal link slot = rw (not_valid o e)
 
 -- THE GATE, TOLD FROM THE OCTETS: the sizes stand in line 0
-pub verdict-told : (o : List ℕ) → valid_octets o ≡ true → (roomed signal link slot : Given)
+pub verdict-told : (o : List ℕ) → valid_octets o ≡ true → (roomed signal link slot : Option ℕ)
     → verdict (read o).table roomed signal link slot ≡ sized_verdict (get_or o 1 0) (get_or o 2 0) (u16_at o 3) roomed signal link slot
 unfolding verdict sized_verdict choose
 verdict-told o e roomed signal link slot =
     let ok = valid_read o e in
     rw (valid_formed o e, slots-told o ok, depth_told o ok, packet_told o ok)
 
-module _ (n d m : ℕ) (roomed signal link slot : Given) where
-  sized_2 : OtherRoom n d m roomed true → sized_verdict n d m roomed signal link slot ≡ Stop BadRoom
+module _ (n d m : ℕ) (roomed signal link slot : Option ℕ) where
+  sized_2 : OtherRoom n d m roomed true → sized_verdict n d m roomed signal link slot ≡ Err BadRoom
   unfolding sized_verdict choose
   sized_2 r = rw r
 
-  sized_3 : OtherRoom n d m roomed false → Short signal true → sized_verdict n d m roomed signal link slot ≡ Stop NoRoom
+  sized_3 : OtherRoom n d m roomed false → Short signal true → sized_verdict n d m roomed signal link slot ≡ Err NoRoom
   unfolding sized_verdict choose
   sized_3 r s = rw (r, s)
 
-  sized_4 : OtherRoom n d m roomed false → Short signal false → Beyond link true → sized_verdict n d m roomed signal link slot ≡ Stop BadHandle
+  sized_4 : OtherRoom n d m roomed false → Short signal false → Beyond link true → sized_verdict n d m roomed signal link slot ≡ Err BadHandle
   unfolding sized_verdict choose
   sized_4 r s l = rw (r, s, l)
 
-  sized_6 : OtherRoom n d m roomed false → Short signal false → Beyond link false → NoSlot n slot true → sized_verdict n d m roomed signal link slot ≡ Stop BadSlot
+  sized_6 : OtherRoom n d m roomed false → Short signal false → Beyond link false → NoSlot n slot true → sized_verdict n d m roomed signal link slot ≡ Err BadSlot
   unfolding sized_verdict choose
   sized_6 r s l k = rw (r, s, l, k)
 
-  sized_pass : OtherRoom n d m roomed false → Short signal false → Beyond link false → NoSlot n slot false → sized_verdict n d m roomed signal link slot ≡ Pass
+  sized_pass : OtherRoom n d m roomed false → Short signal false → Beyond link false → NoSlot n slot false → sized_verdict n d m roomed signal link slot ≡ Ok tt
   unfolding sized_verdict choose
   sized_pass r s l k = rw (r, s, l, k)
 
-module _ (o : List ℕ) (v : valid_octets o ≡ true) (roomed signal link slot : Given) where
-  abbrev Says : Verdict → Type 0
+module _ (o : List ℕ) (v : valid_octets o ≡ true) (roomed signal link slot : Option ℕ) where
+  abbrev Says : Result (Unit {0}) Refusal → Type 0
   Says x = verdict (read o).table roomed signal link slot ≡ x
 
   told : Says (sized_verdict (get_or o 1 0) (get_or o 2 0) (u16_at o 3) roomed signal link slot)
   told = verdict-told o v roomed signal link slot
 
-  pub stops_2 : OtherRoom (get_or o 1 0) (get_or o 2 0) (u16_at o 3) roomed true → Says (Stop BadRoom)
+  pub stops_2 : OtherRoom (get_or o 1 0) (get_or o 2 0) (u16_at o 3) roomed true → Says (Err BadRoom)
   stops_2 r = told ∙ sized_2 (get_or o 1 0) (get_or o 2 0) (u16_at o 3) roomed signal link slot r
 
   module _ (r : OtherRoom (get_or o 1 0) (get_or o 2 0) (u16_at o 3) roomed false) where
-    pub stops_3 : Short signal true → Says (Stop NoRoom)
+    pub stops_3 : Short signal true → Says (Err NoRoom)
     stops_3 s = told ∙ sized_3 (get_or o 1 0) (get_or o 2 0) (u16_at o 3) roomed signal link slot r s
 
     module _ (s : Short signal false) where
-      pub stops_4 : Beyond link true → Says (Stop BadHandle)
+      pub stops_4 : Beyond link true → Says (Err BadHandle)
       stops_4 l = told ∙ sized_4 (get_or o 1 0) (get_or o 2 0) (u16_at o 3) roomed signal link slot r s l
 
-      pub stops_6 : Beyond link false → NoSlot (get_or o 1 0) slot true → Says (Stop BadSlot)
+      pub stops_6 : Beyond link false → NoSlot (get_or o 1 0) slot true → Says (Err BadSlot)
       stops_6 l k = told ∙ sized_6 (get_or o 1 0) (get_or o 2 0) (u16_at o 3) roomed signal link slot r s l k
 
-      pub passes : Beyond link false → NoSlot (get_or o 1 0) slot false → Says Pass
+      pub passes : Beyond link false → NoSlot (get_or o 1 0) slot false → Says (Ok tt)
       passes l k = told ∙ sized_pass (get_or o 1 0) (get_or o 2 0) (u16_at o 3) roomed signal link slot r s l k
 
 -- REFUSAL 2, whatever else the call is given
-pub refused_2 : (o : List ℕ) → valid_octets o ≡ true → (long : ℕ) (signal link slot : Given) → eqb long (room_width (get_or o 1 0) (get_or o 2 0) (u16_at o 3)) ≡ false
-    → verdict (read o).table (Is long) signal link slot ≡ Stop BadRoom
-refused_2 o e long signal link slot k = stops_2 o e (Is long) signal link slot (ap not k)
+pub refused_2 : (o : List ℕ) → valid_octets o ≡ true → (long : ℕ) (signal link slot : Option ℕ) → eqb long (room_width (get_or o 1 0) (get_or o 2 0) (u16_at o 3)) ≡ false
+    → verdict (read o).table (Some long) signal link slot ≡ Err BadRoom
+refused_2 o e long signal link slot k = stops_2 o e (Some long) signal link slot (ap not k)
 
 -- of a call that is given a slot alone: refusal 6, or none
 module _ (o : List ℕ) (e : valid_octets o ≡ true) (slot : ℕ) where
-  pub refused_6 : leb (get_or o 1 0) slot ≡ true → verdict (read o).table Nothing Nothing Nothing (Is slot) ≡ Stop BadSlot
-  refused_6 k = stops_6 o e Nothing Nothing Nothing (Is slot) refl refl refl k
+  pub refused_6 : leb (get_or o 1 0) slot ≡ true → verdict (read o).table None None None (Some slot) ≡ Err BadSlot
+  refused_6 k = stops_6 o e None None None (Some slot) refl refl refl k
 
-  pub passes_6 : leb (get_or o 1 0) slot ≡ false → verdict (read o).table Nothing Nothing Nothing (Is slot) ≡ Pass
-  passes_6 k = passes o e Nothing Nothing Nothing (Is slot) refl refl refl k
+  pub passes_6 : leb (get_or o 1 0) slot ≡ false → verdict (read o).table None None None (Some slot) ≡ Ok tt
+  passes_6 k = passes o e None None None (Some slot) refl refl refl k

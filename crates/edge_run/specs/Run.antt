@@ -1,17 +1,16 @@
 -- A run: calls of one kind, handed over one after the other in one lent slice (`items`). It leaves what the calls leave that are made one by one, each answer over
 -- the next sixteen octets of `answers`. This page says so for any kind of call; it is told how many octets the call at a place
 -- has, and what that call leaves, whose answer stands at a place of the answers.
-use Rattle.std.specs.Prelude.{List, ℕ, zero, suc, ◌+◌, ◌*◌, ◌/◌, ◌%◌, min, leb, ltb, length}
+use Rattle.std.specs.Prelude.{List, ℕ, zero, suc, ◌+◌, ◌*◌, ◌/◌, ◌%◌, min, leb, ltb, length, Err, Ok, Result}
 use Rattle.std.proofs.lemmas.List.Edits.{sets}
 use Rattle.octets.specs.Octets.{part}
 use Rattle.codes.specs.declared.Refusal.TheVariants.{NoRoom, Decode}
 use Rattle.codes.specs.Codes.{refusal_number}
-use Rattle.channel.specs.declared.Verdict.{Verdict}
-use Rattle.channel.specs.declared.Verdict.TheVariants.{Pass, Stop}
 use Rattle.channel_answer.specs.Tells.{told_by}
 use Rattle.definition.specs.Table.{when◌then◌else◌}
 use Rattle.edge_answer.specs.Answers.{told_octets}
 use Rattle.edge_run.specs.declared.Ended.{Ended}
+use Rattle.codes.specs.declared.Refusal.{Refusal}
 
 -- What a run works on: the table's octets, the room, the output and how many octets of it are written, the answers.
 pub record Lent : Type 0 where
@@ -51,9 +50,9 @@ module _ (items : List ℕ) (size : (from : ℕ) → ℕ) (call : (from at : ℕ
       else ran turns (suc count) (used + size used) (call used (answer_size * count) (part l.answers (answer_size * count) answer_size) l)
 
 -- Of a table or a room that the first refusals stop, no call is made.
-abbrev pub begun : Verdict → Lent → Ran → Ran
-begun (Stop r) l x = ended (refusal_number r) 0 0 l
-begun Pass l x = x
+abbrev pub begun : Result (Unit {0}) Refusal → Lent → Ran → Ran
+begun (Err r) l x = ended (refusal_number r) 0 0 l
+begun (Ok tt) l x = x
 
 -- The run's own answer, in the sixteen octets of every answer: kind 11; what ended it; the octets written to the output; the calls made and the octets that they took, four octets each.
 abbrev pub run_kind : ℕ

@@ -1,6 +1,6 @@
 -- The entries that a run makes, for any kind of call (Run.antt of `edge_run`): by the run's own tests. Where each call of it is an entry, the run leaves what they leave made one by one, and its answers
 -- are theirs, one behind the other.
-use Rattle.std.specs.Prelude.{◌≡◌, Bool, leb, ltb}
+use Rattle.std.specs.Prelude.{◌≡◌, Bool, leb, ltb, Err, Ok, Result}
 use Rattle.std.proofs.Math.Path.{refl, sym, ap}
 use Rattle.std.proofs.Common.{◌∙◌, arith, ltb-false}
 use Rattle.std.proofs.Math.Bool.{true, false}
@@ -12,8 +12,6 @@ use Rattle.lists.specs.Choose.{choose, if_cases}
 use Rattle.octets.specs.Octets.{part}
 use Rattle.octets.specs.Sets.{sets-out, sets-append, part_length}
 use Rattle.channel.specs.declared.Table.{Table}
-use Rattle.channel.specs.declared.Verdict.{Verdict}
-use Rattle.channel.specs.declared.Verdict.TheVariants.{Pass, Stop}
 use Rattle.definition.specs.Table.{when◌then◌else◌}
 use Rattle.definition.specs.Mem.{Fill, fills, written}
 use Rattle.definition.specs.Ending.{End, itself}
@@ -24,10 +22,11 @@ use Rattle.edge.specs.Edge.{on_table, lifted}
 use Rattle.edge_run.specs.Run.{Lent, answer_size, ran, begun}
 use Rattle.edge_runs.specs.Run.{EdgeState, Asked, call_in, edge_of, Apart, BuffersApart, entered, entries, told}
 use Rattle.edge_runs.specs.Made.{answers_in, made_by}
+use Rattle.codes.specs.declared.Refusal.{Refusal}
 
-pub by_apart : (v : Verdict) (es : List Asked) → BuffersApart es → BuffersApart (made_by v es)
-by_apart (Stop r) es h = tt
-by_apart Pass es h = h
+pub by_apart : (v : Result (Unit {0}) Refusal) (es : List Asked) → BuffersApart es → BuffersApart (made_by v es)
+by_apart (Err r) es h = tt
+by_apart (Ok tt) es h = h
 
 -- a buffer of no octets stays so
 pub none_written : (js room : List ℕ) (at : ℕ) (fs : List Fill) → written itself js room at fs [] ≡ []
@@ -117,6 +116,6 @@ module _ (items : List ℕ) (size : (from : ℕ) → ℕ) (call : (from at : ℕ
         turn turns count used l holds (makes turns (suc count) (used + size used)) (leb (length items) used) (ltb (length items) (used + size used)) (ltb (length l.answers) (answer_size * suc count)) refl refl refl
 
     -- THE RUN IS ITS ENTRIES
-    pub run_makes : (v : Verdict) (l : Lent) → Holds l → Makes 0 l (made_by v (made (length items) 0 0 l)) (begun v l (ran items size call (length items) 0 0 l)).lent
-    run_makes (Stop r) l holds = none 0 l
-    run_makes Pass l holds = makes (length items) 0 0 l holds
+    pub run_makes : (v : Result (Unit {0}) Refusal) (l : Lent) → Holds l → Makes 0 l (made_by v (made (length items) 0 0 l)) (begun v l (ran items size call (length items) 0 0 l)).lent
+    run_makes (Err r) l holds = none 0 l
+    run_makes (Ok tt) l holds = makes (length items) 0 0 l holds

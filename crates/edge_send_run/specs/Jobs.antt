@@ -1,8 +1,7 @@
 -- What a run of jobs leaves on octets: what the sends leave one after the other (`send_edge`), each of them a call of the run (crate edge_run), and each job's frames behind those of the jobs before it.
-use Rattle.std.specs.Prelude.{List, [], ℕ, ◌+◌, length, get_or, drop}
+use Rattle.std.specs.Prelude.{List, [], ℕ, ◌+◌, length, get_or, drop, None}
 use Rattle.std.proofs.lemmas.List.Edits.{sets}
 use Rattle.octets.specs.Octets.{u16_at, part}
-use Rattle.channel.specs.declared.Given.TheVariants.{Nothing}
 use Rattle.definition.specs.Outcome.{verdict}
 use Rattle.edge_layout.specs.Layout.{read}
 use Rattle.edge_placed.specs.Frames.{send_edge, sent_octets}
@@ -37,4 +36,4 @@ left_by e table out answers = ended e.stop e.count e.used (lent_by table out e.w
 -- A run of jobs.
 abbrev pub send_run_edge : (table answer out jobs answers : List ℕ) → RunEdge
 send_run_edge table answer out jobs answers =
-    told answer (begun (verdict (read table).table Nothing Nothing Nothing Nothing) (lent_by table out 0 answers) (jobs_run table out jobs answers))
+    told answer (begun (verdict (read table).table None None None None) (lent_by table out 0 answers) (jobs_run table out jobs answers))

@@ -1,5 +1,5 @@
 -- A turn of the run's loop: one job is sent, its frames behind those before it, its answer over the next sixteen octets of the answers.
-use Rattle.std.specs.Prelude.{◌≡◌, refl, true, false, List, [], ℕ, suc, ◌+◌, ◌-◌, ◌*◌, ◌≤◌, ◌<◌, length, get_or, drop}
+use Rattle.std.specs.Prelude.{◌≡◌, refl, true, false, List, [], ℕ, suc, ◌+◌, ◌-◌, ◌*◌, ◌≤◌, ◌<◌, length, get_or, drop, None, Ok, Result}
 use Rattle.std.proofs.Common.{sym, ap, ◌∙◌, arith, length-drop}
 use Rattle.std.proofs.lemmas.List.Edits.{sets}
 use Rattle.std.proofs.Math.Seq.{length-sets}
@@ -7,9 +7,6 @@ use Rattle.octets.specs.Octets.{u16_at, part}
 use Rattle.lists.specs.Choose.{choose}
 use Rattle.codes.specs.declared.Refusal.TheVariants.{BadTable}
 use Rattle.codes.specs.Codes.{refusal_number}
-use Rattle.channel.specs.declared.Given.TheVariants.{Nothing}
-use Rattle.channel.specs.declared.Verdict.{Verdict}
-use Rattle.channel.specs.declared.Verdict.TheVariants.{Pass}
 use Rattle.definition.specs.Outcome.{verdict}
 use Rattle.edge_layout.specs.Layout.{read}
 use Rattle.edge.specs.Edge.{Edge, edge}
@@ -22,6 +19,7 @@ use Rattle.edge_placed.specs.Valid.{send_valid}
 use Rattle.edge_run.specs.Run.{Ran, RunEdge, ended, answer_size, begun, told}
 use Rattle.edge_run.specs.Running.{Running, running_turn}
 use Rattle.edge_send_run.specs.Jobs.{job_size, job_call, lent_by, jobs_run, send_run_edge}
+use Rattle.codes.specs.declared.Refusal.{Refusal}
 
 pub record Sending (jobs : List ℕ) (whole : Ran) (table out answers : List ℕ) (count at wrote : ℕ) : Type 0 where
   pub valid : valid_octets table ≡ true
@@ -53,16 +51,16 @@ module _ {jobs : List ℕ} {whole : Ran} {table out answers : List ℕ} {count a
 
 -- ---- before the first turn
 
-passes : (o : List ℕ) → valid_octets o ≡ true → verdict (read o).table Nothing Nothing Nothing Nothing ≡ Pass
+passes : (o : List ℕ) → valid_octets o ≡ true → verdict (read o).table None None None None ≡ Ok tt
 unfolding sized_verdict choose
-passes o v = verdict-told o v Nothing Nothing Nothing Nothing
+passes o v = verdict-told o v None None None None
 
 module _ (table answer out jobs answers : List ℕ) where
-  abbrev by : Verdict → RunEdge
+  abbrev by : Result (Unit {0}) Refusal → RunEdge
   by v = told answer (begun v (lent_by table out 0 answers) (jobs_run table out jobs answers))
 
   pub run-refused : valid_octets table ≡ false → told answer (ended (refusal_number BadTable) 0 0 (lent_by table out 0 answers)) ≡ send_run_edge table answer out jobs answers
-  run-refused e = ap by (sym (refused_1 table e Nothing Nothing Nothing Nothing))
+  run-refused e = ap by (sym (refused_1 table e None None None None))
 
   pub run-begun : valid_octets table ≡ true → {x : Ran} → x ≡ jobs_run table out jobs answers → told answer x ≡ send_run_edge table answer out jobs answers
   run-begun v e = ap (told answer) e ∙ ap by (sym (passes table v))

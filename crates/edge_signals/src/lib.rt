@@ -7,8 +7,6 @@ ghost use Rattle.std.specs.Prelude.{◌≡◌, []};
 ghost use Rattle.edge.specs.Edge.{edge};
 ghost use Rattle.edge_signals.specs.Signals.{signal_edge};
 
-use signal_bodies::le_credit::LeCreditFlowIndRead;
-
 // The first signal of a PDU. Of a good credit signal one row is read, and only the columns that it changes are written: the rest of it stays, and other rows.
 pub fn signal(
     table: &mut [u8],
@@ -23,10 +21,8 @@ pub fn signal(
     ensures { edge result table.new answer.new room.new signal.new [] ≡ signal_edge table.old answer.old room.old signal.old link listening central pdu.now }
 {
     match edge_credits::credits_in(pdu) {
-        LeCreditFlowIndRead::Is(ind) => edge_credits::credit(
-            table, answer, room, signal, link, ind,
-        ),
-        LeCreditFlowIndRead::Decode => {
+        Some(ind) => edge_credits::credit(table, answer, room, signal, link, ind),
+        None => {
             let d = edge_layout_decode::decode(table);
             let t = d.table;
             let s = call_signal::signal(t, room, signal, link, listening != 0, central != 0, pdu);

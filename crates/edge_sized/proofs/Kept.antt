@@ -1,18 +1,14 @@
 -- What a call keeps of a table's shape: the lengths of its arrays and its sizes, which is all that the table's octets need to give it back
 -- (`Sized`, crate edge_layout), and every slot past N. And the laws by which a call's proof shows it, one for each form that an outcome has.
-use Rattle.std.specs.Prelude.{◌≡◌, refl, Bool, true, false, List, [], ◌∷◌, ℕ, zero, suc, ◌+◌, ◌-◌, ◌/◌, ◌%◌, ◌^◌, ◌<◌, leb, length, get_or, drop, set}
+use Rattle.std.specs.Prelude.{◌≡◌, refl, Bool, true, false, List, [], ◌∷◌, ℕ, zero, suc, ◌+◌, ◌-◌, ◌/◌, ◌%◌, ◌^◌, ◌<◌, leb, length, get_or, drop, set, Err, Ok, Option, Result, Some}
 use Rattle.std.proofs.Common.{ap, ◌∙◌, le_of_suc-le-suc, not-suc-le-zero, arith, length-set, length-append, length-drop, leb-false}
 use Rattle.lists.specs.Choose.{choose, if_cases}
 use Rattle.lists.specs.Each.{map_first, length-map_first}
 use Rattle.channel.specs.Limits.{slots_most, depth_most}
 use Rattle.channel.specs.declared.Answer.{Answer}
-use Rattle.channel.specs.declared.Given.{Given}
-use Rattle.channel.specs.declared.Given.TheVariants.{Is}
 use Rattle.channel.specs.declared.Queue.{Queue}
 use Rattle.channel.specs.declared.Slot.{Slot}
 use Rattle.channel.specs.declared.Table.{Table}
-use Rattle.channel.specs.declared.Verdict.{Verdict}
-use Rattle.channel.specs.declared.Verdict.TheVariants.{Pass, Stop}
 use Rattle.definition.specs.Mem.{Fill, Move}
 use Rattle.definition.specs.Table.{freed, gap, slot_at, is_registered, spent, registered}
 use Rattle.definition.specs.Outcome.{Outcome, still, change, filling, sweep, verdict, passed, gate}
@@ -20,6 +16,7 @@ use Rattle.definition.specs.Frames.{queued, shifted}
 use Rattle.definition.proofs.Forms.{pass_slot}
 use Rattle.edge_layout.specs.Back.{Sized}
 use Rattle.edge_sized.specs.Kept.{Kept, Like, Long}
+use Rattle.codes.specs.declared.Refusal.{Refusal}
 
 -- a job more, a job less
 pub queued_long : (len : ℕ) (q : Queue) → length q.lens ≡ depth_most → length (queued len q).lens ≡ depth_most
@@ -139,13 +136,13 @@ module _ {t : Table} (w : Sized t) where
   pub else_keeps : {b : Bool} (t' : Table) (a : Answer) (out : List Fill) {y : Outcome} → Like t t' → (b ≡ false → Kept t y) → Kept t (choose b (still t' a out) y)
   else_keeps t' a out q g = if_keeps (λ _. still-keeps q) g
 
-  passed-keeps : (v : Verdict) {o : Outcome} → (v ≡ Pass → Kept t o) → Kept t (passed t v o)
-  passed-keeps Pass f = f refl
-  passed-keeps (Stop r) f = still-keeps itself
+  passed-keeps : (v : Result (Unit {0}) Refusal) {o : Outcome} → (v ≡ Ok tt → Kept t o) → Kept t (passed t v o)
+  passed-keeps (Ok tt) f = f refl
+  passed-keeps (Err r) f = still-keeps itself
 
   -- the refusals that come first
-  pub gate-keeps : (room signal link slot : Given) {o : Outcome} → Kept t o → Kept t (gate t room signal link slot o)
+  pub gate-keeps : (room signal link slot : Option ℕ) {o : Outcome} → Kept t o → Kept t (gate t room signal link slot o)
   gate-keeps room signal link slot p = passed-keeps (verdict t room signal link slot) (λ _. p)
 
-  pub gate-at : (room signal link : Given) (s : ℕ) {o : Outcome} → (leb t.n s ≡ false → Kept t o) → Kept t (gate t room signal link (Is s) o)
-  gate-at room signal link s f = passed-keeps (verdict t room signal link (Is s)) (λ v. f (pass_slot t room signal link s v))
+  pub gate-at : (room signal link : Option ℕ) (s : ℕ) {o : Outcome} → (leb t.n s ≡ false → Kept t o) → Kept t (gate t room signal link (Some s) o)
+  gate-at room signal link s f = passed-keeps (verdict t room signal link (Some s)) (λ v. f (pass_slot t room signal link s v))

@@ -1,40 +1,18 @@
 -- What a call other than a send and a portion writes to the lent buffer was worked out from table and public input, and stands at its start: no octet of it is
 -- copied. So it is as long as the sizes say, and no less than the answer tells. One lemma a call, `works` for all of them.
-use Rattle.std.specs.Prelude.{◌≡◌, Bool, true, false, List, [], ◌∷◌, ℕ, ◌+◌, ◌≤◌, length}
+use Rattle.std.specs.Prelude.{◌≡◌, Bool, true, false, List, [], ◌∷◌, ℕ, ◌+◌, ◌≤◌, length, Err, None, Ok, Option, Result, Some}
 use Rattle.std.proofs.Math.Path.{refl}
 use Rattle.std.proofs.Common.{sym, ◌∙◌, ap₂, length-append}
 use Rattle.std.proofs.lemmas.Bool.{false≢true}
 use native.Mathlib.Omega.{arith}
 use Rattle.lists.specs.Choose.{choose, if_cases}
 use Rattle.lists.specs.Both.{and_left, and_right}
-use Rattle.codes.specs.declared.ResultRead.{ResultRead}
-use Rattle.codes.specs.declared.ResultRead.TheVariants.{Known, Unknown}
-use Rattle.credit.specs.declared.Grant.{Grant}
 use Rattle.sar_cut.specs.declared.Plan.{Plan}
 use Rattle.sar_join.specs.declared.Joined.{Joined}
 use Rattle.signal_headers.specs.declared.Checked.{Checked}
 use Rattle.signal_headers.specs.declared.Checked.TheVariants.{Good, Cut, Past}
-use Rattle.signal_bodies.specs.declared.CommandRejectResRead.{CommandRejectResRead}
-use Rattle.signal_bodies.specs.declared.CommandRejectResRead.TheVariants as CommandRejectRes
-use Rattle.signal_bodies.specs.declared.DisconnectionReqRead.{DisconnectionReqRead}
-use Rattle.signal_bodies.specs.declared.DisconnectionReqRead.TheVariants as DisconnectionReq
-use Rattle.signal_bodies.specs.declared.DisconnectionResRead.{DisconnectionResRead}
-use Rattle.signal_bodies.specs.declared.DisconnectionResRead.TheVariants as DisconnectionRes
-use Rattle.signal_bodies.specs.declared.ConnParamUpdateReqRead.{ConnParamUpdateReqRead}
-use Rattle.signal_bodies.specs.declared.ConnParamUpdateReqRead.TheVariants as ConnParamUpdateReq
-use Rattle.signal_bodies.specs.declared.ConnParamUpdateResRead.{ConnParamUpdateResRead}
-use Rattle.signal_bodies.specs.declared.ConnParamUpdateResRead.TheVariants as ConnParamUpdateRes
-use Rattle.signal_bodies.specs.declared.le_credit.LeCreditConnReqRead.{LeCreditConnReqRead}
-use Rattle.signal_bodies.specs.declared.le_credit.LeCreditConnReqRead.TheVariants as LeCreditConnReq
-use Rattle.signal_bodies.specs.declared.le_credit.LeCreditConnResRead.{LeCreditConnResRead}
-use Rattle.signal_bodies.specs.declared.le_credit.LeCreditConnResRead.TheVariants as LeCreditConnRes
-use Rattle.signal_bodies.specs.declared.le_credit.LeCreditFlowIndRead.{LeCreditFlowIndRead}
-use Rattle.signal_bodies.specs.declared.le_credit.LeCreditFlowIndRead.TheVariants as LeCreditFlowInd
 use Rattle.signal_forms.specs.declared.Signal.{Signal}
-use Rattle.channel.specs.declared.Given.TheVariants.{Nothing, Is}
 use Rattle.channel.specs.declared.L2capChannelConfig.{L2capChannelConfig}
-use Rattle.channel.specs.declared.Verdict.{Verdict}
-use Rattle.channel.specs.declared.Verdict.TheVariants.{Pass, Stop}
 use Rattle.channel.specs.declared.Slot.{Slot}
 use Rattle.channel.specs.declared.Table.{Table}
 use Rattle.definition.specs.Table.{slot_at, slot_of}
@@ -50,8 +28,17 @@ use Rattle.definition.specs.Calls.{Call, frame, sends, portions, down, plain, Re
 use Rattle.definition.specs.Mem.{Fill, zeros, given, job, held, size, sizes, fill, fills}
 use Rattle.definition.specs.Ending.{itself}
 use Rattle.std.proofs.lemmas.List.{length-map, length-replicate}
-use Rattle.channel.specs.declared.Given.{Given}
 use Rattle.edge_sized.specs.Said.{Worked, is_send, plain_fill, plain_fills}
+use Rattle.codes.specs.declared.LeCreditConnResultCode.{LeCreditConnResultCode}
+use Rattle.codes.specs.declared.Refusal.{Refusal}
+use Rattle.signal_forms.specs.declared.CommandRejectRes.{CommandRejectRes}
+use Rattle.signal_forms.specs.declared.ConnParamUpdateReq.{ConnParamUpdateReq}
+use Rattle.signal_forms.specs.declared.ConnParamUpdateRes.{ConnParamUpdateRes}
+use Rattle.signal_forms.specs.declared.DisconnectionReq.{DisconnectionReq}
+use Rattle.signal_forms.specs.declared.DisconnectionRes.{DisconnectionRes}
+use Rattle.signal_forms.specs.declared.LeCreditConnReq.{LeCreditConnReq}
+use Rattle.signal_forms.specs.declared.LeCreditConnRes.{LeCreditConnRes}
+use Rattle.signal_forms.specs.declared.LeCreditFlowInd.{LeCreditFlowInd}
 
 leaf : {o : Outcome} → plain_fills o.out ≡ true → o.at ≡ 0 → o.octets ≡ sizes o.out → Worked o
 leaf e f g = record { out = e; at = f; tells = omega (arith, g) }
@@ -59,11 +46,11 @@ leaf e f g = record { out = e; at = f; tells = omega (arith, g) }
 either : (b : Bool) {x y : Outcome} → Worked x → Worked y → Worked (choose b x y)
 either b p q = if_cases Worked b (λ _. p) (λ _. q)
 
-let_pass : (t : Table) (v : Verdict) {o : Outcome} → Worked o → Worked (passed t v o)
-let_pass t Pass p = p
-let_pass t (Stop r) p = leaf refl refl refl
+let_pass : (t : Table) (v : Result (Unit {0}) Refusal) {o : Outcome} → Worked o → Worked (passed t v o)
+let_pass t (Ok tt) p = p
+let_pass t (Err r) p = leaf refl refl refl
 
-gated : (t : Table) (room signal link slot : Given) {o : Outcome} → Worked o → Worked (gate t room signal link slot o)
+gated : (t : Table) (room signal link slot : Option ℕ) {o : Outcome} → Worked o → Worked (gate t room signal link slot o)
 gated t room signal link slot p = let_pass t (verdict t room signal link slot) p
 
 module _ (t : Table) where
@@ -71,44 +58,44 @@ module _ (t : Table) where
 
   pends_worked : (link : ℕ) (up : Bool) → Worked (next_pending t link up)
   unfolding next_pending
-  pends_worked link up = gated t Nothing Nothing (Is link) Nothing (either _ (either _ (leaf refl refl refl) (leaf refl refl refl)) (either _ (leaf refl refl refl) (leaf refl refl refl)))
+  pends_worked link up = gated t None None (Some link) None (either _ (either _ (leaf refl refl refl) (leaf refl refl refl)) (either _ (leaf refl refl refl) (leaf refl refl refl)))
 
   rejects_all_worked : (room signal link : ℕ) → Worked (reject_all_pending t room signal link)
   unfolding reject_all_pending
-  rejects_all_worked room signal link = gated t (Is room) (Is signal) (Is link) Nothing (either _ (leaf refl refl refl) (leaf refl refl refl))
+  rejects_all_worked room signal link = gated t (Some room) (Some signal) (Some link) None (either _ (leaf refl refl refl) (leaf refl refl refl))
 
   accepts_worked : (signal s : ℕ) (c : L2capChannelConfig) → Worked (accept_pending t signal s c)
   unfolding accept_pending
-  accepts_worked signal s c = gated t Nothing (Is signal) Nothing (Is s) (either _ (leaf refl refl refl) (either _ (leaf refl refl refl) (either _ (leaf refl refl refl) (either _ (leaf refl refl refl) (leaf refl refl refl)))))
+  accepts_worked signal s c = gated t None (Some signal) None (Some s) (either _ (leaf refl refl refl) (either _ (leaf refl refl refl) (either _ (leaf refl refl refl) (either _ (leaf refl refl refl) (leaf refl refl refl)))))
 
-  rejects_worked : (room signal s : ℕ) (result : ResultRead) → Worked (reject_read t room signal s result)
+  rejects_worked : (room signal s : ℕ) (result : Option LeCreditConnResultCode) → Worked (reject_read t room signal s result)
   unfolding reject_pending not_code
-  rejects_worked room signal s Unknown = gated t (Is room) (Is signal) Nothing (Is s) (leaf refl refl refl)
-  rejects_worked room signal s (Known result) = gated t (Is room) (Is signal) Nothing (Is s) (either _ (leaf refl refl refl) (either _ (leaf refl refl refl) (leaf refl refl refl)))
+  rejects_worked room signal s None = gated t (Some room) (Some signal) None (Some s) (leaf refl refl refl)
+  rejects_worked room signal s (Some result) = gated t (Some room) (Some signal) None (Some s) (either _ (leaf refl refl refl) (either _ (leaf refl refl refl) (leaf refl refl refl)))
 
   drops_worked : (room s : ℕ) → Worked (drop_pending t room s)
   unfolding drop_pending
-  drops_worked room s = gated t (Is room) Nothing Nothing (Is s) (either _ (leaf refl refl refl) (either _ (leaf refl refl refl) (either _ (leaf refl refl refl) (leaf refl refl refl))))
+  drops_worked room s = gated t (Some room) None None (Some s) (either _ (leaf refl refl refl) (either _ (leaf refl refl refl) (either _ (leaf refl refl refl) (leaf refl refl refl))))
 
   creates_worked : (signal link spsm : ℕ) (c : L2capChannelConfig) → Worked (create t signal link spsm c)
   unfolding create
-  creates_worked signal link spsm c = gated t Nothing (Is signal) (Is link) Nothing (either _ (leaf refl refl refl) (either _ (leaf refl refl refl) (either _ (leaf refl refl refl) (leaf refl refl refl))))
+  creates_worked signal link spsm c = gated t None (Some signal) (Some link) None (either _ (leaf refl refl refl) (either _ (leaf refl refl refl) (either _ (leaf refl refl refl) (leaf refl refl refl))))
 
   opens_worked : (room s link : ℕ) (up : Bool) → Worked (opened t room s link up)
   unfolding opened
-  opens_worked room s link up = gated t (Is room) Nothing (Is link) (Is s) (either _ (leaf refl refl refl) (either _ (leaf refl refl refl) (either _ (leaf refl refl refl) (either _ (leaf refl refl refl) (either _ (leaf refl refl refl) (either _ (leaf refl refl refl) (either _ (leaf refl refl refl) (leaf refl refl refl))))))))
+  opens_worked room s link up = gated t (Some room) None (Some link) (Some s) (either _ (leaf refl refl refl) (either _ (leaf refl refl refl) (either _ (leaf refl refl refl) (either _ (leaf refl refl refl) (either _ (leaf refl refl refl) (either _ (leaf refl refl refl) (either _ (leaf refl refl refl) (leaf refl refl refl))))))))
 
   gives-worked : (room s : ℕ) → Worked (give_up t room s)
   unfolding give_up
-  gives-worked room s = gated t (Is room) Nothing Nothing (Is s) (either _ (leaf refl refl refl) (leaf refl refl refl))
+  gives-worked room s = gated t (Some room) None None (Some s) (either _ (leaf refl refl refl) (leaf refl refl refl))
 
   holds-worked : (s : ℕ) → Worked (inc_ref t s)
   unfolding inc_ref
-  holds-worked s = gated t Nothing Nothing Nothing (Is s) (either _ (leaf refl refl refl) (leaf refl refl refl))
+  holds-worked s = gated t None None None (Some s) (either _ (leaf refl refl refl) (leaf refl refl refl))
 
   releases_worked : (room s : ℕ) → Worked (dec_ref t room s)
   unfolding dec_ref
-  releases_worked room s = gated t (Is room) Nothing Nothing (Is s) (either _ (leaf refl refl refl) (either _ (leaf refl refl refl) (leaf refl refl refl)))
+  releases_worked room s = gated t (Some room) None None (Some s) (either _ (leaf refl refl refl) (either _ (leaf refl refl refl) (leaf refl refl refl)))
 
   disconnecting-worked : (s : ℕ) → Worked (disconnecting t s)
   unfolding disconnecting
@@ -116,61 +103,61 @@ module _ (t : Table) where
 
   leaves-worked : (room s : ℕ) → Worked (disconnect t room s)
   unfolding disconnect
-  leaves-worked room s = gated t (Is room) Nothing Nothing (Is s) (disconnecting-worked s)
+  leaves-worked room s = gated t (Some room) None None (Some s) (disconnecting-worked s)
 
   leaves_cid_worked : (room cid : ℕ) → Worked (disconnect_by_cid t room cid)
   unfolding disconnect_by_cid
-  leaves_cid_worked room cid = gated t (Is room) Nothing Nothing Nothing (either _ (disconnecting-worked (slot_of cid)) (leaf refl refl refl))
+  leaves_cid_worked room cid = gated t (Some room) None None None (either _ (disconnecting-worked (slot_of cid)) (leaf refl refl refl))
 
   down_worked : (room link : ℕ) → Worked (disconnected t room link)
   unfolding disconnected sizes
-  down_worked room link = gated t (Is room) Nothing (Is link) Nothing (leaf refl refl refl)
+  down_worked room link = gated t (Some room) None (Some link) None (leaf refl refl refl)
 
   announces_worked : (room signal : ℕ) → Worked (next_disconnect t room signal)
   unfolding next_disconnect
-  announces_worked room signal = gated t (Is room) (Is signal) Nothing Nothing (either _ (leaf refl refl refl) (either _ (leaf refl refl refl) (leaf refl refl refl)))
+  announces_worked room signal = gated t (Some room) (Some signal) None None (either _ (leaf refl refl refl) (either _ (leaf refl refl refl) (leaf refl refl refl)))
 
   -- ---- Signals.antt
 
-  reject-worked : (id : ℕ) (b : CommandRejectResRead) → Worked (on_reject t id b)
+  reject-worked : (id : ℕ) (b : Option CommandRejectRes) → Worked (on_reject t id b)
   unfolding on_reject
-  reject-worked id CommandRejectRes.Decode = leaf refl refl refl
-  reject-worked id (CommandRejectRes.Is f) = leaf refl refl refl
+  reject-worked id None = leaf refl refl refl
+  reject-worked id (Some f) = leaf refl refl refl
 
-  disconnection_req-worked : (link id : ℕ) (b : DisconnectionReqRead) → Worked (on_disconnection_req t link id b)
+  disconnection_req-worked : (link id : ℕ) (b : Option DisconnectionReq) → Worked (on_disconnection_req t link id b)
   unfolding on_disconnection_req
-  disconnection_req-worked link id DisconnectionReq.Decode = leaf refl refl refl
-  disconnection_req-worked link id (DisconnectionReq.Is f) = either _ (leaf refl refl refl) (either _ (leaf refl refl refl) (leaf refl refl refl))
+  disconnection_req-worked link id None = leaf refl refl refl
+  disconnection_req-worked link id (Some f) = either _ (leaf refl refl refl) (either _ (leaf refl refl refl) (leaf refl refl refl))
 
-  disconnection_res-worked : (link id : ℕ) (b : DisconnectionResRead) → Worked (on_disconnection_res t link id b)
+  disconnection_res-worked : (link id : ℕ) (b : Option DisconnectionRes) → Worked (on_disconnection_res t link id b)
   unfolding on_disconnection_res
-  disconnection_res-worked link id DisconnectionRes.Decode = leaf refl refl refl
-  disconnection_res-worked link id (DisconnectionRes.Is f) = either _ (leaf refl refl refl) (either _ (leaf refl refl refl) (leaf refl refl refl))
+  disconnection_res-worked link id None = leaf refl refl refl
+  disconnection_res-worked link id (Some f) = either _ (leaf refl refl refl) (either _ (leaf refl refl refl) (leaf refl refl refl))
 
-  parameters-worked : (id : ℕ) (b : ConnParamUpdateReqRead) → Worked (on_parameters t id b)
+  parameters-worked : (id : ℕ) (b : Option ConnParamUpdateReq) → Worked (on_parameters t id b)
   unfolding on_parameters
-  parameters-worked id ConnParamUpdateReq.Decode = leaf refl refl refl
-  parameters-worked id (ConnParamUpdateReq.Is f) = either _ (leaf refl refl refl) (leaf refl refl refl)
+  parameters-worked id None = leaf refl refl refl
+  parameters-worked id (Some f) = either _ (leaf refl refl refl) (leaf refl refl refl)
 
-  parameter_response_worked : (id : ℕ) (b : ConnParamUpdateResRead) → Worked (on_parameter_response t id b)
+  parameter_response_worked : (id : ℕ) (b : Option ConnParamUpdateRes) → Worked (on_parameter_response t id b)
   unfolding on_parameter_response
-  parameter_response_worked id ConnParamUpdateRes.Decode = leaf refl refl refl
-  parameter_response_worked id (ConnParamUpdateRes.Is f) = leaf refl refl refl
+  parameter_response_worked id None = leaf refl refl refl
+  parameter_response_worked id (Some f) = leaf refl refl refl
 
-  conn_req_worked : (link : ℕ) (listening : Bool) (id : ℕ) (b : LeCreditConnReqRead) → Worked (on_conn_req t link listening id b)
+  conn_req_worked : (link : ℕ) (listening : Bool) (id : ℕ) (b : Option LeCreditConnReq) → Worked (on_conn_req t link listening id b)
   unfolding on_conn_req
-  conn_req_worked link listening id LeCreditConnReq.Decode = leaf refl refl refl
-  conn_req_worked link listening id (LeCreditConnReq.Is f) = either _ (leaf refl refl refl) (either _ (leaf refl refl refl) (either _ (leaf refl refl refl) (either _ (leaf refl refl refl) (either _ (leaf refl refl refl) (leaf refl refl refl)))))
+  conn_req_worked link listening id None = leaf refl refl refl
+  conn_req_worked link listening id (Some f) = either _ (leaf refl refl refl) (either _ (leaf refl refl refl) (either _ (leaf refl refl refl) (either _ (leaf refl refl refl) (either _ (leaf refl refl refl) (leaf refl refl refl)))))
 
-  conn_res_worked : (link id : ℕ) (b : LeCreditConnResRead) → Worked (on_conn_res t link id b)
+  conn_res_worked : (link id : ℕ) (b : Option LeCreditConnRes) → Worked (on_conn_res t link id b)
   unfolding on_conn_res sizes
-  conn_res_worked link id LeCreditConnRes.Decode = leaf refl refl refl
-  conn_res_worked link id (LeCreditConnRes.Is f) = either _ (leaf refl refl refl) (either _ (leaf refl refl refl) (either _ (leaf refl refl refl) (leaf refl refl refl)))
+  conn_res_worked link id None = leaf refl refl refl
+  conn_res_worked link id (Some f) = either _ (leaf refl refl refl) (either _ (leaf refl refl refl) (either _ (leaf refl refl refl) (leaf refl refl refl)))
 
-  credits-worked : (link id : ℕ) (b : LeCreditFlowIndRead) → Worked (on_credits t link id b)
+  credits-worked : (link id : ℕ) (b : Option LeCreditFlowInd) → Worked (on_credits t link id b)
   unfolding on_credits
-  credits-worked link id LeCreditFlowInd.Decode = leaf refl refl refl
-  credits-worked link id (LeCreditFlowInd.Is f) = either _ (leaf refl refl refl) (either _ (leaf refl refl refl) (leaf refl refl refl))
+  credits-worked link id None = leaf refl refl refl
+  credits-worked link id (Some f) = either _ (leaf refl refl refl) (either _ (leaf refl refl refl) (leaf refl refl refl))
 
   handled-worked : (link : ℕ) (listening central : Bool) (code id : ℕ) (body : List ℕ) → Worked (handled t link listening central code id body)
   unfolding handled
@@ -184,7 +171,7 @@ module _ (t : Table) where
 
   signals_worked : (room signal link : ℕ) (listening central : Bool) (pdu : List ℕ) → Worked (signalled t room signal link listening central pdu)
   unfolding signalled
-  signals_worked room signal link listening central pdu = gated t (Is room) (Is signal) (Is link) Nothing (checked-worked link listening central pdu _)
+  signals_worked room signal link listening central pdu = gated t (Some room) (Some signal) (Some link) None (checked-worked link listening central pdu _)
 
   -- ---- Frames.antt: a frame
 
@@ -198,36 +185,36 @@ module _ (t : Table) where
   frame-worked : (room link cid : ℕ) (head : List ℕ) (count : ℕ) → Worked (dispatch t room link cid head count)
   unfolding dispatch
   frame-worked room link cid head count =
-      gated t (Is room) Nothing (Is link) Nothing (either _ (leaf refl refl refl) (either _ (leaf refl refl refl) (either _ (leaf refl refl refl) (either _ (leaf refl refl refl) (joined-worked (slot_of cid) count _ _)))))
+      gated t (Some room) None (Some link) None (either _ (leaf refl refl refl) (either _ (leaf refl refl refl) (either _ (leaf refl refl refl) (either _ (leaf refl refl refl) (joined-worked (slot_of cid) count _ _)))))
 
   -- ---- Asking.antt
 
   register_worked : (spsm : ℕ) → Worked (register_spsm t spsm)
   unfolding register_spsm
-  register_worked spsm = gated t Nothing Nothing Nothing Nothing (either _ (leaf refl refl refl) (leaf refl refl refl))
+  register_worked spsm = gated t None None None None (either _ (leaf refl refl refl) (leaf refl refl refl))
 
   attends_worked : Worked (attention t)
   unfolding attention
-  attends_worked = gated t Nothing Nothing Nothing Nothing (leaf refl refl refl)
+  attends_worked = gated t None None None None (leaf refl refl refl)
 
   asks_worked : (of : Slot → ℕ) (s : ℕ) → Worked (query of t s)
   unfolding query
-  asks_worked of s = gated t Nothing Nothing Nothing (Is s) (leaf refl refl refl)
+  asks_worked of s = gated t None None None (Some s) (leaf refl refl refl)
 
   sends_signal_worked : (signal link : ℕ) (x : Signal) → Worked (send_signal t signal link x)
   unfolding send_signal
-  sends_signal_worked signal link x = gated t Nothing (Is signal) (Is link) Nothing (leaf refl refl refl)
+  sends_signal_worked signal link x = gated t None (Some signal) (Some link) None (leaf refl refl refl)
 
   -- ---- Frames.antt: a take
 
-  taken-worked : (s : ℕ) (x : Slot) (g : Grant) → Worked (taken t s x g)
+  taken-worked : (s : ℕ) (x : Slot) (g : Option ℕ) → Worked (taken t s x g)
   unfolding taken
-  taken-worked s x Grant.Nothing = leaf refl refl refl
-  taken-worked s x (Grant.Credits n) = leaf refl refl refl
+  taken-worked s x None = leaf refl refl refl
+  taken-worked s x (Some n) = leaf refl refl refl
 
   takes_worked : (room signal s size : ℕ) → Worked (receive t room signal s size)
   unfolding receive
-  takes_worked room signal s size = gated t (Is room) (Is signal) Nothing (Is s) (either _ (leaf refl refl refl) (either _ (leaf refl refl refl) (either _ (leaf refl refl refl) (taken-worked s _ _))))
+  takes_worked room signal s size = gated t (Some room) (Some signal) None (Some s) (either _ (leaf refl refl refl) (either _ (leaf refl refl refl) (either _ (leaf refl refl refl) (taken-worked s _ _))))
 
   -- ---- Portions.antt: a start, a cancel
 
@@ -238,11 +225,11 @@ module _ (t : Table) where
 
   starts_worked : (s l out : ℕ) → Worked (start_job t s l out)
   unfolding start_job
-  starts_worked s l out = gated t Nothing Nothing Nothing (Is s) (either _ (leaf refl refl refl) (either _ (leaf refl refl refl) (start_planned-worked s l out (slot_at t s) _)))
+  starts_worked s l out = gated t None None None (Some s) (either _ (leaf refl refl refl) (either _ (leaf refl refl refl) (start_planned-worked s l out (slot_at t s) _)))
 
   cancels_worked : (room s : ℕ) → Worked (cancel_job t room s)
   unfolding cancel_job
-  cancels_worked room s = gated t (Is room) Nothing Nothing (Is s) (either _ (leaf refl refl refl) (either _ (leaf refl refl refl) (either _ (leaf refl refl refl) (leaf refl refl refl))))
+  cancels_worked room s = gated t (Some room) None None (Some s) (either _ (leaf refl refl refl) (either _ (leaf refl refl refl) (either _ (leaf refl refl refl) (leaf refl refl refl))))
 
   -- ---- all calls but the send and the portion
 

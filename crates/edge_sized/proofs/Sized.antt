@@ -1,6 +1,6 @@
 -- Every call keeps a table one that its octets give back, and leaves the slots past N alone: one lemma a call, `keeps` for all of them. A made table
 -- is such a table, so every table of a run is (`made-sized`, `run-sized`).
-use Rattle.std.specs.Prelude.{◌≡◌, Bool, true, false, not, List, [], ◌∷◌, eqb, leb, length, get_or, drop, replicate}
+use Rattle.std.specs.Prelude.{◌≡◌, Bool, true, false, not, List, [], ◌∷◌, eqb, leb, length, get_or, drop, replicate, None, Option, Some}
 use Rattle.std.proofs.Math.Path.{refl}
 use Rattle.std.proofs.Common.{◌∙◌, subst, arith, leb-true}
 use Prim.Native.Nat.{ℕ, zero, suc}
@@ -8,33 +8,13 @@ use Rattle.std.proofs.lemmas.Bool.{eqb-false, not-false}
 use Rattle.lists.specs.Choose.{if_cases}
 use Rattle.lists.specs.Both.{and_left, and_right}
 use Rattle.channel.specs.Limits.{slots_most, depth_most, packet_least, packet_most}
-use Rattle.codes.specs.declared.ResultRead.{ResultRead}
-use Rattle.codes.specs.declared.ResultRead.TheVariants.{Known, Unknown}
-use Rattle.credit.specs.declared.Grant.{Grant}
 use Rattle.credit.specs.Account.{granted}
 use Rattle.sar_join.specs.declared.Joined.{Joined}
 use Rattle.sar_cut.specs.declared.Plan.{Plan}
 use Rattle.signal_headers.specs.declared.Checked.{Checked}
 use Rattle.signal_headers.specs.declared.Checked.TheVariants.{Good, Cut, Past}
-use Rattle.signal_bodies.specs.declared.CommandRejectResRead.{CommandRejectResRead}
-use Rattle.signal_bodies.specs.declared.CommandRejectResRead.TheVariants as CommandRejectRes
-use Rattle.signal_bodies.specs.declared.DisconnectionReqRead.{DisconnectionReqRead}
-use Rattle.signal_bodies.specs.declared.DisconnectionReqRead.TheVariants as DisconnectionReq
-use Rattle.signal_bodies.specs.declared.DisconnectionResRead.{DisconnectionResRead}
-use Rattle.signal_bodies.specs.declared.DisconnectionResRead.TheVariants as DisconnectionRes
-use Rattle.signal_bodies.specs.declared.ConnParamUpdateReqRead.{ConnParamUpdateReqRead}
-use Rattle.signal_bodies.specs.declared.ConnParamUpdateReqRead.TheVariants as ConnParamUpdateReq
-use Rattle.signal_bodies.specs.declared.ConnParamUpdateResRead.{ConnParamUpdateResRead}
-use Rattle.signal_bodies.specs.declared.ConnParamUpdateResRead.TheVariants as ConnParamUpdateRes
-use Rattle.signal_bodies.specs.declared.le_credit.LeCreditConnReqRead.{LeCreditConnReqRead}
-use Rattle.signal_bodies.specs.declared.le_credit.LeCreditConnReqRead.TheVariants as LeCreditConnReq
-use Rattle.signal_bodies.specs.declared.le_credit.LeCreditConnResRead.{LeCreditConnResRead}
-use Rattle.signal_bodies.specs.declared.le_credit.LeCreditConnResRead.TheVariants as LeCreditConnRes
-use Rattle.signal_bodies.specs.declared.le_credit.LeCreditFlowIndRead.{LeCreditFlowIndRead}
-use Rattle.signal_bodies.specs.declared.le_credit.LeCreditFlowIndRead.TheVariants as LeCreditFlowInd
 use Rattle.signal_forms.specs.declared.Signal.{Signal}
 use Rattle.channel.specs.declared.Answer.TheVariants.{Done}
-use Rattle.channel.specs.declared.Given.TheVariants.{Nothing, Is}
 use Rattle.channel.specs.declared.L2capChannelConfig.{L2capChannelConfig}
 use Rattle.channel.specs.declared.Slot.{Slot}
 use Rattle.channel.specs.declared.Table.{Table}
@@ -54,6 +34,15 @@ use Rattle.definition.specs.Run.{State, lent, out_window, job_window, after, run
 use Rattle.edge_layout.specs.Back.{Sized}
 use Rattle.edge_sized.specs.Kept.{Long, Kept, Like}
 use Rattle.edge_sized.proofs.Kept.{queued_long, shifted-long, long-at, itself, with-id, with-spsm, still-keeps, change-keeps, filling-keeps, sweep-keeps, if_keeps, else_keeps, gate-keeps, gate-at}
+use Rattle.codes.specs.declared.LeCreditConnResultCode.{LeCreditConnResultCode}
+use Rattle.signal_forms.specs.declared.CommandRejectRes.{CommandRejectRes}
+use Rattle.signal_forms.specs.declared.ConnParamUpdateReq.{ConnParamUpdateReq}
+use Rattle.signal_forms.specs.declared.ConnParamUpdateRes.{ConnParamUpdateRes}
+use Rattle.signal_forms.specs.declared.DisconnectionReq.{DisconnectionReq}
+use Rattle.signal_forms.specs.declared.DisconnectionRes.{DisconnectionRes}
+use Rattle.signal_forms.specs.declared.LeCreditConnReq.{LeCreditConnReq}
+use Rattle.signal_forms.specs.declared.LeCreditConnRes.{LeCreditConnRes}
+use Rattle.signal_forms.specs.declared.LeCreditFlowInd.{LeCreditFlowInd}
 
 module _ (t : Table) (w : Sized t) where
   old : (s : ℕ) → Long (slot_at t s)
@@ -64,32 +53,32 @@ module _ (t : Table) (w : Sized t) where
   pends_keeps : (link : ℕ) (up : Bool) → Kept t (next_pending t link up)
   unfolding next_pending
   pends_keeps link up =
-      gate-keeps w Nothing Nothing (Is link) Nothing
+      gate-keeps w None None (Some link) None
       (if_keeps w (λ _. else_keeps w _ _ _ itself λ _. still-keeps w itself) λ a.
       else_keeps w _ _ _ itself λ _. change-keeps w _ _ _ itself a (old (found (pending_of link) t)))
 
   rejects_all_keeps : (room signal link : ℕ) → Kept t (reject_all_pending t room signal link)
   unfolding reject_all_pending
-  rejects_all_keeps room signal link = gate-keeps w (Is room) (Is signal) (Is link) Nothing (else_keeps w _ _ _ itself λ a. change-keeps w _ _ _ itself a refl)
+  rejects_all_keeps room signal link = gate-keeps w (Some room) (Some signal) (Some link) None (else_keeps w _ _ _ itself λ a. change-keeps w _ _ _ itself a refl)
 
   accepts_keeps : (signal s : ℕ) (c : L2capChannelConfig) → Kept t (accept_pending t signal s c)
   unfolding accept_pending
   accepts_keeps signal s c =
-      gate-at w Nothing (Is signal) Nothing s λ v.
+      gate-at w None (Some signal) None s λ v.
       else_keeps w _ _ _ itself λ _. else_keeps w _ _ _ itself λ _. else_keeps w _ _ _ itself λ a. else_keeps w _ _ _ itself λ _.
       change-keeps w _ _ s itself v (old s)
 
-  rejects_keeps : (room signal s : ℕ) (result : ResultRead) → Kept t (reject_read t room signal s result)
+  rejects_keeps : (room signal s : ℕ) (result : Option LeCreditConnResultCode) → Kept t (reject_read t room signal s result)
   unfolding reject_pending not_code
-  rejects_keeps room signal s Unknown = gate-at w (Is room) (Is signal) Nothing s λ _. still-keeps w itself
-  rejects_keeps room signal s (Known result) =
-      gate-at w (Is room) (Is signal) Nothing s λ v.
+  rejects_keeps room signal s None = gate-at w (Some room) (Some signal) None s λ _. still-keeps w itself
+  rejects_keeps room signal s (Some result) =
+      gate-at w (Some room) (Some signal) None s λ v.
       else_keeps w _ _ _ itself λ _. else_keeps w _ _ _ itself λ _. change-keeps w _ _ s itself v refl
 
   drops_keeps : (room s : ℕ) → Kept t (drop_pending t room s)
   unfolding drop_pending
   drops_keeps room s =
-      gate-at w (Is room) Nothing Nothing s λ a.
+      gate-at w (Some room) None None s λ a.
       else_keeps w _ _ _ itself λ _. else_keeps w _ _ _ itself λ _.
       if_keeps w (λ _. change-keeps w _ _ s itself a refl) λ _. change-keeps w _ _ s itself a (old s)
 
@@ -98,14 +87,14 @@ module _ (t : Table) (w : Sized t) where
   creates_keeps : (signal link spsm : ℕ) (c : L2capChannelConfig) → Kept t (create t signal link spsm c)
   unfolding create
   creates_keeps signal link spsm c =
-      gate-keeps w Nothing (Is signal) (Is link) Nothing
+      gate-keeps w None (Some signal) (Some link) None
       (else_keeps w _ _ _ with-id λ _. else_keeps w _ _ _ with-id λ _. else_keeps w _ _ _ with-id λ a.
       change-keeps w _ _ _ with-id a refl)
 
   opens_keeps : (room s link : ℕ) (up : Bool) → Kept t (opened t room s link up)
   unfolding opened
   opens_keeps room s link up =
-      gate-at w (Is room) Nothing (Is link) s λ a.
+      gate-at w (Some room) None (Some link) s λ a.
       else_keeps w _ _ _ itself λ _. else_keeps w _ _ _ itself λ _.
       if_keeps w (λ _. change-keeps w _ _ s itself a refl) λ _. if_keeps w (λ _. change-keeps w _ _ s itself a refl) λ _.
       if_keeps w (λ _. change-keeps w _ _ s itself a refl) λ _.
@@ -114,19 +103,19 @@ module _ (t : Table) (w : Sized t) where
   gives-keeps : (room s : ℕ) → Kept t (give_up t room s)
   unfolding give_up
   gives-keeps room s =
-      gate-at w (Is room) Nothing Nothing s λ v.
+      gate-at w (Some room) None None s λ v.
       if_keeps w (λ _. change-keeps w _ _ s itself v refl) λ _. still-keeps w itself
 
   -- ---- Closing.antt
 
   holds-keeps : (s : ℕ) → Kept t (inc_ref t s)
   unfolding inc_ref
-  holds-keeps s = gate-at w Nothing Nothing Nothing s λ v. else_keeps w _ _ _ itself λ _. change-keeps w _ _ s itself v (old s)
+  holds-keeps s = gate-at w None None None s λ v. else_keeps w _ _ _ itself λ _. change-keeps w _ _ s itself v (old s)
 
   releases_keeps : (room s : ℕ) → Kept t (dec_ref t room s)
   unfolding dec_ref
   releases_keeps room s =
-      gate-at w (Is room) Nothing Nothing s λ a.
+      gate-at w (Some room) None None s λ a.
       else_keeps w _ _ _ itself λ _.
       if_keeps w (λ b. change-keeps w _ _ s itself a (old s)) λ _.
       change-keeps w _ _ s itself a (old s)
@@ -137,72 +126,72 @@ module _ (t : Table) (w : Sized t) where
 
   leaves-keeps : (room s : ℕ) → Kept t (disconnect t room s)
   unfolding disconnect
-  leaves-keeps room s = gate-at w (Is room) Nothing Nothing s λ v. disconnecting-keeps s v
+  leaves-keeps room s = gate-at w (Some room) None None s λ v. disconnecting-keeps s v
 
   leaves_cid_keeps : (room cid : ℕ) → Kept t (disconnect_by_cid t room cid)
   unfolding disconnect_by_cid
-  leaves_cid_keeps room cid = gate-keeps w (Is room) Nothing Nothing Nothing (if_keeps w (λ b. disconnecting-keeps (slot_of cid) (cid_slot t cid b)) λ _. still-keeps w itself)
+  leaves_cid_keeps room cid = gate-keeps w (Some room) None None None (if_keeps w (λ b. disconnecting-keeps (slot_of cid) (cid_slot t cid b)) λ _. still-keeps w itself)
 
   down_keeps : (room link : ℕ) → Kept t (disconnected t room link)
   unfolding disconnected
-  down_keeps room link = gate-keeps w (Is room) Nothing (Is link) Nothing (sweep-keeps w (of_link link))
+  down_keeps room link = gate-keeps w (Some room) None (Some link) None (sweep-keeps w (of_link link))
 
   announces_keeps : (room signal : ℕ) → Kept t (next_disconnect t room signal)
   unfolding next_disconnect
   announces_keeps room signal =
-      gate-keeps w (Is room) (Is signal) Nothing Nothing
+      gate-keeps w (Some room) (Some signal) None None
       (else_keeps w _ _ _ itself λ a. if_keeps w (λ _. change-keeps w _ _ _ itself a refl) λ _.
       change-keeps w _ _ _ with-id a (old (found due_slot t)))
 
   -- ---- Signals.antt
 
-  reject-keeps : (id : ℕ) (b : CommandRejectResRead) → Kept t (on_reject t id b)
+  reject-keeps : (id : ℕ) (b : Option CommandRejectRes) → Kept t (on_reject t id b)
   unfolding on_reject
-  reject-keeps id CommandRejectRes.Decode = still-keeps w itself
-  reject-keeps id (CommandRejectRes.Is res) = still-keeps w itself
+  reject-keeps id None = still-keeps w itself
+  reject-keeps id (Some res) = still-keeps w itself
 
-  disconnection_req-keeps : (link id : ℕ) (b : DisconnectionReqRead) → Kept t (on_disconnection_req t link id b)
+  disconnection_req-keeps : (link id : ℕ) (b : Option DisconnectionReq) → Kept t (on_disconnection_req t link id b)
   unfolding on_disconnection_req
-  disconnection_req-keeps link id DisconnectionReq.Decode = still-keeps w itself
-  disconnection_req-keeps link id (DisconnectionReq.Is req) =
+  disconnection_req-keeps link id None = still-keeps w itself
+  disconnection_req-keeps link id (Some req) =
       else_keeps w _ _ _ itself λ a. else_keeps w _ _ _ itself λ b.
       change-keeps w _ _ (slot_of req.dcid) itself (cid_slot t req.dcid (not-false _ a)) (old (slot_of req.dcid))
 
-  disconnection_res-keeps : (link id : ℕ) (b : DisconnectionResRead) → Kept t (on_disconnection_res t link id b)
+  disconnection_res-keeps : (link id : ℕ) (b : Option DisconnectionRes) → Kept t (on_disconnection_res t link id b)
   unfolding on_disconnection_res
-  disconnection_res-keeps link id DisconnectionRes.Decode = still-keeps w itself
-  disconnection_res-keeps link id (DisconnectionRes.Is res) =
+  disconnection_res-keeps link id None = still-keeps w itself
+  disconnection_res-keeps link id (Some res) =
       else_keeps w _ _ _ itself λ a. else_keeps w _ _ _ itself λ _. change-keeps w _ _ (slot_of res.scid) itself (cid_slot t res.scid (not-false _ a)) refl
 
-  parameters-keeps : (id : ℕ) (b : ConnParamUpdateReqRead) → Kept t (on_parameters t id b)
+  parameters-keeps : (id : ℕ) (b : Option ConnParamUpdateReq) → Kept t (on_parameters t id b)
   unfolding on_parameters
-  parameters-keeps id ConnParamUpdateReq.Decode = still-keeps w itself
-  parameters-keeps id (ConnParamUpdateReq.Is req) = else_keeps w _ _ _ itself λ _. still-keeps w itself
+  parameters-keeps id None = still-keeps w itself
+  parameters-keeps id (Some req) = else_keeps w _ _ _ itself λ _. still-keeps w itself
 
-  parameter_response_keeps : (id : ℕ) (b : ConnParamUpdateResRead) → Kept t (on_parameter_response t id b)
+  parameter_response_keeps : (id : ℕ) (b : Option ConnParamUpdateRes) → Kept t (on_parameter_response t id b)
   unfolding on_parameter_response
-  parameter_response_keeps id ConnParamUpdateRes.Decode = still-keeps w itself
-  parameter_response_keeps id (ConnParamUpdateRes.Is res) = still-keeps w itself
+  parameter_response_keeps id None = still-keeps w itself
+  parameter_response_keeps id (Some res) = still-keeps w itself
 
-  conn_req_keeps : (link : ℕ) (listening : Bool) (id : ℕ) (b : LeCreditConnReqRead) → Kept t (on_conn_req t link listening id b)
+  conn_req_keeps : (link : ℕ) (listening : Bool) (id : ℕ) (b : Option LeCreditConnReq) → Kept t (on_conn_req t link listening id b)
   unfolding on_conn_req
-  conn_req_keeps link listening id LeCreditConnReq.Decode = still-keeps w itself
-  conn_req_keeps link listening id (LeCreditConnReq.Is req) =
+  conn_req_keeps link listening id None = still-keeps w itself
+  conn_req_keeps link listening id (Some req) =
       else_keeps w _ _ _ itself λ _. else_keeps w _ _ _ itself λ _. else_keeps w _ _ _ itself λ _. else_keeps w _ _ _ itself λ _. else_keeps w _ _ _ itself λ a.
       change-keeps w _ _ _ itself a refl
 
-  conn_res_keeps : (link id : ℕ) (b : LeCreditConnResRead) → Kept t (on_conn_res t link id b)
+  conn_res_keeps : (link id : ℕ) (b : Option LeCreditConnRes) → Kept t (on_conn_res t link id b)
   unfolding on_conn_res
-  conn_res_keeps link id LeCreditConnRes.Decode = still-keeps w itself
-  conn_res_keeps link id (LeCreditConnRes.Is res) =
+  conn_res_keeps link id None = still-keeps w itself
+  conn_res_keeps link id (Some res) =
       if_keeps w (λ _. sweep-keeps w (attempt_of link)) λ a.
       let s : ℕ = found (attempt_by link id) t in
       if_keeps w (λ _. change-keeps w _ _ s itself a (old s)) λ _. if_keeps w (λ _. change-keeps w _ _ s itself a (old s)) λ _. change-keeps w _ _ s itself a (old s)
 
-  credits-keeps : (link id : ℕ) (b : LeCreditFlowIndRead) → Kept t (on_credits t link id b)
+  credits-keeps : (link id : ℕ) (b : Option LeCreditFlowInd) → Kept t (on_credits t link id b)
   unfolding on_credits
-  credits-keeps link id LeCreditFlowInd.Decode = still-keeps w itself
-  credits-keeps link id (LeCreditFlowInd.Is ind) =
+  credits-keeps link id None = still-keeps w itself
+  credits-keeps link id (Some ind) =
       else_keeps w _ _ _ itself λ a.
       let s : ℕ = found (connected_to link ind.cid) t in
       if_keeps w (λ _. change-keeps w _ _ s itself a (old s)) λ _. change-keeps w _ _ s itself a (old s)
@@ -224,7 +213,7 @@ module _ (t : Table) (w : Sized t) where
 
   signals_keeps : (room signal link : ℕ) (listening central : Bool) (pdu : List ℕ) → Kept t (signalled t room signal link listening central pdu)
   unfolding signalled
-  signals_keeps room signal link listening central pdu = gate-keeps w (Is room) (Is signal) (Is link) Nothing (checked-keeps link listening central pdu _)
+  signals_keeps room signal link listening central pdu = gate-keeps w (Some room) (Some signal) (Some link) None (checked-keeps link listening central pdu _)
 
   -- ---- Frames.antt
 
@@ -239,7 +228,7 @@ module _ (t : Table) (w : Sized t) where
   frame-keeps : (room link cid : ℕ) (head : List ℕ) (count : ℕ) → Kept t (dispatch t room link cid head count)
   unfolding dispatch
   frame-keeps room link cid head count =
-      gate-keeps w (Is room) Nothing (Is link) Nothing
+      gate-keeps w (Some room) None (Some link) None
       (else_keeps w _ _ _ itself λ a. else_keeps w _ _ _ itself λ _. else_keeps w _ _ _ itself λ _. if_keeps w (λ _. change-keeps w _ _ _ itself (cid_slot t cid (not-false _ a)) (old (slot_of cid))) λ _.
       joined_keeps (slot_of cid) count _ (cid_slot t cid (not-false _ a)) (old (slot_of cid)) _)
 
@@ -250,22 +239,22 @@ module _ (t : Table) (w : Sized t) where
 
   sends_keeps : (s count out : ℕ) → Kept t (send t s count out)
   unfolding send
-  sends_keeps s count out = gate-at w Nothing Nothing Nothing s λ v. else_keeps w _ _ _ itself λ _. else_keeps w _ _ _ itself λ _. planned-keeps s count v _
+  sends_keeps s count out = gate-at w None None None s λ v. else_keeps w _ _ _ itself λ _. else_keeps w _ _ _ itself λ _. planned-keeps s count v _
 
   handing-keeps : {t' : Table} (s : ℕ) (x : Slot) (signal : List Fill) → Like t t' → leb t.n s ≡ false → Long x → Kept t (handing t' s x signal)
   handing-keeps {t' = t'} s x signal q a h =
       let c = change-keeps w (with_queue (shifted x.queue) x) (moving_up t' x) s {a = Done} {out = signal} q a (shifted-long x.queue h) in
       record { sized = c.sized; n = c.n; past = c.past }
 
-  taken-keeps : (s : ℕ) → leb t.n s ≡ false → (g : Grant) → Kept t (taken t s (slot_at t s) g)
+  taken-keeps : (s : ℕ) → leb t.n s ≡ false → (g : Option ℕ) → Kept t (taken t s (slot_at t s) g)
   unfolding taken
-  taken-keeps s a Grant.Nothing = handing-keeps s (slot_at t s) _ itself a (old s)
-  taken-keeps s a (Grant.Credits n) = handing-keeps s (with_account (granted (slot_at t s).account n) (slot_at t s)) _ with-id a (old s)
+  taken-keeps s a None = handing-keeps s (slot_at t s) _ itself a (old s)
+  taken-keeps s a (Some n) = handing-keeps s (with_account (granted (slot_at t s).account n) (slot_at t s)) _ with-id a (old s)
 
   takes_keeps : (room signal s size : ℕ) → Kept t (receive t room signal s size)
   unfolding receive
   takes_keeps room signal s size =
-      gate-at w (Is room) (Is signal) Nothing s λ v.
+      gate-at w (Some room) (Some signal) None s λ v.
       else_keeps w _ _ _ itself λ _. else_keeps w _ _ _ itself λ _. else_keeps w _ _ _ itself λ _. taken-keeps s v _
 
   -- ---- Portions.antt
@@ -277,18 +266,18 @@ module _ (t : Table) (w : Sized t) where
 
   starts_keeps : (s l out : ℕ) → Kept t (start_job t s l out)
   unfolding start_job
-  starts_keeps s l out = gate-at w Nothing Nothing Nothing s λ v. else_keeps w _ _ _ itself λ _. else_keeps w _ _ _ itself λ _. start_planned-keeps s l out v _
+  starts_keeps s l out = gate-at w None None None s λ v. else_keeps w _ _ _ itself λ _. else_keeps w _ _ _ itself λ _. start_planned-keeps s l out v _
 
   portions_keeps : (s count out : ℕ) → Kept t (give_portion t s count out)
   unfolding give_portion
   portions_keeps s count out =
-      gate-at w Nothing Nothing Nothing s λ v.
+      gate-at w None None None s λ v.
       else_keeps w _ _ _ itself λ _. else_keeps w _ _ _ itself λ _. else_keeps w _ _ _ itself λ _. else_keeps w _ _ _ itself λ _. filling-keeps w _ s v (old s)
 
   cancels_keeps : (room s : ℕ) → Kept t (cancel_job t room s)
   unfolding cancel_job
   cancels_keeps room s =
-      gate-at w (Is room) Nothing Nothing s λ v.
+      gate-at w (Some room) None None s λ v.
       else_keeps w _ _ _ itself λ _. else_keeps w _ _ _ itself λ _.
       if_keeps w (λ _. change-keeps w _ _ s itself v (old s)) λ _. change-keeps w _ _ s itself v (old s)
 
@@ -296,19 +285,19 @@ module _ (t : Table) (w : Sized t) where
 
   register_keeps : (spsm : ℕ) → Kept t (register_spsm t spsm)
   unfolding register_spsm
-  register_keeps spsm = gate-keeps w Nothing Nothing Nothing Nothing (else_keeps w _ _ _ itself λ _. still-keeps w (with-spsm spsm))
+  register_keeps spsm = gate-keeps w None None None None (else_keeps w _ _ _ itself λ _. still-keeps w (with-spsm spsm))
 
   attends_keeps : Kept t (attention t)
   unfolding attention
-  attends_keeps = gate-keeps w Nothing Nothing Nothing Nothing (still-keeps w itself)
+  attends_keeps = gate-keeps w None None None None (still-keeps w itself)
 
   asks_keeps : (of : Slot → ℕ) (s : ℕ) → Kept t (query of t s)
   unfolding query
-  asks_keeps of s = gate-at w Nothing Nothing Nothing s λ _. still-keeps w itself
+  asks_keeps of s = gate-at w None None None s λ _. still-keeps w itself
 
   sends_signal_keeps : (signal link : ℕ) (s : Signal) → Kept t (send_signal t signal link s)
   unfolding send_signal
-  sends_signal_keeps signal link s = gate-keeps w Nothing (Is signal) (Is link) Nothing (still-keeps w with-id)
+  sends_signal_keeps signal link s = gate-keeps w None (Some signal) (Some link) None (still-keeps w with-id)
 
   -- ---- all calls
 

@@ -18,7 +18,6 @@ use Rattle.codes.specs.declared.Refusal.TheVariants as Refusal
 use Rattle.signal_headers.specs.Headers.{headers_of}
 use Rattle.signal_bodies.specs.LeCreditBodies.{le_credit_conn_req}
 use Rattle.channel.specs.declared.Answer.TheVariants.{Done, Refused, At, Link, Frames, Job}
-use Rattle.channel.specs.declared.Setting.TheVariants as Setting
 use Rattle.channel.specs.declared.Table.{Table}
 use Rattle.definition.specs.Mem.{Fill, held, fill, move, moves, parts, fills, written}
 use Rattle.definition.specs.Table.{index, slot_fits, well_formed}

@@ -1,12 +1,11 @@
 -- A worked run with two links and two lives, and where its marks stand after every call: two links whose peers use the same CID, a second
 -- life of link 1, buffers that overlap and buffers lent again to another link, a frame that names another link's slot, a refused
 -- link-down. So a statement that excepted more than that link's octets, or any octet longer, is refused here.
-use Rattle.std.specs.Prelude.{Bool, false, List, [], ◌∷◌, ◌++◌, map, ℕ, suc, replicate}
+use Rattle.std.specs.Prelude.{Bool, false, List, [], ◌∷◌, ◌++◌, map, ℕ, suc, replicate, None, Some}
 use Rattle.std.proofs.Math.Bool.{true}
 use Rattle.credit.specs.declared.CreditFlowPolicy.TheVariants.{Every}
 use Rattle.codes.specs.declared.Refusal.TheVariants as Refusal
 use Rattle.channel.specs.declared.L2capChannelConfig.{L2capChannelConfig}
-use Rattle.channel.specs.declared.Setting.TheVariants as Setting
 use Rattle.channel.specs.declared.Table.{Table}
 use Rattle.definition.specs.Calls.{Window, Call, frame, sends, down, plain, register, signals, pends, accepts, releases, takes}
 use Rattle.definition.specs.Calls as Calls
@@ -30,7 +29,7 @@ abbrev pub start : ℕ → State
 start z = made 2 1 29 (replicate 92 z) (replicate 30 9)
 
 abbrev pub config : L2capChannelConfig
-config = record { mtu = Setting.Default; mps = Setting.Default; policy = Every 1; credits = Setting.Is 5 }
+config = record { mtu = None; mps = None; policy = Every 1; credits = Some 5 }
 
 -- The link's phone asks for a channel (SPSM 0x80, its CID 0x50, MTU 64, MPS 23, 5 credits), and gets the slot.
 abbrev pub opening : (link slot : ℕ) → List Call

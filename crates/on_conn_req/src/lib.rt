@@ -10,7 +10,6 @@ ghost use Rattle.definition.specs.Signals.{requester, pending, on_conn_req};
 
 use channel::{Answer, ChannelState, Peer, Served, Slot, Table};
 use codes::LeCreditConnResultCode;
-use signal_bodies::le_credit::LeCreditConnReqRead;
 use signal_forms::LeCreditConnReq;
 use table_slot::Want;
 
@@ -61,14 +60,14 @@ pub fn on_conn_req(
     link: u16,
     listening: bool,
     id: u8,
-    read: LeCreditConnReqRead,
+    read: Option<LeCreditConnReq>,
 ) -> Served
     requires { signal_most ≤ length out.old }
     ensures { (t₀ : TableOf) (room job : List ℕ) → end result room out.new job ≡ end_of t₀ [] room out.old job (on_conn_req t link listening id read) }
 {
     match read {
-        LeCreditConnReqRead::Decode => on_rejects::bad_body(t, out, id),
-        LeCreditConnReqRead::Is(req) => {
+        None => on_rejects::bad_body(t, out, id),
+        Some(req) => {
             let cid = req.scid;
             if !table_spsms::is_registered(t, req.spsm) {
                 return on_rejects::refuse(t, out, id, LeCreditConnResultCode::SpsmNotSupported);

@@ -15,7 +15,6 @@ ghost use Rattle.on_conn_res.specs.Told.{told_of};
 
 use channel::{Answer, ChannelState, Peer, Served, Slot, Table};
 use codes::Refusal;
-use signal_bodies::le_credit::LeCreditConnResRead;
 use signal_forms::LeCreditConnRes;
 use table_slot::Want;
 
@@ -79,14 +78,14 @@ pub fn on_conn_res(
     out: &mut [u8],
     link: u16,
     id: u8,
-    read: LeCreditConnResRead,
+    read: Option<LeCreditConnRes>,
 ) -> Served
     requires { RoomOf t (length room.old) × (signal_most ≤ length out.old) }
     ensures { end result room.new out.new [] ≡ end_of t [] room.old out.old [] (on_conn_res t link id read) }
 {
     match read {
-        LeCreditConnResRead::Decode => on_rejects::bad_body(t, out, id),
-        LeCreditConnResRead::Is(res) => {
+        None => on_rejects::bad_body(t, out, id),
+        Some(res) => {
             let s = table::find(t, Want::AttemptBy { link, id });
             if t.n <= s {
                 return table_endings::free_all(

@@ -11,7 +11,7 @@ ghost use Rattle.table_room.specs.Placed.{RoomOf};
 
 use channel::{Served, Table};
 use codes::Refusal;
-use signal_bodies::le_credit::LeCreditFlowIndRead;
+use signal_forms::LeCreditFlowInd;
 use table_slot::Want;
 
 // Code 0x16: more credits for the first Connected slot of this link with that peer CID; a sum above 65,535 ends the channel.
@@ -21,14 +21,14 @@ pub fn on_credits(
     out: &mut [u8],
     link: u16,
     id: u8,
-    read: LeCreditFlowIndRead,
+    read: Option<LeCreditFlowInd>,
 ) -> Served
     requires { RoomOf t (length room.old) × (signal_most ≤ length out.old) }
     ensures { end result room.new out.new [] ≡ end_of t [] room.old out.old [] (on_credits t link id read) }
 {
     match read {
-        LeCreditFlowIndRead::Decode => on_rejects::bad_body(t, out, id),
-        LeCreditFlowIndRead::Is(ind) => {
+        None => on_rejects::bad_body(t, out, id),
+        Some(ind) => {
             let cid = ind.cid;
             let s = table::find(t, Want::ConnectedTo { link, cid });
             if t.n <= s {

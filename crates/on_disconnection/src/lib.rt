@@ -13,7 +13,7 @@ ghost use Rattle.table_room.specs.Placed.{RoomOf};
 
 use channel::{Answer, ChannelState, Cid, Served, Table};
 pub use response::on_disconnection_res;
-use signal_bodies::DisconnectionReqRead;
+use signal_forms::DisconnectionReq;
 
 // Code 0x06: a slot of this link that the CID names is to answer; another CID is rejected.
 pub fn on_disconnection_req(
@@ -22,14 +22,14 @@ pub fn on_disconnection_req(
     out: &mut [u8],
     link: u16,
     id: u8,
-    read: DisconnectionReqRead,
+    read: Option<DisconnectionReq>,
 ) -> Served
     requires { RoomOf t (length room.old) × (signal_most ≤ length out.old) }
     ensures { end result room.new out.new [] ≡ end_of t [] room.old out.old [] (on_disconnection_req t link id read) }
 {
     match read {
-        DisconnectionReqRead::Decode => on_rejects::bad_body(t, out, id),
-        DisconnectionReqRead::Is(req) => {
+        None => on_rejects::bad_body(t, out, id),
+        Some(req) => {
             let cid = Cid(req.dcid);
             if !table::is_cid(t, cid) {
                 return on_rejects::reject(t, out, Answer::Done, id, 2);

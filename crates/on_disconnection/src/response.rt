@@ -8,7 +8,7 @@ ghost use Rattle.definition.specs.Signals.{on_disconnection_res};
 ghost use Rattle.table_room.specs.Placed.{RoomOf};
 
 use channel::{Answer, Cid, Served, Table};
-use signal_bodies::DisconnectionResRead;
+use signal_forms::DisconnectionRes;
 
 // Code 0x07: the slot of this link that waits for it is freed.
 pub fn on_disconnection_res(
@@ -17,14 +17,14 @@ pub fn on_disconnection_res(
     out: &mut [u8],
     link: u16,
     id: u8,
-    read: DisconnectionResRead,
+    read: Option<DisconnectionRes>,
 ) -> Served
     requires { RoomOf t (length room.old) × (signal_most ≤ length out.old) }
     ensures { end result room.new out.new [] ≡ end_of t [] room.old out.old [] (on_disconnection_res t link id read) }
 {
     match read {
-        DisconnectionResRead::Decode => on_rejects::bad_body(t, out, id),
-        DisconnectionResRead::Is(res) => {
+        None => on_rejects::bad_body(t, out, id),
+        Some(res) => {
             let cid = Cid(res.scid);
             if !table::is_cid(t, cid) {
                 return table::done(t);

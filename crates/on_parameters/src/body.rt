@@ -7,18 +7,17 @@ ghost use Rattle.definition.specs.Ending.{end, end_of};
 ghost use Rattle.definition.specs.Signals.{on_parameters, on_reject, on_parameter_response};
 
 use channel::{Answer, Served, Table};
-use signal_bodies::{CommandRejectResRead, ConnParamUpdateReqRead, ConnParamUpdateResRead};
-use signal_forms::{ConnParamUpdateRes, Signal};
+use signal_forms::{CommandRejectRes, ConnParamUpdateReq, ConnParamUpdateRes, Signal};
 use signal_parameter_rule::parameters_valid;
 
 // Code 0x12 to a central: valid parameters are told to the caller, others are refused by a response.
-pub fn on_parameters(t: Table, out: &mut [u8], id: u8, read: ConnParamUpdateReqRead) -> Served
+pub fn on_parameters(t: Table, out: &mut [u8], id: u8, read: Option<ConnParamUpdateReq>) -> Served
     requires { signal_most ≤ length out.old }
     ensures { (t₀ : TableOf) (room job : List ℕ) → end result room out.new job ≡ end_of t₀ [] room out.old job (on_parameters t id read) }
 {
     match read {
-        ConnParamUpdateReqRead::Decode => on_rejects::bad_body(t, out, id),
-        ConnParamUpdateReqRead::Is(req) => {
+        None => on_rejects::bad_body(t, out, id),
+        Some(req) => {
             if parameters_valid(req) {
                 return table::still(
                     t,
@@ -38,13 +37,13 @@ pub fn on_parameters(t: Table, out: &mut [u8], id: u8, read: ConnParamUpdateReqR
 }
 
 // Code 0x01: read, and nothing more.
-pub fn on_reject(t: Table, out: &mut [u8], id: u8, read: CommandRejectResRead) -> Served
+pub fn on_reject(t: Table, out: &mut [u8], id: u8, read: Option<CommandRejectRes>) -> Served
     requires { signal_most ≤ length out.old }
     ensures { (t₀ : TableOf) (room job : List ℕ) → end result room out.new job ≡ end_of t₀ [] room out.old job (on_reject t id read) }
 {
     match read {
-        CommandRejectResRead::Decode => on_rejects::bad_body(t, out, id),
-        CommandRejectResRead::Is(_) => table::done(t),
+        None => on_rejects::bad_body(t, out, id),
+        Some(_) => table::done(t),
     }
 }
 
@@ -53,13 +52,13 @@ pub fn on_parameter_response(
     t: Table,
     out: &mut [u8],
     id: u8,
-    read: ConnParamUpdateResRead,
+    read: Option<ConnParamUpdateRes>,
 ) -> Served
     requires { signal_most ≤ length out.old }
     ensures { (t₀ : TableOf) (room job : List ℕ) → end result room out.new job ≡ end_of t₀ [] room out.old job (on_parameter_response t id read) }
 {
     match read {
-        ConnParamUpdateResRead::Decode => on_rejects::bad_body(t, out, id),
-        ConnParamUpdateResRead::Is(_) => table::done(t),
+        None => on_rejects::bad_body(t, out, id),
+        Some(_) => table::done(t),
     }
 }

@@ -1,5 +1,5 @@
 -- Every call makes only steps of the few kinds (Step.antt): one lemma a call, its tests in the definition's order.
-use Rattle.std.specs.Prelude.{◌≡◌, Bool, true, false, ◌&&◌, not, ℕ, ◌+◌, ◌-◌, ◌≤◌, ◌<◌, min, eqb, ltb, length, get_or, take, drop}
+use Rattle.std.specs.Prelude.{◌≡◌, Bool, true, false, ◌&&◌, not, ℕ, ◌+◌, ◌-◌, ◌≤◌, ◌<◌, min, eqb, ltb, length, get_or, take, drop, None, Option, Some}
 use Rattle.std.proofs.Math.Path.{refl}
 use Rattle.std.proofs.Common.{sym, ap, ◌∙◌, arith, length-take, length-drop, get_or-take, get_or-drop}
 use Rattle.std.proofs.lemmas.Bool.{false≢true}
@@ -10,38 +10,16 @@ use borrow.Author.Tests.{ltb-true, ltb-false, leb-false, eqb-true, eqb-false, no
 use Rattle.lists.specs.Choose.{choose, choose_true, choose_false, if_cases}
 use Rattle.octets.specs.Octets.{u16_at}
 use Rattle.codes.specs.Codes.{result_of}
-use Rattle.codes.specs.declared.ResultRead.{ResultRead}
-use Rattle.codes.specs.declared.ResultRead.TheVariants.{Known, Unknown}
-use Rattle.credit.specs.declared.Grant.{Grant}
-use Rattle.credit.specs.declared.Grant.TheVariants as Grant
 use Rattle.credit.specs.Account.{grant_of}
 use Rattle.signal_headers.specs.Headers.{body_in}
 use Rattle.signal_headers.specs.declared.Checked.{Checked}
 use Rattle.signal_headers.specs.declared.Checked.TheVariants.{Good, Cut, Past}
-use Rattle.signal_bodies.specs.declared.CommandRejectResRead.{CommandRejectResRead}
-use Rattle.signal_bodies.specs.declared.CommandRejectResRead.TheVariants as CommandRejectRes
-use Rattle.signal_bodies.specs.declared.DisconnectionReqRead.{DisconnectionReqRead}
-use Rattle.signal_bodies.specs.declared.DisconnectionReqRead.TheVariants as DisconnectionReq
-use Rattle.signal_bodies.specs.declared.DisconnectionResRead.{DisconnectionResRead}
-use Rattle.signal_bodies.specs.declared.DisconnectionResRead.TheVariants as DisconnectionRes
-use Rattle.signal_bodies.specs.declared.ConnParamUpdateReqRead.{ConnParamUpdateReqRead}
-use Rattle.signal_bodies.specs.declared.ConnParamUpdateReqRead.TheVariants as ConnParamUpdateReq
-use Rattle.signal_bodies.specs.declared.ConnParamUpdateResRead.{ConnParamUpdateResRead}
-use Rattle.signal_bodies.specs.declared.ConnParamUpdateResRead.TheVariants as ConnParamUpdateRes
-use Rattle.signal_bodies.specs.declared.le_credit.LeCreditConnReqRead.{LeCreditConnReqRead}
-use Rattle.signal_bodies.specs.declared.le_credit.LeCreditConnReqRead.TheVariants as LeCreditConnReq
-use Rattle.signal_bodies.specs.declared.le_credit.LeCreditConnResRead.{LeCreditConnResRead}
-use Rattle.signal_bodies.specs.declared.le_credit.LeCreditConnResRead.TheVariants as LeCreditConnRes
-use Rattle.signal_bodies.specs.declared.le_credit.LeCreditFlowIndRead.{LeCreditFlowIndRead}
-use Rattle.signal_bodies.specs.declared.le_credit.LeCreditFlowIndRead.TheVariants as LeCreditFlowInd
 use Rattle.signal_bodies.specs.LeCreditBodies.{le_credit_conn_req, res_if, le_credit_conn_res}
 use Rattle.signal_forms.specs.declared.Signal.{Signal}
 use Rattle.signal_forms.specs.declared.Signal.TheVariants as Signal
 use Rattle.channel.specs.Limits.{credits_most, size_least}
 use Rattle.channel.specs.declared.Answer.{Answer}
 use Rattle.channel.specs.declared.L2capChannelConfig.{L2capChannelConfig}
-use Rattle.channel.specs.declared.Setting.{Setting}
-use Rattle.channel.specs.declared.Setting.TheVariants as Setting
 use Rattle.channel.specs.declared.Slot.{Slot}
 use Rattle.channel.specs.declared.Table.{Table}
 use Rattle.definition.specs.Mem.{Fill}
@@ -66,20 +44,29 @@ use Rattle.rules.specs.Sound.{Sound}
 use Rattle.rules.specs.Join.{Headed}
 use Rattle.rules.proofs.Join.{step_joins, plan_passes, stepped_joined, stepped_planned, stepped_started}
 use Rattle.rules.specs.Every.{RequestGives, ResponseGives}
+use Rattle.codes.specs.declared.LeCreditConnResultCode.{LeCreditConnResultCode}
+use Rattle.signal_forms.specs.declared.CommandRejectRes.{CommandRejectRes}
+use Rattle.signal_forms.specs.declared.ConnParamUpdateReq.{ConnParamUpdateReq}
+use Rattle.signal_forms.specs.declared.ConnParamUpdateRes.{ConnParamUpdateRes}
+use Rattle.signal_forms.specs.declared.DisconnectionReq.{DisconnectionReq}
+use Rattle.signal_forms.specs.declared.DisconnectionRes.{DisconnectionRes}
+use Rattle.signal_forms.specs.declared.LeCreditConnReq.{LeCreditConnReq}
+use Rattle.signal_forms.specs.declared.LeCreditConnRes.{LeCreditConnRes}
+use Rattle.signal_forms.specs.declared.LeCreditFlowInd.{LeCreditFlowInd}
 
 -- the credits that a call offers, or D of them
-credits_fit : (usual : ℕ) (c : Setting) → usual ≤ credits_most → SettingFits c → settled usual c + 0 ≤ credits_most
-credits_fit usual Setting.Default h f = omega arith
-credits_fit usual (Setting.Is n) h f = omega arith
+credits_fit : (usual : ℕ) (c : Option ℕ) → usual ≤ credits_most → SettingFits c → settled usual c + 0 ≤ credits_most
+credits_fit usual None h f = omega arith
+credits_fit usual (Some n) h f = omega arith
 
 -- a grant is what the policy says
-granted_in : (x : Slot) (n : ℕ) → grant_in x ≡ Grant.Credits n → grant_of x.account ≡ Grant.Credits n
+granted_in : (x : Slot) (n : ℕ) → grant_in x ≡ Some n → grant_of x.account ≡ Some n
 unfolding grant_in
 granted_in x n = by_state (is_connected x.state)
   where
-    by_state : (b : Bool) → choose b (grant_of x.account) Grant.Nothing ≡ Grant.Credits n → grant_of x.account ≡ Grant.Credits n
+    by_state : (b : Bool) → choose b (grant_of x.account) None ≡ Some n → grant_of x.account ≡ Some n
     by_state true e = sym (choose_true true _ _ refl) ∙ e
-    by_state false e = let z : Grant.Nothing ≡ Grant.Credits n = sym (choose_false false _ _ refl) ∙ e in cc
+    by_state false e = let z : None ≡ Some n = sym (choose_false false _ _ refl) ∙ e in cc
 
 -- ---- what a PDU gives: numbers of two octets
 
@@ -103,9 +90,9 @@ response-gives : (body : List ℕ) → Octets body → ResponseGives (le_credit_
 unfolding le_credit_conn_res
 response-gives body o = if_cases ResponseGives _ (λ _. by (result_of (u16_at body 8))) (λ _. tt)
   where
-    by : (r : ResultRead) → ResponseGives (res_if r body)
-    by (Known c) = two_octets body o 6
-    by Unknown = tt
+    by : (r : Option LeCreditConnResultCode) → ResponseGives (res_if r body)
+    by (Some c) = two_octets body o 6
+    by None = tt
 
 -- ---- what a slot's tests tell
 
@@ -171,10 +158,10 @@ module _ (t : Table) (k room : ℕ) (l : t.n ≤ length t.slots) (well : well_fo
         tallies = refl;
       })) _ _ refl)))))
 
-  reject-pending : (signal s : ℕ) (result : ResultRead) → Stepped t k (reject_read t room signal s result)
+  reject-pending : (signal s : ℕ) (result : Option LeCreditConnResultCode) → Stepped t k (reject_read t room signal s result)
   unfolding reject_pending not_code
-  reject-pending signal s Unknown = stepped_gate t k _ _ _ _ well sized (λ _. stays refl)
-  reject-pending signal s (Known result) =
+  reject-pending signal s None = stepped_gate t k _ _ _ _ well sized (λ _. stays refl)
+  reject-pending signal s (Some result) =
       stepped_gate t k _ _ _ _ well sized (λ h. if_cases P _ (λ _. stays refl) (λ _. if_cases P _ (λ _. stays refl) (λ _. stepped_change t k s _ _ h l (free _) _ _ refl)))
 
   drop-pending : (s : ℕ) → Stepped t k (drop_pending t room s)
@@ -277,10 +264,10 @@ module _ (t : Table) (k room : ℕ) (l : t.n ≤ length t.slots) (well : well_fo
 
   -- ---- signals
 
-  on_conn_req_lem : (link : ℕ) (listening : Bool) (id : ℕ) (r : LeCreditConnReqRead) → RequestGives r → Stepped t k (on_conn_req t link listening id r)
+  on_conn_req_lem : (link : ℕ) (listening : Bool) (id : ℕ) (r : Option LeCreditConnReq) → RequestGives r → Stepped t k (on_conn_req t link listening id r)
   unfolding on_conn_req
-  on_conn_req_lem link listening id LeCreditConnReq.Decode few = stays refl
-  on_conn_req_lem link listening id (LeCreditConnReq.Is req) few =
+  on_conn_req_lem link listening id None few = stays refl
+  on_conn_req_lem link listening id (Some req) few =
       if_cases P _ (λ _. stays refl)
       (λ _. if_cases P _ (λ _. stays refl)
       (λ _. if_cases P _ (λ _. stays refl)
@@ -305,10 +292,10 @@ module _ (t : Table) (k room : ℕ) (l : t.n ≤ length t.slots) (well : well_fo
         tallies = refl;
       })) _ _ refl)))))
 
-  on_conn_res_lem : (link id : ℕ) (r : LeCreditConnResRead) → ResponseGives r → Stepped t k (on_conn_res t link id r)
+  on_conn_res_lem : (link id : ℕ) (r : Option LeCreditConnRes) → ResponseGives r → Stepped t k (on_conn_res t link id r)
   unfolding on_conn_res
-  on_conn_res_lem link id LeCreditConnRes.Decode few = stays refl
-  on_conn_res_lem link id (LeCreditConnRes.Is res) few =
+  on_conn_res_lem link id None few = stays refl
+  on_conn_res_lem link id (Some res) few =
       if_cases P _ (λ _. stepped_sweep t k (attempt_of link) _ refl)
       (λ e.
       let s = found (attempt_by link id) t in
@@ -324,10 +311,10 @@ module _ (t : Table) (k room : ℕ) (l : t.n ≤ length t.slots) (well : well_fo
       (λ _. stepped_change t k s _ _ h l (go (goes_on live refl refl ended (uncounted (λ _. quiet))) same keep (meet closed few)) _ _ refl)
       (λ b. stepped_change t k s _ _ h l (go (goes_on live refl refl (λ _ _. b) (uncounted (λ _. quiet))) same keep (meet closed few)) _ _ refl)))
 
-  on_credits_lem : (link id : ℕ) (r : LeCreditFlowIndRead) → Stepped t k (on_credits t link id r)
+  on_credits_lem : (link id : ℕ) (r : Option LeCreditFlowInd) → Stepped t k (on_credits t link id r)
   unfolding on_credits
-  on_credits_lem link id LeCreditFlowInd.Decode = stays refl
-  on_credits_lem link id (LeCreditFlowInd.Is ind) =
+  on_credits_lem link id None = stays refl
+  on_credits_lem link id (Some ind) =
       if_cases P _ (λ _. stays refl)
       (λ e.
       let s = found (connected_to link ind.cid) t in
@@ -338,37 +325,37 @@ module _ (t : Table) (k room : ℕ) (l : t.n ≤ length t.slots) (well : well_fo
       (λ f. stepped_change t k s _ _ h l
       (go (goes_on (connected-live (slot_at t s) c) (connected-begun (slot_at t s).state c) refl (λ f. f) (uncounted (λ f. f))) same keep (gain ind.credits (ltb-false _ _ f))) _ _ refl))
 
-  on_disconnection_req_lem : (link id : ℕ) (r : DisconnectionReqRead) → Stepped t k (on_disconnection_req t link id r)
+  on_disconnection_req_lem : (link id : ℕ) (r : Option DisconnectionReq) → Stepped t k (on_disconnection_req t link id r)
   unfolding on_disconnection_req
-  on_disconnection_req_lem link id DisconnectionReq.Decode = stays refl
-  on_disconnection_req_lem link id (DisconnectionReq.Is req) =
+  on_disconnection_req_lem link id None = stays refl
+  on_disconnection_req_lem link id (Some req) =
       if_cases P _ (λ _. stays refl)
       (λ e. if_cases P _ (λ _. stays refl)
       (λ f. stepped_change t k (slot_of req.dcid) _ _ (cid_within t req.dcid (not-false _ e)) l
       (go (goes_on (link-slot link (slot_at t (slot_of req.dcid)) (not-false _ f)) refl refl ended parted) same leave shut) _ _ refl))
 
-  on_disconnection_res_lem : (link id : ℕ) (r : DisconnectionResRead) → Stepped t k (on_disconnection_res t link id r)
+  on_disconnection_res_lem : (link id : ℕ) (r : Option DisconnectionRes) → Stepped t k (on_disconnection_res t link id r)
   unfolding on_disconnection_res
-  on_disconnection_res_lem link id DisconnectionRes.Decode = stays refl
-  on_disconnection_res_lem link id (DisconnectionRes.Is res) =
+  on_disconnection_res_lem link id None = stays refl
+  on_disconnection_res_lem link id (Some res) =
       if_cases P _ (λ _. stays refl)
       (λ e. if_cases P _ (λ _. stays refl)
       (λ _. stepped_change t k (slot_of res.scid) _ _ (cid_within t res.scid (not-false _ e)) l (free _) _ _ refl))
 
-  on_parameters_lem : (id : ℕ) (r : ConnParamUpdateReqRead) → Stepped t k (on_parameters t id r)
+  on_parameters_lem : (id : ℕ) (r : Option ConnParamUpdateReq) → Stepped t k (on_parameters t id r)
   unfolding on_parameters
-  on_parameters_lem id ConnParamUpdateReq.Decode = stays refl
-  on_parameters_lem id (ConnParamUpdateReq.Is req) = if_cases P _ (λ _. stays refl) (λ _. stays refl)
+  on_parameters_lem id None = stays refl
+  on_parameters_lem id (Some req) = if_cases P _ (λ _. stays refl) (λ _. stays refl)
 
-  on_reject_lem : (id : ℕ) (r : CommandRejectResRead) → Stepped t k (on_reject t id r)
+  on_reject_lem : (id : ℕ) (r : Option CommandRejectRes) → Stepped t k (on_reject t id r)
   unfolding on_reject
-  on_reject_lem id CommandRejectRes.Decode = stays refl
-  on_reject_lem id (CommandRejectRes.Is res) = stays refl
+  on_reject_lem id None = stays refl
+  on_reject_lem id (Some res) = stays refl
 
-  on_parameter_response_lem : (id : ℕ) (r : ConnParamUpdateResRead) → Stepped t k (on_parameter_response t id r)
+  on_parameter_response_lem : (id : ℕ) (r : Option ConnParamUpdateRes) → Stepped t k (on_parameter_response t id r)
   unfolding on_parameter_response
-  on_parameter_response_lem id ConnParamUpdateRes.Decode = stays refl
-  on_parameter_response_lem id (ConnParamUpdateRes.Is res) = stays refl
+  on_parameter_response_lem id None = stays refl
+  on_parameter_response_lem id (Some res) = stays refl
 
   handled-steps : (link : ℕ) (listening central : Bool) (code id : ℕ) (body : List ℕ) → Octets body → Stepped t k (handled t link listening central code id body)
   unfolding handled
@@ -398,11 +385,11 @@ module _ (t : Table) (k room : ℕ) (l : t.n ≤ length t.slots) (well : well_fo
   with-job : {o : Outcome} (j : List Fill) → Stepped t k o → Stepped t k (record { answer = o.answer; table = o.table; parts = o.parts; at = o.at; out = o.out; octets = o.octets; job = j })
   with-job j p = record { answer = p.answer; n = p.n; d = p.d; m = p.m; long = p.long; identifier = p.identifier; slots = p.slots }
 
-  taken-steps : (s : ℕ) → s < t.n → begun (slot_at t s).state ≡ true → 0 < (slot_at t s).queue.count → (g : Grant)
-      → ((n : ℕ) → g ≡ Grant.Credits n → grant_of (slot_at t s).account ≡ Grant.Credits n) → Stepped t k (taken t s (slot_at t s) g)
+  taken-steps : (s : ℕ) → s < t.n → begun (slot_at t s).state ≡ true → 0 < (slot_at t s).queue.count → (g : Option ℕ)
+      → ((n : ℕ) → g ≡ Some n → grant_of (slot_at t s).account ≡ Some n) → Stepped t k (taken t s (slot_at t s) g)
   unfolding taken
-  taken-steps s h b c Grant.Nothing f = with-job _ (stepped_change t k s _ _ h l (go (goes_on (begun-live (slot_at t s).state b) b refl (λ f. f) (uncounted (λ f. f))) same (hand b c) stay) _ _ refl)
-  taken-steps s h b c (Grant.Credits n) f =
+  taken-steps s h b c None f = with-job _ (stepped_change t k s _ _ h l (go (goes_on (begun-live (slot_at t s).state b) b refl (λ f. f) (uncounted (λ f. f))) same (hand b c) stay) _ _ refl)
+  taken-steps s h b c (Some n) f =
       with-job _ (stepped_change_spent t k s _ _ h l (go (goes_on (begun-live (slot_at t s).state b) b refl (λ f. f) (uncounted (λ f. f))) (grant (f n refl)) (hand b c) stay) _ _ refl (told (Signal.LeCreditFlowInd (record { cid = cid_of s; credits = n }))))
 
   receive-steps : (signal s size : ℕ) → Stepped t k (receive t room signal s size)

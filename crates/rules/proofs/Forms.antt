@@ -1,5 +1,5 @@
 -- The forms of an outcome and the gate before them, as steps: what a call's proof cites. Each is a law of lists.
-use Rattle.std.specs.Prelude.{◌≡◌, refl, Bool, true, false, not, eqb, length, get_or, take, set}
+use Rattle.std.specs.Prelude.{◌≡◌, refl, Bool, true, false, not, eqb, length, get_or, take, set, Option, Result}
 use Rattle.std.proofs.Common.{sym, ap, ◌∙◌, subst, not-suc-le-zero, le_of_suc-le-suc, arith, lit≤, length-set, length-take, get_or-take}
 use Rattle.std.proofs.lemmas.Bool.{false≢true}
 use mathlib.Core.List.{List, [], ◌∷◌, map}
@@ -11,10 +11,8 @@ use Rattle.lists.specs.Each.{take-map_first, length-map_first}
 use Rattle.codes.specs.Codes.{refusal_number}
 use Rattle.codes.specs.declared.Refusal.{Refusal}
 use Rattle.channel.specs.declared.Answer.{Answer}
-use Rattle.channel.specs.declared.Given.{Given}
 use Rattle.channel.specs.declared.Slot.{Slot}
 use Rattle.channel.specs.declared.Table.{Table}
-use Rattle.channel.specs.declared.Verdict.{Verdict}
 use Rattle.definition.specs.Mem.{Fill, Move, wipe}
 use Rattle.definition.specs.Table.{gap, slot_at, live, found, is_disconnected, freed, spent, room_size, well_formed}
 use Rattle.definition.specs.Outcome.{Outcome, still, change, filling, sweep, only, refuse, fails, verdict, passed, gate}
@@ -104,7 +102,7 @@ stepped_sweep t k p a ok =
 -- ---- the gate
 
 -- In a run neither refusal 1 nor refusal 2 comes: the table is well-formed, and a room that is lent has the right length.
-pub stepped_gate : (t : Table) (k : ℕ) (room signal link slot : Given) {o : Outcome} → well_formed t ≡ true → fails (λ size. not (eqb size (room_size t))) room ≡ false
+pub stepped_gate : (t : Table) (k : ℕ) (room signal link slot : Option ℕ) {o : Outcome} → well_formed t ≡ true → fails (λ size. not (eqb size (room_size t))) room ≡ false
     → (InUse t slot → Stepped t k o) → Stepped t k (gate t room signal link slot o)
 unfolding verdict
 stepped_gate t k room signal link slot {o} well sized f =
@@ -114,11 +112,11 @@ stepped_gate t k room signal link slot {o} well sized f =
     (λ _. if_cases P _ (λ _. stepped_still t k _ _ refl)
     (λ _. if_cases P _ (λ _. stepped_still t k _ _ refl) (λ e. f (given_in_use t slot e))))))
   where
-    P : Verdict → Type 0
+    P : Result (Unit {0}) Refusal → Type 0
     P v = Stepped t k (passed t v o)
 
 -- and for whatever else holds of an outcome. Its refusals are 1, 2, 3, 4 and 6.
-pub gate_refusals : (P : Outcome → Type 0) (t : Table) (room signal link slot : Given) {o : Outcome} → ((r : Refusal) → refusal_number r ≤ 6 → P (refuse t r)) → (InUse t slot → P o)
+pub gate_refusals : (P : Outcome → Type 0) (t : Table) (room signal link slot : Option ℕ) {o : Outcome} → ((r : Refusal) → refusal_number r ≤ 6 → P (refuse t r)) → (InUse t slot → P o)
     → P (gate t room signal link slot o)
 unfolding verdict
 gate_refusals P t room signal link slot {o} stop f =
@@ -126,8 +124,8 @@ gate_refusals P t room signal link slot {o} stop f =
     (λ _. if_cases Q _ (λ _. stop _ (lit≤ tt))
     (λ _. if_cases Q _ (λ _. stop _ (lit≤ tt)) (λ _. if_cases Q _ (λ _. stop _ (lit≤ tt)) (λ _. if_cases Q _ (λ _. stop _ (lit≤ tt)) (λ e. f (given_in_use t slot e))))))
   where
-    Q : Verdict → Type 0
+    Q : Result (Unit {0}) Refusal → Type 0
     Q v = P (passed t v o)
 
-pub gate_cases : (P : Outcome → Type 0) (t : Table) (room signal link slot : Given) {o : Outcome} → ((r : Refusal) → P (refuse t r)) → (InUse t slot → P o) → P (gate t room signal link slot o)
+pub gate_cases : (P : Outcome → Type 0) (t : Table) (room signal link slot : Option ℕ) {o : Outcome} → ((r : Refusal) → P (refuse t r)) → (InUse t slot → P o) → P (gate t room signal link slot o)
 gate_cases P t room signal link slot stop f = gate_refusals P t room signal link slot (λ r _. stop r) f

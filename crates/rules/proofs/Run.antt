@@ -1,7 +1,6 @@
 -- What the rules speak of: every state that a run from a made table reaches. The run is the one of the definition (Run.antt there), which
 -- demand 3 speaks of too; here is only which numbers its calls may give, and what it reaches.
 use Rattle.std.specs.Prelude.{List, [], ◌∷◌}
-use Rattle.channel.specs.declared.Setting.TheVariants as Setting
 use Rattle.definition.specs.Calls.{Call}
 use Rattle.definition.specs.Run.{State, after, run}
 use Rattle.rules.specs.Run.{AllFit, Reached, next}

@@ -1,12 +1,11 @@
 -- Document 01, 'Bench set': one table, one theorem. The rows of credits and CIDs are computed over a worked run; the row of frame counts is crate
 -- cutting's, for every job of those lengths.
-use Rattle.std.specs.Prelude.{◌≡◌, true, false, List, [], ◌∷◌, ℕ, length, replicate}
+use Rattle.std.specs.Prelude.{◌≡◌, true, false, List, [], ◌∷◌, ℕ, length, replicate, None}
 use Rattle.credit.specs.declared.CreditFlowPolicy.TheVariants.{Every}
 use Rattle.sar_cut.specs.Cutting.{payloads}
 use Rattle.sar_frames.specs.Theorems as Cut
 use Rattle.channel.specs.declared.ChannelState.TheVariants.{Connected, Disconnecting}
 use Rattle.channel.specs.declared.L2capChannelConfig.{L2capChannelConfig}
-use Rattle.channel.specs.declared.Setting.TheVariants.{Default}
 use Rattle.channel.specs.declared.Table.{Table}
 use Rattle.definition.specs.Table.{slot_at, is_cid, slot_of}
 use Rattle.definition.specs.Outcome.{Outcome}
@@ -23,7 +22,7 @@ abbrev pub asked : Table → Request → Outcome
 asked t r = decide t (plain r (record { from = 0; size = 0 }) (record { from = 0; size = 0 })) 0 232 18 0
 
 abbrev pub usual : L2capChannelConfig
-usual = record { mtu = Default; mps = Default; policy = Every 1; credits = Default }
+usual = record { mtu = None; mps = None; policy = Every 1; credits = None }
 
 -- SPSM 128 is registered; link 1's peer asks for a channel, CID 0x50, MTU 100, MPS 23, and gives 65,530 credits; we accept.
 abbrev pub open_slot : Table

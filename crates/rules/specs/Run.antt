@@ -1,10 +1,8 @@
 -- What the rules speak of: every state that a run from a made table reaches. The run is the one of the definition (Run.antt there), which
 -- demand 3 speaks of too; here is only which numbers its calls may give, and what it reaches.
-use Rattle.std.specs.Prelude.{◌≡◌, List, [], ◌∷◌, ℕ, ◌≤◌, ◌<◌, get_or}
+use Rattle.std.specs.Prelude.{◌≡◌, List, [], ◌∷◌, ℕ, ◌≤◌, ◌<◌, get_or, None, Option, Some}
 use Rattle.channel.specs.Limits.{credits_most}
 use Rattle.channel.specs.declared.Answer.TheVariants.{Done}
-use Rattle.channel.specs.declared.Setting.{Setting}
-use Rattle.channel.specs.declared.Setting.TheVariants as Setting
 use Rattle.definition.specs.Asking.{make}
 use Rattle.definition.specs.Calls.{Call, frame, sends, portions, down, plain, Request, register, signals, pends, rejects_all, accepts, rejects, drops, creates, opens, gives, holds, releases, leaves, leaves_cid, announces, takes, starts, cancels, attends, asks, sends_signal, writes}
 use Rattle.definition.specs.Run.{State, after, made}
@@ -12,9 +10,9 @@ use Rattle.definition.specs.Run.{State, after, made}
 -- ---- numbers that fit their types
 
 -- The credits that a call offers are a number of 16 bits, as in the code.
-abbrev pub SettingFits : Setting → Type 0
-SettingFits Setting.Default = Unit {0}
-SettingFits (Setting.Is n) = n ≤ credits_most
+abbrev pub SettingFits : Option ℕ → Type 0
+SettingFits None = Unit {0}
+SettingFits (Some n) = n ≤ credits_most
 
 -- A PDU is octets.
 abbrev pub Octets : List ℕ → Type 0

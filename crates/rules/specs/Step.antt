@@ -1,8 +1,7 @@
 -- What a call may do to one slot and to that slot's part of the room, and to all of them: the few kinds of change from which every
 -- rule follows. Rests on nothing but the definition's own words.
-use Rattle.std.specs.Prelude.{◌≡◌, Bool, true, false, ◌&&◌, not, List, [], ◌∷◌, ℕ, ◌+◌, ◌-◌, ◌≤◌, ◌<◌, eqb, length}
+use Rattle.std.specs.Prelude.{◌≡◌, Bool, true, false, ◌&&◌, not, List, [], ◌∷◌, ℕ, ◌+◌, ◌-◌, ◌≤◌, ◌<◌, eqb, length, Some}
 use Rattle.credit.specs.declared.CreditFlowControl.{CreditFlowControl}
-use Rattle.credit.specs.declared.Grant.TheVariants.{Credits}
 use Rattle.credit.specs.Account.{received, granted, grant_of, credit_sum}
 use Rattle.sar_join.specs.declared.Assembly.{Assembly}
 use Rattle.sar_join.specs.Joining.{idle}
@@ -33,7 +32,7 @@ use Rattle.rules.specs.Tests.{begun, Least, counting}
 pub data Accounting (a : CreditFlowControl) : CreditFlowControl → Type 0 where
   same : Accounting a a
   use_one : (a.credits ≡ 0 → ⊥) → Accounting a (received a 1)
-  grant : {n : ℕ} → grant_of a ≡ Credits n → Accounting a (granted a n)
+  grant : {n : ℕ} → grant_of a ≡ Some n → Accounting a (granted a n)
 
 -- ---- jobs: what becomes of the assembly, of the waiting jobs and of their places. k is the number of job octets that the call brings.
 

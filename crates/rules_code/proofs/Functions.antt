@@ -1,7 +1,7 @@
 -- Each public function of the calls: what its contract says, word for word, is a call of the run. The contract's `room.old` is the
 -- state's room, `signal.old` the window of its memory that is lent, and `.new` what stands there after. One lemma a function; a
 -- function that is lent no buffer is called with no window.
-use Rattle.std.specs.Prelude.{◌≡◌, Bool, true, ℕ, length}
+use Rattle.std.specs.Prelude.{◌≡◌, Bool, true, ℕ, length, Some}
 use Rattle.std.proofs.Math.Path.{refl}
 use Rattle.std.proofs.Common.{sym, ap, ◌∙◌, arith}
 use mathlib.Core.List.{List, []}
@@ -9,7 +9,6 @@ use Rattle.std.proofs.lemmas.List.Edits.{sets}
 use Rattle.lists.specs.Sets.{sets-out}
 use Rattle.codes.specs.Codes.{result_of}
 use Rattle.codes.specs.declared.LeCreditConnResultCode.{LeCreditConnResultCode}
-use Rattle.codes.specs.declared.ResultRead.TheVariants.{Known}
 use Rattle.signal_forms.specs.declared.Signal.TheVariants.{ConnParamUpdateReq, ConnParamUpdateRes}
 use Rattle.channel.specs.declared.Answer.TheVariants.{Done}
 use Rattle.channel.specs.declared.L2capChannelConfig.{L2capChannelConfig}
@@ -212,9 +211,9 @@ module _ (s : State) (r : Served) where
     reject_all_pending_called link room' h = told s (rejects_all link) r w l room' signal' h
 
     pub reject_pending_called : (slot : ℕ) (result : LeCreditConnResultCode) (room' : List ℕ) → end r room' signal' [] ≡ end_of s.table [] s.room (lent w s.memory) [] (reject_pending s.table (length s.room) (length (lent w s.memory)) slot result)
-        → Called s (plain (rejects slot (Known result)) w nowhere) r (left r room' (sets s.memory w.from signal'))
+        → Called s (plain (rejects slot (Some result)) w nowhere) r (left r room' (sets s.memory w.from signal'))
     unfolding serve
-    reject_pending_called slot result room' h = told s (rejects slot (Known result)) r w l room' signal' h
+    reject_pending_called slot result room' h = told s (rejects slot (Some result)) r w l room' signal' h
 
     -- by a number, which may be no code
     pub reject_numbered_called : (slot result : ℕ) (room' : List ℕ) → end r room' signal' [] ≡ end_of s.table [] s.room (lent w s.memory) [] (reject_numbered s.table (length s.room) (length (lent w s.memory)) slot result)

@@ -1,6 +1,6 @@
 -- Exact rejoining at the table (F), the receiving side: the frames of a job, as they come to a slot with other calls between them, leave that job
 -- waiting there; a take then hands it out (Taking.antt). Rests on what one frame comes to (Join.antt) and on the jobs of a part (Waiting.antt).
-use Rattle.std.specs.Prelude.{◌≡◌, Bool, true, false, ◌&&◌, ℕ, zero, suc, ◌+◌, ◌-◌, ◌*◌, ◌/◌, ◌%◌, ◌≤◌, ◌<◌, leb, get_or, take, drop, set}
+use Rattle.std.specs.Prelude.{◌≡◌, Bool, true, false, ◌&&◌, ℕ, zero, suc, ◌+◌, ◌-◌, ◌*◌, ◌/◌, ◌%◌, ◌≤◌, ◌<◌, leb, get_or, take, drop, set, None, Ok, Some}
 use Rattle.std.proofs.Math.Path.{refl, ap, subst}
 use Rattle.std.proofs.Common.{sym, ◌∙◌, subst₂, zero-mul, zero-add, mul-le-mul_right, add-one, length-drop, take_all, take_at, drop-drop, get_or-set_same, length-take-le, le-leb, lt-ltb, le-ltb, eq-eqb, ne_eqb}
 use Rattle.std.proofs.Math.Bool.{not, and-false}
@@ -19,10 +19,8 @@ use Rattle.sar_join.specs.declared.Assembly.{Assembly}
 use Rattle.sar_join.specs.Joining.{is_idle, idle, join_step}
 use Rattle.channel.specs.Limits.{cid_base, handle_most, depth_most, job_head}
 use Rattle.channel.specs.declared.Answer.TheVariants.{Done}
-use Rattle.channel.specs.declared.Given.TheVariants.{Nothing, Is}
 use Rattle.channel.specs.declared.Slot.{Slot}
 use Rattle.channel.specs.declared.Table.{Table}
-use Rattle.channel.specs.declared.Verdict.TheVariants.{Pass}
 use Rattle.definition.specs.Mem.{Move, put, job, fill, move, moves, parts}
 use Rattle.definition.specs.Table.{place_of, width, room_size, gap, slot_at, is_connected, with_account, with_assembly, with_queue, count_received, cid_of, is_cid, slot_of, well_formed}
 use Rattle.definition.specs.Outcome.{Outcome, change, only, verdict}
@@ -91,7 +89,7 @@ cid_slot i = omega arith
 cid_names : (t : Table) (i : ℕ) → i < t.n → is_cid t (cid_of i) ≡ true
 cid_names t i h = and_both (leb cid_base (cid_of i)) _ (le-leb cid_base (cid_of i) (omega arith)) (rw (cid_slot i) (lt-ltb i t.n h))
 
-verdict-passes : (t : Table) (room link : ℕ) → well_formed t ≡ true → room ≡ room_size t → link ≤ handle_most → verdict t (Is room) Nothing (Is link) Nothing ≡ Pass
+verdict-passes : (t : Table) (room link : ℕ) → well_formed t ≡ true → room ≡ room_size t → link ≤ handle_most → verdict t (Some room) None (Some link) None ≡ Ok tt
 unfolding verdict
 verdict-passes t room link well size l =
     choose_false _ _ _ (ap not well) ∙ choose_false _ _ _ (ap not (eq-eqb room (room_size t) size)) ∙ choose_false _ _ _ refl

@@ -1,6 +1,6 @@
 -- A take that answers a job hands out the oldest, whole, and leaves the others in their order; a buffer that is too short leaves all, and one of the slot's MTU
 -- never is. So the job that was rejoined is the job taken (F). Rests on the jobs of a part (Waiting.antt).
-use Rattle.std.specs.Prelude.{◌≡◌, refl, Bool, true, false, not, List, [], ◌∷◌, ℕ, ◌+◌, ◌-◌, ◌*◌, ◌≤◌, ◌<◌, min, eqb, ltb, length, get_or, take, drop}
+use Rattle.std.specs.Prelude.{◌≡◌, refl, Bool, true, false, not, List, [], ◌∷◌, ℕ, ◌+◌, ◌-◌, ◌*◌, ◌≤◌, ◌<◌, min, eqb, ltb, length, get_or, take, drop, None, Ok, Option, Some}
 use Rattle.std.proofs.Common.{sym, ap, ◌∙◌, subst, append-nil, suc-mul, one-mul, mul-le-mul_right, arith, length-take, length-drop, ext_get_or, le-ltb, lt-ltb, ltb-true, ltb-false, eq-eqb, ne_eqb, eqb-true}
 use Rattle.std.proofs.lemmas.List.Edits.{sets}
 use Rattle.std.proofs.Math.Seq.{length-sets}
@@ -10,15 +10,11 @@ use Rattle.octets.specs.Octets.{part}
 use Rattle.octets.specs.Sets.{part_length, part_at, sets-before, sets-after, sets_inside}
 use Rattle.codes.specs.declared.Refusal.{Refusal}
 use Rattle.codes.specs.declared.Refusal.TheVariants.{InsufficientSpace}
-use Rattle.credit.specs.declared.Grant.{Grant}
-use Rattle.credit.specs.declared.Grant.TheVariants as Grant
 use Rattle.channel.specs.Limits.{signal_most}
 use Rattle.channel.specs.declared.Answer.TheVariants.{Done, Refused, Job}
-use Rattle.channel.specs.declared.Given.TheVariants.{Nothing, Is}
 use Rattle.channel.specs.declared.Queue.{Queue}
 use Rattle.channel.specs.declared.Slot.{Slot}
 use Rattle.channel.specs.declared.Table.{Table}
-use Rattle.channel.specs.declared.Verdict.TheVariants.{Pass}
 use Rattle.definition.specs.Mem.{Fill, held, fill, fills, written, moves, parts}
 use Rattle.definition.specs.Table.{place_of, width, room_size, slot_at, well_formed}
 use Rattle.definition.specs.Outcome.{Outcome, refuse, verdict}
@@ -55,10 +51,10 @@ part-part xs b w o n h l =
         let e : b + (o + k) ≡ b + o + k = omega arith in
         part_at 0 (part xs b w) o n k q ∙ part_at 0 xs b w (o + k) (omega arith) ∙ ap (λ (i : ℕ). get_or xs i 0) e ∙ sym (part_at 0 xs (b + o) n k q)
 
-hands : (t : Table) (i : ℕ) (x : Slot) (g : Grant) → Hands t i x (taken t i x g)
+hands : (t : Table) (i : ℕ) (x : Slot) (g : Option ℕ) → Hands t i x (taken t i x g)
 unfolding taken
-hands t i x Grant.Nothing = record { slot = _; queue = refl; slots = refl; parts = refl; answer = refl; job = refl }
-hands t i x (Grant.Credits n) = record { slot = _; queue = refl; slots = refl; parts = refl; answer = refl; job = refl }
+hands t i x None = record { slot = _; queue = refl; slots = refl; parts = refl; answer = refl; job = refl }
+hands t i x (Some n) = record { slot = _; queue = refl; slots = refl; parts = refl; answer = refl; job = refl }
 
 -- what is not refused has passed them, unless it says that no job waits
 passed : (s : State) (i : ℕ) (w v : Window) → answer_number (outcome s (taking i w v)).answer ≡ 0
@@ -82,7 +78,7 @@ passed s i w v =
     refused : (r : Refusal) → P (refuse t r)
     refused r e f = absurd (eqb-false _ 0 (refused_not_0 r) e)
 
-verdict-passes : (t : Table) (room signal i : ℕ) → well_formed t ≡ true → room ≡ room_size t → signal_most ≤ signal → i < t.n → verdict t (Is room) (Is signal) Nothing (Is i) ≡ Pass
+verdict-passes : (t : Table) (room signal i : ℕ) → well_formed t ≡ true → room ≡ room_size t → signal_most ≤ signal → i < t.n → verdict t (Some room) (Some signal) None (Some i) ≡ Ok tt
 unfolding verdict
 verdict-passes t room signal i well size l h =
     choose_false _ _ _ (ap not well) ∙ choose_false _ _ _ (ap not (eq-eqb room (room_size t) size)) ∙ choose_false _ _ _ (le-ltb signal signal_most l)

@@ -1,7 +1,6 @@
 -- A take that answers a job hands out the oldest, whole, and leaves the others in their order; a buffer that is too short leaves all, and one of the slot's MTU
 -- never is. So the job that was rejoined is the job taken (F). Rests on the jobs of a part (Waiting.antt).
 use Rattle.std.specs.Prelude.{◌≡◌, true, [], ◌∷◌, ℕ, suc, ◌-◌, ◌≤◌, ◌<◌, length, set}
-use Rattle.credit.specs.declared.Grant.TheVariants as Grant
 use Rattle.channel.specs.declared.Answer.TheVariants.{Job}
 use Rattle.channel.specs.declared.Slot.{Slot}
 use Rattle.channel.specs.declared.Table.{Table}

@@ -1,5 +1,5 @@
 -- From what a call is answered to what it came to and left: a start, a portion, a cancel and a send that are answered 0 passed every refusal.
-use Rattle.std.specs.Prelude.{◌≡◌, refl, Bool, true, false, not, List, [], ◌∷◌, ℕ, ◌-◌, ◌≤◌, ◌<◌, min, length, take, drop}
+use Rattle.std.specs.Prelude.{◌≡◌, refl, Bool, true, false, not, List, [], ◌∷◌, ℕ, ◌-◌, ◌≤◌, ◌<◌, min, length, take, drop, Err, Ok, Option, Result}
 use Rattle.std.proofs.Common.{sym, ap, ap₂, ◌∙◌, arith, length-drop, length-take, get_or-set_same, le-ltb, ltb-false}
 use Rattle.std.proofs.lemmas.Bool.{false≢true, not-false}
 use Rattle.std.proofs.Math.ListN.{get_or-eq_default}
@@ -17,11 +17,8 @@ use Rattle.sar_cut.proofs.CutLaws.{split}
 use Rattle.sar_cut.proofs.CutLaws.{plan_allowed, plan_frames}
 use Rattle.channel.specs.declared.Answer.{Answer}
 use Rattle.channel.specs.declared.Answer.TheVariants.{Done, Refused, Frames, Portion}
-use Rattle.channel.specs.declared.Given.{Given}
 use Rattle.channel.specs.declared.Slot.{Slot}
 use Rattle.channel.specs.declared.Table.{Table}
-use Rattle.channel.specs.declared.Verdict.{Verdict}
-use Rattle.channel.specs.declared.Verdict.TheVariants.{Pass, Stop}
 use Rattle.definition.specs.Mem.{Fill, given, fills, written}
 use Rattle.definition.specs.Table.{gap, slot_at, is_connected, is_open, with_peer_credits, with_job, count_sent, blocks}
 use Rattle.definition.specs.Outcome.{Outcome, filling, change, refuse, verdict, passed, gate}
@@ -67,13 +64,13 @@ filling-leaves s c i y a at fs octets v h e =
 -- ---- the gate, and the refusals behind it
 
 -- what holds of a refusal, and of what follows the gate, holds of both together
-pub gate_cases : (P : Outcome → Type 0) (t : Table) (room signal link slot : Given) {o : Outcome} → ((r : Refusal) → P (refuse t r)) → (verdict t room signal link slot ≡ Pass → P o)
+pub gate_cases : (P : Outcome → Type 0) (t : Table) (room signal link slot : Option ℕ) {o : Outcome} → ((r : Refusal) → P (refuse t r)) → (verdict t room signal link slot ≡ Ok tt → P o)
     → P (gate t room signal link slot o)
 gate_cases P t room signal link slot {o} stop f = go (verdict t room signal link slot) refl
   where
-    go : (v : Verdict) → verdict t room signal link slot ≡ v → P (passed t v o)
-    go Pass e = f e
-    go (Stop r) e = stop r
+    go : (v : Result (Unit {0}) Refusal) → verdict t room signal link slot ≡ v → P (passed t v o)
+    go (Ok tt) e = f e
+    go (Err r) e = stop r
 
 -- a Connected slot stands in the table's list
 pub slot_there : (t : Table) (i : ℕ) → is_connected (slot_at t i).state ≡ true → i < length t.slots
@@ -104,7 +101,7 @@ pub portion-is : (t : Table) (i count size : ℕ) → Admits t i → is_open (sl
     → count ≤ (slot_at t i).job.length - (slot_at t i).job.taken → give_portion t i count size ≡ portioned t i (slot_at t i) count
 unfolding give_portion
 portion-is t i count size a going big fits =
-    ap (λ (v : Verdict). passed t v (portion_on t i count size)) a.passes ∙ choose_false _ _ _ (ap not a.on) ∙ choose_false _ _ _ (ap not going) ∙ choose_false _ _ _ (le-ltb size _ big) ∙ choose_false _ _ _ (le-ltb _ count fits)
+    ap (λ (v : Result (Unit {0}) Refusal). passed t v (portion_on t i count size)) a.passes ∙ choose_false _ _ _ (ap not a.on) ∙ choose_false _ _ _ (ap not going) ∙ choose_false _ _ _ (le-ltb size _ big) ∙ choose_false _ _ _ (le-ltb _ count fits)
 
 -- ---- start and send
 
@@ -153,7 +150,7 @@ pub start_is : (t : Table) (i l size n : ℕ) → Admits t i → is_open (slot_a
 unfolding start_job start_planned
 start_is t i l size n a shut q big =
     let x = slot_at t i in
-    ap (λ (v : Verdict). (passed t v (start_on t i l size)).answer) a.passes
+    ap (λ (v : Result (Unit {0}) Refusal). (passed t v (start_on t i l size)).answer) a.passes
     ∙ ap (λ (o : Outcome). o.answer) (choose_false _ (refuse t ChannelClosed) _ (ap not a.on) ∙ choose_false _ (refuse t JobOpen) _ shut
     ∙ ap (start_planned t i x l size) (sym (plan_frames l x.peer.mtu x.peer.mps x.peer.credits (frames_length l x.peer.mps) q.fits q.short q.wide q.paid q.holds))
     ∙ choose_false _ (refuse t NoRoom) _ (le-ltb size _ big))
@@ -194,7 +191,7 @@ pub send-is : (t : Table) (i l size n : ℕ) → Admits t i → is_open (slot_at
 unfolding send planned
 send-is t i l size n a shut q =
     let x = slot_at t i in
-    ap (λ (v : Verdict). (passed t v (sent_on t i l size)).answer) a.passes
+    ap (λ (v : Result (Unit {0}) Refusal). (passed t v (sent_on t i l size)).answer) a.passes
     ∙ ap (λ (o : Outcome). o.answer) (choose_false _ (refuse t ChannelClosed) _ (ap not a.on) ∙ choose_false _ (refuse t JobOpen) _ shut
     ∙ ap (planned t i x l) (sym (plan_frames l x.peer.mtu x.peer.mps x.peer.credits size q.fits q.short q.wide q.paid q.holds)))
     ∙ ap (Frames x.link) (sym q.frames)

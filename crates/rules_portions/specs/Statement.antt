@@ -1,7 +1,7 @@
 -- A JOB HANDED OVER IN PORTIONS: what is said of it (document 02 (i)). "The same frames, demand 3 and (x) are promised where each open job has a buffer of its
 -- own, which every portion gets as that job's last call left it; the caller sees to that. Cutting the portions elsewhere gives the same frames as one
 -- send." The theorems are in Theorems.antt, for a start that was answered with n frames in s and left s₁ and, in its buffer, b₁; what they say is here, over calls and runs of the definition (Calls.antt, Run.antt).
-use Rattle.std.specs.Prelude.{◌≡◌, Bool, true, false, List, [], ◌∷◌, ◌++◌, ℕ, zero, suc, ◌+◌, ◌-◌, ◌*◌, ◌≤◌, ◌<◌, length, get_or, take}
+use Rattle.std.specs.Prelude.{◌≡◌, Bool, true, false, List, [], ◌∷◌, ◌++◌, ℕ, zero, suc, ◌+◌, ◌-◌, ◌*◌, ◌≤◌, ◌<◌, length, get_or, take, None, Ok, Some}
 use Rattle.lists.specs.Choose.{choose}
 use Rattle.octets.specs.Octets.{part, le16}
 use Rattle.sar_cut.specs.Cutting.{frames_length, frame, joined, frame_at, frames_of}
@@ -9,10 +9,8 @@ use Rattle.channel.specs.Limits.{frame_head}
 use Rattle.channel.specs.declared.Answer.TheVariants.{Frames, Portion}
 use Rattle.channel.specs.declared.ChannelState.TheVariants.{Disconnecting}
 use Rattle.channel.specs.declared.OpenJob.{OpenJob}
-use Rattle.channel.specs.declared.Given.TheVariants.{Nothing, Is}
 use Rattle.channel.specs.declared.Slot.{Slot}
 use Rattle.channel.specs.declared.Table.{Table}
-use Rattle.channel.specs.declared.Verdict.TheVariants.{Pass}
 use Rattle.definition.specs.Slots.{with_peer_credits, with_job, with_tallies, no_job, no_tallies, count_sent, left}
 use Rattle.definition.specs.Table.{slot_at, is_connected, is_open}
 use Rattle.definition.specs.Outcome.{verdict}
@@ -93,7 +91,7 @@ somes (portion w (suc c) link taken full h a d) = suc (somes d)
 
 -- The first refusals let a call on slot i through, and the slot is Connected.
 pub record Admits (t : Table) (i : ℕ) : Type 0 where
-  pub passes : verdict t Nothing Nothing Nothing (Is i) ≡ Pass
+  pub passes : verdict t None None None (Some i) ≡ Ok tt
   pub on : is_connected (slot_at t i).state ≡ true
 
 -- It is answered 0, and where it has an octet or more (of a job that has any) it takes at least one.

@@ -1,6 +1,6 @@
 -- The attention set's law, proved: `calls` of the definition says what `Calling` says, state by state, and the laws of `bitset`, `count` and
 -- `first` (crate lists) do the rest.
-use Rattle.std.specs.Prelude.{◌≡◌, Bool, ◌||◌, [], ltb, length, take, get_or}
+use Rattle.std.specs.Prelude.{◌≡◌, Bool, ◌||◌, [], ltb, length, take, get_or, Result}
 use Rattle.std.proofs.Math.Path.{refl, subst}
 use Rattle.std.proofs.Common.{sym, ap, ◌∙◌, arith, length-take, get_or-take, ltb-true, lt-ltb}
 use Rattle.std.proofs.Math.Bool.{true, false}
@@ -14,7 +14,6 @@ use Rattle.channel.specs.declared.ChannelState.{ChannelState}
 use Rattle.channel.specs.declared.ChannelState.TheVariants.{Disconnected, Connecting, PeerConnecting, Connected, ConnectFailed, PeerDisconnecting, Disconnecting}
 use Rattle.channel.specs.declared.Slot.{Slot}
 use Rattle.channel.specs.declared.Table.{Table}
-use Rattle.channel.specs.declared.Verdict.{Verdict}
 use Rattle.definition.specs.Table.{gap, slot_at, live, is_due, is_connect_failed, calls}
 use Rattle.definition.specs.Outcome.{verdict, passed, still}
 use Rattle.definition.specs.Asking.{attention}
@@ -22,6 +21,7 @@ use Rattle.definition.specs.Calls.{bare, serve, decide}
 use Rattle.definition.specs.Forms.{Fit}
 use Rattle.rules_slots.specs.Attention.{Calling, job, answer_due, request_due, failed, Number, none, more, same, Attends, Told, refused, told, AttentionLaw}
 use Rattle.rules_slots.proofs.Lists.{first-within, first_below, count-more}
+use Rattle.codes.specs.declared.Refusal.{Refusal}
 
 -- ---- the test says what the words say
 
@@ -99,7 +99,7 @@ module _ (t : Table) (fit : Fit t) where
       if_cases P _ (λ e. absurd (false≢true e)) λ _. if_cases P _ (λ e. absurd (false≢true e)) λ _.
       if_cases P _ (λ e. absurd (false≢true e)) λ _. if_cases P _ (λ e. absurd (false≢true e)) λ _. told attending
     where
-      P : Verdict → Type 0
+      P : Result (Unit {0}) Refusal → Type 0
       P v = Told t (passed t v (still t (Attention (bitset calls (live t)) (count calls (live t)) (first calls (live t))) [])).answer
 
 pub attention_law : AttentionLaw

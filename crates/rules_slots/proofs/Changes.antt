@@ -1,15 +1,11 @@
 -- Which slots a call changes, proved: one lemma a call, from the forms in Kept.antt; a search finds the slot that the law names (States.antt).
-use Rattle.std.specs.Prelude.{◌≡◌, refl, Bool, false, ℕ, ◌+◌, ◌-◌, ◌<◌, leb, get_or}
+use Rattle.std.specs.Prelude.{◌≡◌, refl, Bool, false, ℕ, ◌+◌, ◌-◌, ◌<◌, leb, get_or, None, Option, Some}
 use Rattle.std.proofs.Common.{sym, arith}
 use Rattle.std.proofs.Math.Path.{subst}
 use Rattle.std.proofs.Math.Bool.{true}
 use mathlib.Core.List.{List, []}
 use borrow.Author.Tests.{eqb-true, not-false, leb-true}
 use Rattle.lists.specs.Both.{and_left}
-use Rattle.codes.specs.declared.ResultRead.{ResultRead}
-use Rattle.codes.specs.declared.ResultRead.TheVariants.{Known, Unknown}
-use Rattle.credit.specs.declared.Grant.{Grant}
-use Rattle.credit.specs.declared.Grant.TheVariants as Grant
 use Rattle.credit.specs.Account.{granted}
 use Rattle.sar_join.specs.declared.Joined.{Joined}
 use Rattle.sar_join.specs.declared.Joined.TheVariants as Joined
@@ -20,26 +16,9 @@ use Rattle.signal_headers.specs.declared.Checked.{Checked}
 use Rattle.signal_headers.specs.declared.Checked.TheVariants.{Good, Cut, Past}
 use Rattle.signal_bodies.specs.Bodies.{disconnection_req, disconnection_res}
 use Rattle.signal_bodies.specs.LeCreditBodies.{le_credit_flow_ind}
-use Rattle.signal_bodies.specs.declared.CommandRejectResRead.{CommandRejectResRead}
-use Rattle.signal_bodies.specs.declared.CommandRejectResRead.TheVariants as CommandRejectRes
-use Rattle.signal_bodies.specs.declared.DisconnectionReqRead.{DisconnectionReqRead}
-use Rattle.signal_bodies.specs.declared.DisconnectionReqRead.TheVariants as DisconnectionReq
-use Rattle.signal_bodies.specs.declared.DisconnectionResRead.{DisconnectionResRead}
-use Rattle.signal_bodies.specs.declared.DisconnectionResRead.TheVariants as DisconnectionRes
-use Rattle.signal_bodies.specs.declared.ConnParamUpdateReqRead.{ConnParamUpdateReqRead}
-use Rattle.signal_bodies.specs.declared.ConnParamUpdateReqRead.TheVariants as ConnParamUpdateReq
-use Rattle.signal_bodies.specs.declared.ConnParamUpdateResRead.{ConnParamUpdateResRead}
-use Rattle.signal_bodies.specs.declared.ConnParamUpdateResRead.TheVariants as ConnParamUpdateRes
-use Rattle.signal_bodies.specs.declared.le_credit.LeCreditConnReqRead.{LeCreditConnReqRead}
-use Rattle.signal_bodies.specs.declared.le_credit.LeCreditConnReqRead.TheVariants as LeCreditConnReq
-use Rattle.signal_bodies.specs.declared.le_credit.LeCreditConnResRead.{LeCreditConnResRead}
-use Rattle.signal_bodies.specs.declared.le_credit.LeCreditConnResRead.TheVariants as LeCreditConnRes
-use Rattle.signal_bodies.specs.declared.le_credit.LeCreditFlowIndRead.{LeCreditFlowIndRead}
-use Rattle.signal_bodies.specs.declared.le_credit.LeCreditFlowIndRead.TheVariants as LeCreditFlowInd
 use Rattle.signal_forms.specs.declared.Signal.{Signal}
 use Rattle.channel.specs.Limits.{cid_base}
 use Rattle.channel.specs.declared.Answer.TheVariants.{Done}
-use Rattle.channel.specs.declared.Given.TheVariants.{Nothing, Is}
 use Rattle.channel.specs.declared.L2capChannelConfig.{L2capChannelConfig}
 use Rattle.channel.specs.declared.Slot.{Slot}
 use Rattle.channel.specs.declared.Table.{Table}
@@ -61,6 +40,15 @@ use Rattle.rules_slots.proofs.States.{free-says, free_said, used-says, of-says, 
 use Rattle.rules_slots.specs.Change.{BySignal, disconnects, frees, connects, matches, unmatched, credits, Asking, MayChange, Registers, registers, ChangeLaw}
 use Rattle.rules_slots.specs.Kept.{Like, Keeps}
 use Rattle.rules_slots.proofs.Kept.{as_is, with-id, still-keeps, change-keeps, filling-keeps, sweep-keeps, if_keeps, else_keeps, gate-keeps, gate-at, part-kept}
+use Rattle.codes.specs.declared.LeCreditConnResultCode.{LeCreditConnResultCode}
+use Rattle.signal_forms.specs.declared.CommandRejectRes.{CommandRejectRes}
+use Rattle.signal_forms.specs.declared.ConnParamUpdateReq.{ConnParamUpdateReq}
+use Rattle.signal_forms.specs.declared.ConnParamUpdateRes.{ConnParamUpdateRes}
+use Rattle.signal_forms.specs.declared.DisconnectionReq.{DisconnectionReq}
+use Rattle.signal_forms.specs.declared.DisconnectionRes.{DisconnectionRes}
+use Rattle.signal_forms.specs.declared.LeCreditConnReq.{LeCreditConnReq}
+use Rattle.signal_forms.specs.declared.LeCreditConnRes.{LeCreditConnRes}
+use Rattle.signal_forms.specs.declared.LeCreditFlowInd.{LeCreditFlowInd}
 
 cid_names : (t : Table) (cid : ℕ) → is_cid t cid ≡ true → cid ≡ cid_base + slot_of cid
 cid_names t cid e = omega (arith, leb-true cid_base cid (and_left (leb cid_base cid) _ e))
@@ -76,38 +64,38 @@ module _ (t : Table) (fit : Fit t) (Reg : Type 0) where
     accepts_alone : (signal : ℕ) (c : L2capChannelConfig) → Alone (Asking t (accepts s c)) (accept_pending t signal s c)
     unfolding accept_pending
     accepts_alone signal c =
-        gate-at Nothing (Is signal) Nothing s λ h.
+        gate-at None (Some signal) None s λ h.
         else_keeps _ _ _ as_is λ _. else_keeps _ _ _ as_is λ _. else_keeps _ _ _ as_is λ _. else_keeps _ _ _ as_is λ _. change-keeps s _ _ as_is (h, refl)
 
-    rejects_alone : (room signal : ℕ) (result : ResultRead) → Alone (Asking t (rejects s result)) (reject_read t room signal s result)
+    rejects_alone : (room signal : ℕ) (result : Option LeCreditConnResultCode) → Alone (Asking t (rejects s result)) (reject_read t room signal s result)
     unfolding reject_pending not_code
-    rejects_alone room signal Unknown = gate-keeps (Is room) (Is signal) Nothing (Is s) (still-keeps as_is)
-    rejects_alone room signal (Known result) =
-        gate-at (Is room) (Is signal) Nothing s λ h. else_keeps _ _ _ as_is λ _. else_keeps _ _ _ as_is λ _. change-keeps s _ _ as_is (h, refl)
+    rejects_alone room signal None = gate-keeps (Some room) (Some signal) None (Some s) (still-keeps as_is)
+    rejects_alone room signal (Some result) =
+        gate-at (Some room) (Some signal) None s λ h. else_keeps _ _ _ as_is λ _. else_keeps _ _ _ as_is λ _. change-keeps s _ _ as_is (h, refl)
 
     drops_alone : (room : ℕ) → Alone (Asking t (drops s)) (drop_pending t room s)
     unfolding drop_pending
     drops_alone room =
-        gate-at (Is room) Nothing Nothing s λ h.
+        gate-at (Some room) None None s λ h.
         else_keeps _ _ _ as_is λ _. else_keeps _ _ _ as_is λ _. if_keeps (λ _. change-keeps s _ _ as_is (h, refl)) λ _. change-keeps s _ _ as_is (h, refl)
 
     gives-alone : (room : ℕ) → Alone (Asking t (gives s)) (give_up t room s)
     unfolding give_up
-    gives-alone room = gate-at (Is room) Nothing Nothing s λ h. if_keeps (λ _. change-keeps s _ _ as_is (h, refl)) λ _. still-keeps as_is
+    gives-alone room = gate-at (Some room) None None s λ h. if_keeps (λ _. change-keeps s _ _ as_is (h, refl)) λ _. still-keeps as_is
 
     holds-alone : Alone (Asking t (holds s)) (inc_ref t s)
     unfolding inc_ref
-    holds-alone = gate-at Nothing Nothing Nothing s λ h. else_keeps _ _ _ as_is λ _. change-keeps s _ _ as_is (h, refl)
+    holds-alone = gate-at None None None s λ h. else_keeps _ _ _ as_is λ _. change-keeps s _ _ as_is (h, refl)
 
     releases_alone : (room : ℕ) → Alone (Asking t (releases s)) (dec_ref t room s)
     unfolding dec_ref
     releases_alone room =
-        gate-at (Is room) Nothing Nothing s λ h.
+        gate-at (Some room) None None s λ h.
         else_keeps _ _ _ as_is λ _. if_keeps (λ _. change-keeps s _ _ as_is (h, refl)) λ _. change-keeps s _ _ as_is (h, refl)
 
     leaves-alone : (room : ℕ) → Alone (Asking t (leaves s)) (disconnect t room s)
     unfolding disconnect disconnecting
-    leaves-alone room = gate-at (Is room) Nothing Nothing s λ h. if_keeps (λ _. change-keeps s _ _ as_is (h, refl)) λ _. still-keeps as_is
+    leaves-alone room = gate-at (Some room) None None s λ h. if_keeps (λ _. change-keeps s _ _ as_is (h, refl)) λ _. still-keeps as_is
 
     planned-alone : (sdu : List ℕ) (w : Window) (x : Slot) (l : ℕ) → s < t.n → (p : Plan) → Alone (MayChange t (sends s sdu w)) (planned t s x l p)
     unfolding planned
@@ -116,7 +104,7 @@ module _ (t : Table) (fit : Fit t) (Reg : Type 0) where
 
     sends_alone : (sdu : List ℕ) (w : Window) (l out : ℕ) → Alone (MayChange t (sends s sdu w)) (send t s l out)
     unfolding send
-    sends_alone sdu w l out = gate-at Nothing Nothing Nothing s λ h. else_keeps _ _ _ as_is λ _. else_keeps _ _ _ as_is λ _. planned-alone sdu w _ l h _
+    sends_alone sdu w l out = gate-at None None None s λ h. else_keeps _ _ _ as_is λ _. else_keeps _ _ _ as_is λ _. planned-alone sdu w _ l h _
 
     started-alone : (x : Slot) (l size : ℕ) → s < t.n → (p : Plan) → Alone (Asking t (starts s l)) (start_planned t s x l size p)
     unfolding start_planned
@@ -125,18 +113,18 @@ module _ (t : Table) (fit : Fit t) (Reg : Type 0) where
 
     starts_alone : (l size : ℕ) → Alone (Asking t (starts s l)) (start_job t s l size)
     unfolding start_job
-    starts_alone l size = gate-at Nothing Nothing Nothing s λ h. else_keeps _ _ _ as_is λ _. else_keeps _ _ _ as_is λ _. started-alone _ l size h _
+    starts_alone l size = gate-at None None None s λ h. else_keeps _ _ _ as_is λ _. else_keeps _ _ _ as_is λ _. started-alone _ l size h _
 
     portions_alone : (octets : List ℕ) (w : Window) (count size : ℕ) → Alone (MayChange t (portions s octets w)) (give_portion t s count size)
     unfolding give_portion
     portions_alone octets w count size =
-        gate-at Nothing Nothing Nothing s λ h.
+        gate-at None None None s λ h.
         else_keeps _ _ _ as_is λ _. else_keeps _ _ _ as_is λ _. else_keeps _ _ _ as_is λ _. else_keeps _ _ _ as_is λ _. filling-keeps s _ (h, refl)
 
     cancels_alone : (room : ℕ) → Alone (Asking t (cancels s)) (cancel_job t room s)
     unfolding cancel_job
     cancels_alone room =
-        gate-at (Is room) Nothing Nothing s λ h.
+        gate-at (Some room) None None s λ h.
         else_keeps _ _ _ as_is λ _. else_keeps _ _ _ as_is λ _. if_keeps (λ _. change-keeps s _ _ as_is (h, refl)) λ _. change-keeps s _ _ as_is (h, refl)
 
     -- (what a take writes to the job buffer changes nothing here)
@@ -145,20 +133,20 @@ module _ (t : Table) (fit : Fit t) (Reg : Type 0) where
         let k : Alone (Asking t (takes s)) (change u s (with_queue (shifted x.queue) x) (moving_up u x) Done []) = change-keeps s _ _ q (h, refl) in
         record { slot = k.slot; moves = k.moves; n = k.n; d = k.d; m = k.m; spsms = k.spsms }
 
-    taken-alone : (x : Slot) → s < t.n → (g : Grant) → Alone (Asking t (takes s)) (taken t s x g)
+    taken-alone : (x : Slot) → s < t.n → (g : Option ℕ) → Alone (Asking t (takes s)) (taken t s x g)
     unfolding taken
-    taken-alone x h Grant.Nothing = handing-alone t x as_is h []
-    taken-alone x h (Grant.Credits n) = handing-alone (spent t) (with_account (granted x.account n) x) with-id h _
+    taken-alone x h None = handing-alone t x as_is h []
+    taken-alone x h (Some n) = handing-alone (spent t) (with_account (granted x.account n) x) with-id h _
 
     takes_alone : (room signal size : ℕ) → Alone (Asking t (takes s)) (receive t room signal s size)
     unfolding receive
-    takes_alone room signal size = gate-at (Is room) (Is signal) Nothing s λ h.
+    takes_alone room signal size = gate-at (Some room) (Some signal) None s λ h.
         else_keeps _ _ _ as_is λ _. else_keeps _ _ _ as_is λ _. else_keeps _ _ _ as_is λ _. taken-alone _ h _
 
     opens_alone : (room l : ℕ) (up : Bool) → Alone (Asking t (opens s l up)) (opened t room s l up)
     unfolding opened
     opens_alone room l up =
-        gate-at (Is room) Nothing (Is l) s λ h. else_keeps _ _ _ as_is λ a. else_keeps _ _ _ as_is λ b.
+        gate-at (Some room) None (Some l) s λ h. else_keeps _ _ _ as_is λ a. else_keeps _ _ _ as_is λ b.
         let q : (s < t.n) × Asking t (opens s l up) s = (h, (refl, record { state = used-says (slot_at t s) a; link = eqb-true _ l (not-false _ b) })) in
         if_keeps (λ _. change-keeps s _ _ as_is q) λ _. if_keeps (λ _. change-keeps s _ _ as_is q) λ _. if_keeps (λ _. change-keeps s _ _ as_is q) λ _.
         else_keeps _ _ _ as_is λ _. else_keeps _ _ _ as_is λ _. change-keeps s _ _ as_is q
@@ -168,7 +156,7 @@ module _ (t : Table) (fit : Fit t) (Reg : Type 0) where
   leaves_cid_alone : (room cid : ℕ) → Alone (Asking t (leaves_cid cid)) (disconnect_by_cid t room cid)
   unfolding disconnect_by_cid disconnecting
   leaves_cid_alone room cid =
-      gate-keeps (Is room) Nothing Nothing Nothing
+      gate-keeps (Some room) None None None
       (if_keeps (λ e. if_keeps (λ _. change-keeps (slot_of cid) _ _ as_is (cid_within t cid e, cid_names t cid e)) λ _. still-keeps as_is) λ _. still-keeps as_is)
 
   joined-alone : (P : ℕ → Type 0) (s : ℕ) (x : Slot) (count : ℕ) → (s < t.n) × P s → (j : Joined) → Alone P (joined t s x count j)
@@ -181,7 +169,7 @@ module _ (t : Table) (fit : Fit t) (Reg : Type 0) where
   frame-alone : (room l cid : ℕ) (payload head : List ℕ) (count : ℕ) → Alone (MayChange t (frame l cid payload)) (dispatch t room l cid head count)
   unfolding dispatch
   frame-alone room l cid payload head count =
-      gate-keeps (Is room) Nothing (Is l) Nothing
+      gate-keeps (Some room) None (Some l) None
       (else_keeps _ _ _ as_is λ a. else_keeps _ _ _ as_is λ b. else_keeps _ _ _ as_is λ d.
       let q : (slot_of cid < t.n) × MayChange t (frame l cid payload) (slot_of cid) =
       (cid_within t cid (not-false _ a), (cid_names t cid (not-false _ a), open_says l (slot_at t (slot_of cid)) (not-false _ b) (not-false _ d))) in
@@ -196,14 +184,14 @@ module _ (t : Table) (fit : Fit t) (Reg : Type 0) where
   pends_alone : (l : ℕ) (up : Bool) → Alone (Asking t (pends l up)) (next_pending t l up)
   unfolding next_pending
   pends_alone l up =
-      gate-keeps Nothing Nothing (Is l) Nothing
+      gate-keeps None None (Some l) None
       (if_keeps (λ _. else_keeps _ _ _ as_is λ _. still-keeps as_is) λ a. else_keeps _ _ _ as_is λ _.
       change-keeps _ _ _ as_is (lowest_alone _ (found_lowest t fit (pending_of l) (Pending l) (pending-says l) (pending_said l) a)))
 
   rejects_all_alone : (room signal l : ℕ) → Alone (Asking t (rejects_all l)) (reject_all_pending t room signal l)
   unfolding reject_all_pending
   rejects_all_alone room signal l =
-      gate-keeps (Is room) (Is signal) (Is l) Nothing
+      gate-keeps (Some room) (Some signal) (Some l) None
       (else_keeps _ _ _ as_is λ a. change-keeps _ _ _ as_is (lowest_alone _ (found_lowest t fit (unheld_pending_of l) (Unheld l) (unheld-says l) (unheld_said l) a)))
 
   lowest_free_lem : leb t.n (found is_free t) ≡ false → Lowest Free t (found is_free t)
@@ -212,17 +200,17 @@ module _ (t : Table) (fit : Fit t) (Reg : Type 0) where
   creates_alone : (signal l spsm : ℕ) (c : L2capChannelConfig) → Alone (Asking t (creates l spsm c)) (create t signal l spsm c)
   unfolding create
   creates_alone signal l spsm c =
-      gate-keeps Nothing (Is signal) (Is l) Nothing
+      gate-keeps None (Some signal) (Some l) None
       (else_keeps _ _ _ with-id λ _. else_keeps _ _ _ with-id λ _. else_keeps _ _ _ with-id λ a. change-keeps _ _ _ with-id (lowest_alone _ (lowest_free_lem a)))
 
   down_alone : (room l : ℕ) → Alone (MayChange t (down l)) (disconnected t room l)
   unfolding disconnected
-  down_alone room l = gate-keeps (Is room) Nothing (Is l) Nothing (sweep-keeps (of_link l) (λ i h e. (h, of-says l (slot_at t i) e)))
+  down_alone room l = gate-keeps (Some room) None (Some l) None (sweep-keeps (of_link l) (λ i h e. (h, of-says l (slot_at t i) e)))
 
   announces_alone : (room signal : ℕ) → Alone (Asking t announces) (next_disconnect t room signal)
   unfolding next_disconnect
   announces_alone room signal =
-      gate-keeps (Is room) (Is signal) Nothing Nothing
+      gate-keeps (Some room) (Some signal) None None
       (else_keeps _ _ _ as_is λ a.
       let q = lowest_alone _ (found_lowest t fit due_slot Due due-says due_said a) in
       if_keeps (λ _. change-keeps _ _ _ as_is q) λ _. change-keeps _ _ _ with-id q)
@@ -239,59 +227,59 @@ module _ (t : Table) (fit : Fit t) (Reg : Type 0) where
     abbrev id : ℕ
     id = get_or pdu 1 0
 
-    reject-alone : (b : CommandRejectResRead) → Signalled (on_reject t id b)
+    reject-alone : (b : Option CommandRejectRes) → Signalled (on_reject t id b)
     unfolding on_reject
-    reject-alone CommandRejectRes.Decode = still-keeps as_is
-    reject-alone (CommandRejectRes.Is res) = still-keeps as_is
+    reject-alone None = still-keeps as_is
+    reject-alone (Some res) = still-keeps as_is
 
-    disconnection_req-alone : code ≡ 0x06 → (b : DisconnectionReqRead) → disconnection_req (body_in pdu) ≡ b → Signalled (on_disconnection_req t l id b)
+    disconnection_req-alone : code ≡ 0x06 → (b : Option DisconnectionReq) → disconnection_req (body_in pdu) ≡ b → Signalled (on_disconnection_req t l id b)
     unfolding on_disconnection_req
-    disconnection_req-alone c DisconnectionReq.Decode e = still-keeps as_is
-    disconnection_req-alone c (DisconnectionReq.Is req) e =
+    disconnection_req-alone c None e = still-keeps as_is
+    disconnection_req-alone c (Some req) e =
         else_keeps _ _ _ as_is λ a. else_keeps _ _ _ as_is λ b.
         let k : is_cid t req.dcid ≡ true = not-false _ a in
         change-keeps _ _ _ as_is (cid_within t req.dcid k, disconnects c e (cid_names t req.dcid k) (of-says l (slot_at t (slot_of req.dcid)) (not-false _ b)))
 
-    disconnection_res-alone : code ≡ 0x07 → (b : DisconnectionResRead) → disconnection_res (body_in pdu) ≡ b → Signalled (on_disconnection_res t l id b)
+    disconnection_res-alone : code ≡ 0x07 → (b : Option DisconnectionRes) → disconnection_res (body_in pdu) ≡ b → Signalled (on_disconnection_res t l id b)
     unfolding on_disconnection_res
-    disconnection_res-alone c DisconnectionRes.Decode e = still-keeps as_is
-    disconnection_res-alone c (DisconnectionRes.Is res) e =
+    disconnection_res-alone c None e = still-keeps as_is
+    disconnection_res-alone c (Some res) e =
         else_keeps _ _ _ as_is λ a. else_keeps _ _ _ as_is λ b.
         let k : is_cid t res.scid ≡ true = not-false _ a in
         change-keeps _ _ _ as_is (cid_within t res.scid k, frees c e (cid_names t res.scid k) (leaving-says l (slot_at t (slot_of res.scid)) (not-false _ b)))
 
-    parameters-alone : (b : ConnParamUpdateReqRead) → Signalled (on_parameters t id b)
+    parameters-alone : (b : Option ConnParamUpdateReq) → Signalled (on_parameters t id b)
     unfolding on_parameters
-    parameters-alone ConnParamUpdateReq.Decode = still-keeps as_is
-    parameters-alone (ConnParamUpdateReq.Is req) = else_keeps _ _ _ as_is λ _. still-keeps as_is
+    parameters-alone None = still-keeps as_is
+    parameters-alone (Some req) = else_keeps _ _ _ as_is λ _. still-keeps as_is
 
-    parameter_response_alone : (b : ConnParamUpdateResRead) → Signalled (on_parameter_response t id b)
+    parameter_response_alone : (b : Option ConnParamUpdateRes) → Signalled (on_parameter_response t id b)
     unfolding on_parameter_response
-    parameter_response_alone ConnParamUpdateRes.Decode = still-keeps as_is
-    parameter_response_alone (ConnParamUpdateRes.Is res) = still-keeps as_is
+    parameter_response_alone None = still-keeps as_is
+    parameter_response_alone (Some res) = still-keeps as_is
 
-    conn_req_alone : code ≡ 0x14 → (listening : Bool) (b : LeCreditConnReqRead) → Signalled (on_conn_req t l listening id b)
+    conn_req_alone : code ≡ 0x14 → (listening : Bool) (b : Option LeCreditConnReq) → Signalled (on_conn_req t l listening id b)
     unfolding on_conn_req
-    conn_req_alone c listening LeCreditConnReq.Decode = still-keeps as_is
-    conn_req_alone c listening (LeCreditConnReq.Is req) =
+    conn_req_alone c listening None = still-keeps as_is
+    conn_req_alone c listening (Some req) =
         else_keeps _ _ _ as_is λ _. else_keeps _ _ _ as_is λ _. else_keeps _ _ _ as_is λ _. else_keeps _ _ _ as_is λ _. else_keeps _ _ _ as_is λ a.
         let q = lowest_free_lem a in
         change-keeps _ _ _ as_is (q.within, connects c q)
 
-    conn_res_alone : code ≡ 0x15 → (b : LeCreditConnResRead) → Signalled (on_conn_res t l id b)
+    conn_res_alone : code ≡ 0x15 → (b : Option LeCreditConnRes) → Signalled (on_conn_res t l id b)
     unfolding on_conn_res
-    conn_res_alone c LeCreditConnRes.Decode = still-keeps as_is
-    conn_res_alone c (LeCreditConnRes.Is res) =
+    conn_res_alone c None = still-keeps as_is
+    conn_res_alone c (Some res) =
         if_keeps
         (λ a. sweep-keeps (attempt_of l) (λ i h e. (h, unmatched c (found_none t fit (attempt_by l id) (Attempt l id) (matched_says l id) (matched_said l id) a) (attempt-says l (slot_at t i) e))))
         λ a.
         let q = found_lowest t fit (attempt_by l id) (Attempt l id) (matched_says l id) (matched_said l id) a in
         if_keeps (λ _. change-keeps _ _ _ as_is (q.within, matches c q)) λ _. if_keeps (λ _. change-keeps _ _ _ as_is (q.within, matches c q)) λ _. change-keeps _ _ _ as_is (q.within, matches c q)
 
-    credits-alone : code ≡ 0x16 → (b : LeCreditFlowIndRead) → le_credit_flow_ind (body_in pdu) ≡ b → Signalled (on_credits t l id b)
+    credits-alone : code ≡ 0x16 → (b : Option LeCreditFlowInd) → le_credit_flow_ind (body_in pdu) ≡ b → Signalled (on_credits t l id b)
     unfolding on_credits
-    credits-alone c LeCreditFlowInd.Decode e = still-keeps as_is
-    credits-alone c (LeCreditFlowInd.Is ind) e =
+    credits-alone c None e = still-keeps as_is
+    credits-alone c (Some ind) e =
         else_keeps _ _ _ as_is λ a.
         let q = found_lowest t fit (connected_to l ind.cid) (OpenTo l ind.cid) (open_to_says l ind.cid) (open_to_said l ind.cid) a in
         if_keeps (λ _. change-keeps _ _ _ as_is (q.within, credits c e q)) λ _. change-keeps _ _ _ as_is (q.within, credits c e q)
@@ -313,27 +301,27 @@ module _ (t : Table) (fit : Fit t) (Reg : Type 0) where
 
     signals_alone : (room signal : ℕ) (listening central : Bool) → Signalled (signalled t room signal l listening central pdu)
     unfolding signalled
-    signals_alone room signal listening central = gate-keeps (Is room) (Is signal) (Is l) Nothing (checked-alone listening central _)
+    signals_alone room signal listening central = gate-keeps (Some room) (Some signal) (Some l) None (checked-alone listening central _)
 
   -- ---- calls that change no slot
 
   attends_alone : Alone (Asking t attends) (attention t)
   unfolding attention
-  attends_alone = gate-keeps Nothing Nothing Nothing Nothing (still-keeps as_is)
+  attends_alone = gate-keeps None None None None (still-keeps as_is)
 
   asks_alone : (of : Slot → ℕ) (s : ℕ) → Alone (Asking t (asks of s)) (query of t s)
   unfolding query
-  asks_alone of s = gate-keeps Nothing Nothing Nothing (Is s) (still-keeps as_is)
+  asks_alone of s = gate-keeps None None None (Some s) (still-keeps as_is)
 
   sends_signal_alone : (signal l : ℕ) (s : Signal) → Alone (Asking t (sends_signal l s)) (send_signal t signal l s)
   unfolding send_signal
-  sends_signal_alone signal l s = gate-keeps Nothing (Is signal) (Is l) Nothing (still-keeps with-id)
+  sends_signal_alone signal l s = gate-keeps None (Some signal) (Some l) None (still-keeps with-id)
 
 -- registering changes the registered SPSMs, and no slot
 register_alone : (t : Table) (Reg : Type 0) → Reg → (spsm : ℕ) → Keeps (λ i. (i < t.n) × Asking t (register spsm) i) Reg t (register_spsm t spsm)
 unfolding register_spsm
 register_alone t Reg r spsm =
-    gate-keeps Nothing Nothing Nothing Nothing
+    gate-keeps None None None None
     (else_keeps _ _ _ as_is λ _. record { slot = λ i _. refl; moves = λ i _. refl; n = refl; d = refl; m = refl; spsms = λ off. absurd (off r) })
 
 -- ---- all calls

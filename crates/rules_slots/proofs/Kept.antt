@@ -1,6 +1,6 @@
 -- The slots that an outcome leaves as they are: what is shown of each form that an outcome has (Outcome.antt of crate definition), and what
 -- that says of the room. `May` are the slots that may change.
-use Rattle.std.specs.Prelude.{◌≡◌, Bool, true, false, drop, get_or}
+use Rattle.std.specs.Prelude.{◌≡◌, Bool, true, false, drop, get_or, Err, Ok, Option, Result, Some}
 use Rattle.std.proofs.Math.Path.{refl, sym, ap}
 use Rattle.std.proofs.Common.{◌∙◌, subst, suc-mul, add_comm, zero-mul, arith, drop-drop, get_or-set_other, leb-false}
 use mathlib.Core.List.{List, [], ◌∷◌, ◌++◌, map}
@@ -11,12 +11,8 @@ use Rattle.lists.specs.Each.{map_first}
 use Rattle.lists.specs.Both.{false_unless}
 use Rattle.lists.specs.Sets.{take_split, drop_split}
 use Rattle.channel.specs.declared.Answer.{Answer}
-use Rattle.channel.specs.declared.Given.{Given}
-use Rattle.channel.specs.declared.Given.TheVariants.{Is}
 use Rattle.channel.specs.declared.Slot.{Slot}
 use Rattle.channel.specs.declared.Table.{Table}
-use Rattle.channel.specs.declared.Verdict.{Verdict}
-use Rattle.channel.specs.declared.Verdict.TheVariants.{Pass, Stop}
 use Rattle.definition.specs.Mem.{Fill, Move, wipe, moves, parts}
 use Rattle.definition.specs.Table.{gap, freed, slot_at, spent}
 use Rattle.definition.specs.Outcome.{Outcome, still, only, change, filling, sweep, verdict, passed, gate}
@@ -24,6 +20,7 @@ use Rattle.definition.specs.Ending.{itself}
 use Rattle.definition.proofs.Forms.{pass_slot}
 use Rattle.definition.proofs.Lengths.{length-moves, length-parts}
 use Rattle.rules_slots.specs.Kept.{Keeps, Like}
+use Rattle.codes.specs.declared.Refusal.{Refusal}
 
 pub as_is : {t : Table} → Like t t
 as_is = record { slots = refl; n = refl; d = refl; m = refl; spsms = refl }
@@ -108,15 +105,15 @@ module _ {May : ℕ → Type 0} {Reg : Type 0} {t : Table} where
   pub else_keeps : {b : Bool} (t' : Table) (a : Answer) (out : List Fill) {y : Outcome} → Like t t' → (b ≡ false → Keeps May Reg t y) → Keeps May Reg t (choose b (still t' a out) y)
   else_keeps t' a out q g = if_keeps (λ _. still-keeps q) g
 
-  passed-keeps : (v : Verdict) {o : Outcome} → (v ≡ Pass → Keeps May Reg t o) → Keeps May Reg t (passed t v o)
-  passed-keeps Pass f = f refl
-  passed-keeps (Stop r) f = still-keeps as_is
+  passed-keeps : (v : Result (Unit {0}) Refusal) {o : Outcome} → (v ≡ Ok tt → Keeps May Reg t o) → Keeps May Reg t (passed t v o)
+  passed-keeps (Ok tt) f = f refl
+  passed-keeps (Err r) f = still-keeps as_is
 
-  pub gate-keeps : (room signal link slot : Given) {o : Outcome} → Keeps May Reg t o → Keeps May Reg t (gate t room signal link slot o)
+  pub gate-keeps : (room signal link slot : Option ℕ) {o : Outcome} → Keeps May Reg t o → Keeps May Reg t (gate t room signal link slot o)
   gate-keeps room signal link slot f = passed-keeps (verdict t room signal link slot) (λ _. f)
 
-  pub gate-at : (room signal link : Given) (s : ℕ) {o : Outcome} → (s < t.n → Keeps May Reg t o) → Keeps May Reg t (gate t room signal link (Is s) o)
-  gate-at room signal link s f = passed-keeps (verdict t room signal link (Is s)) (λ v. f (leb-false t.n s (pass_slot t room signal link s v)))
+  pub gate-at : (room signal link : Option ℕ) (s : ℕ) {o : Outcome} → (s < t.n → Keeps May Reg t o) → Keeps May Reg t (gate t room signal link (Some s) o)
+  gate-at room signal link s f = passed-keeps (verdict t room signal link (Some s)) (λ v. f (leb-false t.n s (pass_slot t room signal link s v)))
 
 -- ---- what no moves in a slot's part say of the room
 

@@ -1,7 +1,7 @@
 -- What a call that names a link answers and does hangs on that link's own slots and the free ones alone, proved: a test that such a slot alone
 -- can pass is passed by the same slots in both tables (`same_test`), so every search finds the same slot (`found-same`), and that slot is
 -- equal in both (`slot-found`). One lemma a call, from the forms in Named.antt.
-use Rattle.std.specs.Prelude.{◌≡◌, refl, false, ◌&&◌, List, [], ◌∷◌, map, ℕ, zero, suc, ◌+◌, ◌≤◌, ◌<◌, leb, length, take}
+use Rattle.std.specs.Prelude.{◌≡◌, refl, false, ◌&&◌, List, [], ◌∷◌, map, ℕ, zero, suc, ◌+◌, ◌≤◌, ◌<◌, leb, length, take, None, Option, Some}
 use Rattle.std.proofs.Common.{sym, ap, ap₂, subst, ◌∙◌, not-suc-le-zero, le_of_suc-le-suc, arith}
 use Rattle.std.proofs.Math.Bool.{Bool, true}
 use Rattle.std.proofs.lemmas.Bool.{false≢true}
@@ -13,27 +13,10 @@ use Rattle.lists.specs.Each.{map_first}
 use Rattle.lists.specs.Both.{and_left}
 use Rattle.signal_headers.specs.declared.Checked.{Checked}
 use Rattle.signal_headers.specs.declared.Checked.TheVariants.{Good, Cut, Past}
-use Rattle.signal_bodies.specs.declared.CommandRejectResRead.{CommandRejectResRead}
-use Rattle.signal_bodies.specs.declared.CommandRejectResRead.TheVariants as CommandRejectRes
-use Rattle.signal_bodies.specs.declared.DisconnectionReqRead.{DisconnectionReqRead}
-use Rattle.signal_bodies.specs.declared.DisconnectionReqRead.TheVariants as DisconnectionReq
-use Rattle.signal_bodies.specs.declared.DisconnectionResRead.{DisconnectionResRead}
-use Rattle.signal_bodies.specs.declared.DisconnectionResRead.TheVariants as DisconnectionRes
-use Rattle.signal_bodies.specs.declared.ConnParamUpdateReqRead.{ConnParamUpdateReqRead}
-use Rattle.signal_bodies.specs.declared.ConnParamUpdateReqRead.TheVariants as ConnParamUpdateReq
-use Rattle.signal_bodies.specs.declared.ConnParamUpdateResRead.{ConnParamUpdateResRead}
-use Rattle.signal_bodies.specs.declared.ConnParamUpdateResRead.TheVariants as ConnParamUpdateRes
-use Rattle.signal_bodies.specs.declared.le_credit.LeCreditConnReqRead.{LeCreditConnReqRead}
-use Rattle.signal_bodies.specs.declared.le_credit.LeCreditConnReqRead.TheVariants as LeCreditConnReq
-use Rattle.signal_bodies.specs.declared.le_credit.LeCreditConnResRead.{LeCreditConnResRead}
-use Rattle.signal_bodies.specs.declared.le_credit.LeCreditConnResRead.TheVariants as LeCreditConnRes
-use Rattle.signal_bodies.specs.declared.le_credit.LeCreditFlowIndRead.{LeCreditFlowIndRead}
-use Rattle.signal_bodies.specs.declared.le_credit.LeCreditFlowIndRead.TheVariants as LeCreditFlowInd
 use Rattle.signal_forms.specs.declared.Signal.{Signal}
 use Rattle.channel.specs.Limits.{cid_base}
 use Rattle.channel.specs.declared.Answer.{Answer}
 use Rattle.channel.specs.declared.ChannelState.TheVariants.{Disconnected, Connected}
-use Rattle.channel.specs.declared.Given.TheVariants.{Nothing, Is}
 use Rattle.channel.specs.declared.L2capChannelConfig.{L2capChannelConfig}
 use Rattle.channel.specs.declared.Slot.{Slot}
 use Rattle.channel.specs.declared.Table.{Table}
@@ -58,6 +41,14 @@ use Rattle.rules_slots.specs.Named.{beside, Both}
 use Rattle.rules_slots.proofs.Named.{is-beside, if_both, still_both, still-id, change-both, change-id, gate-both, opens_both, frame-both}
 use Rattle.rules_slots.proofs.Kept.{fails}
 use Rattle.rules_slots.specs.Linked.{Own, See, To, has, link_in}
+use Rattle.signal_forms.specs.declared.CommandRejectRes.{CommandRejectRes}
+use Rattle.signal_forms.specs.declared.ConnParamUpdateReq.{ConnParamUpdateReq}
+use Rattle.signal_forms.specs.declared.ConnParamUpdateRes.{ConnParamUpdateRes}
+use Rattle.signal_forms.specs.declared.DisconnectionReq.{DisconnectionReq}
+use Rattle.signal_forms.specs.declared.DisconnectionRes.{DisconnectionRes}
+use Rattle.signal_forms.specs.declared.LeCreditConnReq.{LeCreditConnReq}
+use Rattle.signal_forms.specs.declared.LeCreditConnRes.{LeCreditConnRes}
+use Rattle.signal_forms.specs.declared.LeCreditFlowInd.{LeCreditFlowInd}
 
 module _ (l : ℕ) where
   of_own : Own l (of_link l)
@@ -164,7 +155,7 @@ module _ (l : ℕ) {t : Table} {ys : List Slot} (on : See l t ys) where
   pends_both : (up : Bool) → Agree (next_pending t l up) (next_pending u l up)
   unfolding next_pending
   pends_both up =
-      gate-both on Nothing Nothing (Is l) Nothing λ _.
+      gate-both on None None (Some l) None λ _.
       rw (found-same (pending_of l) (pending_own l))
       (if_both (λ _. if_both (λ _. still_both on) λ _. still_both on) λ a.
       rw (slot-found (pending_of l) (pending_own l) a) (if_both (λ _. still_both on) λ _. change-both on _ _ _ (within a)))
@@ -172,24 +163,24 @@ module _ (l : ℕ) {t : Table} {ys : List Slot} (on : See l t ys) where
   rejects_all_both : (room signal : ℕ) → Agree (reject_all_pending t room signal l) (reject_all_pending u room signal l)
   unfolding reject_all_pending
   rejects_all_both room signal =
-      gate-both on (Is room) (Is signal) (Is l) Nothing λ _.
+      gate-both on (Some room) (Some signal) (Some l) None λ _.
       rw (found-same (unheld_pending_of l) (unheld_own l))
       (if_both (λ _. still_both on) λ a. rw (slot-found (unheld_pending_of l) (unheld_own l) a) (change-both on _ _ _ (within a)))
 
   creates_both : (signal spsm : ℕ) (c : L2capChannelConfig) → Agree (create t signal l spsm c) (create u signal l spsm c)
   unfolding create
   creates_both signal spsm c =
-      gate-both on Nothing (Is signal) (Is l) Nothing λ _.
+      gate-both on None (Some signal) (Some l) None λ _.
       rw (found-same is_free (free_own l))
       (if_both (λ _. still-id on) λ _. if_both (λ _. still-id on) λ _. if_both (λ _. still-id on) λ a. change-id on _ _ _ (within a))
 
   down_both : (room : ℕ) → Agree (disconnected t room l) (disconnected u room l)
   unfolding disconnected
-  down_both room = gate-both on (Is room) Nothing (Is l) Nothing λ _. sweep-both (of_link l) (of_own l) _
+  down_both room = gate-both on (Some room) None (Some l) None λ _. sweep-both (of_link l) (of_own l) _
 
   sends_signal_both : (signal : ℕ) (s : Signal) → Agree (send_signal t signal l s) (send_signal u signal l s)
   unfolding send_signal
-  sends_signal_both signal s = gate-both on Nothing (Is signal) (Is l) Nothing λ _. still-id on
+  sends_signal_both signal s = gate-both on None (Some signal) (Some l) None λ _. still-id on
 
   -- ---- the two exceptions
 
@@ -197,7 +188,7 @@ module _ (l : ℕ) {t : Table} {ys : List Slot} (on : See l t ys) where
       → Agree (opened t room s l up) (opened u room s l up)
   unfolding opened
   opens_apart room s up a b both =
-      gate-both on (Is room) Nothing (Is l) (Is s) λ _.
+      gate-both on (Some room) None (Some l) (Some s) λ _.
       let q : is_disconnected (get_or ys s gap).state ≡ is_disconnected (slot_at t s).state = both-disconnected (slot_at t s) (get_or ys s gap) both in
       rw q (if_both (λ _. still_both on) λ k.
       rw (another l (slot_at t s) a k, another l (get_or ys s gap) b (q ∙ k)) (if_both (λ _. still_both on) λ z. absurd (false≢true (sym z))))
@@ -209,7 +200,7 @@ module _ (l : ℕ) {t : Table} {ys : List Slot} (on : See l t ys) where
   frame_apart : (room cid : ℕ) (head head' : List ℕ) (count count' : ℕ) → Apart cid → Agree (dispatch t room l cid head count) (dispatch u room l cid head' count')
   unfolding dispatch
   frame_apart room cid head head' count count' f =
-      gate-both on (Is room) Nothing (Is l) Nothing λ _.
+      gate-both on (Some room) None (Some l) None λ _.
       if_both (λ _. still_both on) λ c.
       let x : Slot = slot_at t (slot_of cid) in
       let y : Slot = get_or ys (slot_of cid) gap in
@@ -228,59 +219,59 @@ module _ (l : ℕ) {t : Table} {ys : List Slot} (on : See l t ys) where
   slot-at p own cid e = same-slot l p own (on.slots (slot_of cid) (cid_within t cid e))
 
   module _ (id : ℕ) where
-    reject-both : (b : CommandRejectResRead) → Agree (on_reject t id b) (on_reject u id b)
+    reject-both : (b : Option CommandRejectRes) → Agree (on_reject t id b) (on_reject u id b)
     unfolding on_reject
-    reject-both CommandRejectRes.Decode = still_both on
-    reject-both (CommandRejectRes.Is res) = still_both on
+    reject-both None = still_both on
+    reject-both (Some res) = still_both on
 
-    disconnection_req-both : (b : DisconnectionReqRead) → Agree (on_disconnection_req t l id b) (on_disconnection_req u l id b)
+    disconnection_req-both : (b : Option DisconnectionReq) → Agree (on_disconnection_req t l id b) (on_disconnection_req u l id b)
     unfolding on_disconnection_req
-    disconnection_req-both DisconnectionReq.Decode = still_both on
-    disconnection_req-both (DisconnectionReq.Is req) =
+    disconnection_req-both None = still_both on
+    disconnection_req-both (Some req) =
         if_both (λ _. still_both on) λ a.
         let c : is_cid t req.dcid ≡ true = not-false _ a in
         rw (test_at (of_link l) (of_own l) req.dcid c)
         (if_both (λ _. still_both on) λ b. rw (slot-at (of_link l) (of_own l) req.dcid c (not-false _ b)) (change-both on _ _ _ (cid_within t req.dcid c)))
 
-    disconnection_res-both : (b : DisconnectionResRead) → Agree (on_disconnection_res t l id b) (on_disconnection_res u l id b)
+    disconnection_res-both : (b : Option DisconnectionRes) → Agree (on_disconnection_res t l id b) (on_disconnection_res u l id b)
     unfolding on_disconnection_res
-    disconnection_res-both DisconnectionRes.Decode = still_both on
-    disconnection_res-both (DisconnectionRes.Is res) =
+    disconnection_res-both None = still_both on
+    disconnection_res-both (Some res) =
         if_both (λ _. still_both on) λ a.
         let c : is_cid t res.scid ≡ true = not-false _ a in
         let p : Slot → Bool = λ x. is_disconnecting x.state && eqb x.link l in
         rw (test_at p (leaving_own l) res.scid c)
         (if_both (λ _. still_both on) λ b. rw (slot-at p (leaving_own l) res.scid c (not-false _ b)) (change-both on _ _ _ (cid_within t res.scid c)))
 
-    parameters-both : (b : ConnParamUpdateReqRead) → Agree (on_parameters t id b) (on_parameters u id b)
+    parameters-both : (b : Option ConnParamUpdateReq) → Agree (on_parameters t id b) (on_parameters u id b)
     unfolding on_parameters
-    parameters-both ConnParamUpdateReq.Decode = still_both on
-    parameters-both (ConnParamUpdateReq.Is req) = if_both (λ _. still_both on) λ _. still_both on
+    parameters-both None = still_both on
+    parameters-both (Some req) = if_both (λ _. still_both on) λ _. still_both on
 
-    parameter_response_both : (b : ConnParamUpdateResRead) → Agree (on_parameter_response t id b) (on_parameter_response u id b)
+    parameter_response_both : (b : Option ConnParamUpdateRes) → Agree (on_parameter_response t id b) (on_parameter_response u id b)
     unfolding on_parameter_response
-    parameter_response_both ConnParamUpdateRes.Decode = still_both on
-    parameter_response_both (ConnParamUpdateRes.Is res) = still_both on
+    parameter_response_both None = still_both on
+    parameter_response_both (Some res) = still_both on
 
-    conn_req_both : (listening : Bool) (b : LeCreditConnReqRead) → Agree (on_conn_req t l listening id b) (on_conn_req u l listening id b)
+    conn_req_both : (listening : Bool) (b : Option LeCreditConnReq) → Agree (on_conn_req t l listening id b) (on_conn_req u l listening id b)
     unfolding on_conn_req
-    conn_req_both listening LeCreditConnReq.Decode = still_both on
-    conn_req_both listening (LeCreditConnReq.Is req) =
+    conn_req_both listening None = still_both on
+    conn_req_both listening (Some req) =
         rw (found-same is_free (free_own l), found-same (uses_peer l req.scid) (uses_own l req.scid))
         (if_both (λ _. still_both on) λ _. if_both (λ _. still_both on) λ _. if_both (λ _. still_both on) λ _. if_both (λ _. still_both on) λ _. if_both (λ _. still_both on) λ a. change-both on _ _ _ (within a))
 
-    conn_res_both : (b : LeCreditConnResRead) → Agree (on_conn_res t l id b) (on_conn_res u l id b)
+    conn_res_both : (b : Option LeCreditConnRes) → Agree (on_conn_res t l id b) (on_conn_res u l id b)
     unfolding on_conn_res
-    conn_res_both LeCreditConnRes.Decode = still_both on
-    conn_res_both (LeCreditConnRes.Is res) =
+    conn_res_both None = still_both on
+    conn_res_both (Some res) =
         rw (found-same (attempt_by l id) (attempt_own l id))
         (if_both (λ _. sweep-both (attempt_of l) (attempts_own l) _) λ a.
         rw (slot-found (attempt_by l id) (attempt_own l id) a) (if_both (λ _. change-both on _ _ _ (within a)) λ _. if_both (λ _. change-both on _ _ _ (within a)) λ _. change-both on _ _ _ (within a)))
 
-    credits-both : (b : LeCreditFlowIndRead) → Agree (on_credits t l id b) (on_credits u l id b)
+    credits-both : (b : Option LeCreditFlowInd) → Agree (on_credits t l id b) (on_credits u l id b)
     unfolding on_credits
-    credits-both LeCreditFlowInd.Decode = still_both on
-    credits-both (LeCreditFlowInd.Is ind) =
+    credits-both None = still_both on
+    credits-both (Some ind) =
         rw (found-same (connected_to l ind.cid) (open_to_own l ind.cid))
         (if_both (λ _. still_both on) λ a.
         rw (slot-found (connected_to l ind.cid) (open_to_own l ind.cid) a) (if_both (λ _. change-both on _ _ _ (within a)) λ _. change-both on _ _ _ (within a)))
@@ -300,13 +291,13 @@ module _ (l : ℕ) {t : Table} {ys : List Slot} (on : See l t ys) where
 
   signals_both : (room signal : ℕ) (listening central : Bool) (pdu : List ℕ) → Agree (signalled t room signal l listening central pdu) (signalled u room signal l listening central pdu)
   unfolding signalled
-  signals_both room signal listening central pdu = gate-both on (Is room) (Is signal) (Is l) Nothing λ _. checked-both listening central pdu _
+  signals_both room signal listening central pdu = gate-both on (Some room) (Some signal) (Some l) None λ _. checked-both listening central pdu _
 
   -- ---- a slot that is named: no slot, equal, or another's
 
   opens_none : (room s : ℕ) (up : Bool) → leb t.n s ≡ true → Agree (opened t room s l up) (opened u room s l up)
   unfolding opened
-  opens_none room s up e = gate-both on (Is room) Nothing (Is l) (Is s) λ v. absurd (false≢true (sym (pass_slot t (Is room) Nothing (Is l) s v) ∙ e))
+  opens_none room s up e = gate-both on (Some room) None (Some l) (Some s) λ v. absurd (false≢true (sym (pass_slot t (Some room) None (Some l) s v) ∙ e))
 
   opens_slot : (room s : ℕ) (up : Bool) {x y : Slot} → slot_at t s ≡ x → get_or ys s gap ≡ y → BothIn Disconnected (slot_at t s) (get_or ys s gap) → SameTo l x y
       → Agree (opened t room s l up) (opened u room s l up)

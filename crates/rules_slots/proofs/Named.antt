@@ -1,26 +1,18 @@
 -- What a call that names a slot answers and does hangs on that slot alone, proved: one lemma a call. Two tables that agree in sizes and
 -- identifier are one table with other slots and SPSMs (`beside`), so that only what reads the slot is rewritten.
-use Rattle.std.specs.Prelude.{◌≡◌, Bool, true, false, List, ℕ, ◌≤◌, ◌<◌, eqb, length, get_or, set}
+use Rattle.std.specs.Prelude.{◌≡◌, Bool, true, false, List, ℕ, ◌≤◌, ◌<◌, eqb, length, get_or, set, Err, None, Ok, Option, Result, Some}
 use Rattle.std.proofs.Math.Path.{refl}
 use Rattle.std.proofs.Common.{sym, ap, subst, ◌∙◌, arith, get_or-set_same, get_or-set_other, eqb-true, leb-false}
 use Rattle.std.proofs.lemmas.Bool.{eqb-false, not-false}
 use Rattle.lists.specs.Choose.{choose}
-use Rattle.codes.specs.declared.ResultRead.{ResultRead}
-use Rattle.codes.specs.declared.ResultRead.TheVariants.{Known, Unknown}
-use Rattle.credit.specs.declared.Grant.{Grant}
-use Rattle.credit.specs.declared.Grant.TheVariants as Grant
 use Rattle.sar_join.specs.declared.Joined.{Joined}
 use Rattle.sar_join.specs.declared.Joined.TheVariants as Joined
 use Rattle.sar_cut.specs.declared.Plan.{Plan}
 use Rattle.sar_cut.specs.declared.Plan.TheVariants as Plan
 use Rattle.channel.specs.declared.Answer.{Answer}
-use Rattle.channel.specs.declared.Given.{Given}
-use Rattle.channel.specs.declared.Given.TheVariants.{Nothing, Is}
 use Rattle.channel.specs.declared.L2capChannelConfig.{L2capChannelConfig}
 use Rattle.channel.specs.declared.Slot.{Slot}
 use Rattle.channel.specs.declared.Table.{Table}
-use Rattle.channel.specs.declared.Verdict.{Verdict}
-use Rattle.channel.specs.declared.Verdict.TheVariants.{Pass, Stop}
 use Rattle.definition.specs.Mem.{Fill, Move}
 use Rattle.definition.specs.Table.{gap, slot_at, well_formed, slot_of, spent}
 use Rattle.definition.specs.Outcome.{Outcome, still, change, filling, verdict, passed, gate}
@@ -35,6 +27,8 @@ use Rattle.definition.proofs.Forms.{pass_slot}
 use Rattle.definition.proofs.Tells.{cid_within}
 use Rattle.rules_slots.specs.Answer.{called, Alike, Names, accepting, rejecting, dropping, querying, giving, holding, releasing, leaving, leaving_cid, taking, asking, sending, starting, portioning, cancelling, framing, SlotLaw}
 use Rattle.rules_slots.specs.Named.{Both, Pair, beside}
+use Rattle.codes.specs.declared.LeCreditConnResultCode.{LeCreditConnResultCode}
+use Rattle.codes.specs.declared.Refusal.{Refusal}
 
 pub is-beside : {t u : Table} → Alike t u → u ≡ beside t u.slots u.spsms
 is-beside {t} {u} q =
@@ -76,75 +70,75 @@ module _ {R : ℕ → Slot → Slot → Type 0} {t : Table} {ys : List Slot} {qs
   filling-both : (s : ℕ) (y : Slot) {a : Answer} {at octets : ℕ} {out : List Fill} → s < t.n → Both R t.n (filling t s y a at out octets) (filling u s y a at out octets)
   filling-both s y h = record { told = record { answer = refl; parts = refl; at = refl; out = refl; octets = refl; job = refl; identifier = refl }; slots = set_both s y h }
 
-  verdict-same : (room signal link slot : Given) → verdict u room signal link slot ≡ verdict t room signal link slot
+  verdict-same : (room signal link slot : Option ℕ) → verdict u room signal link slot ≡ verdict t room signal link slot
   unfolding verdict
   verdict-same room signal link slot = rw on.formed refl
 
-  passed-both : (v : Verdict) {o p : Outcome} → (v ≡ Pass → Both R t.n o p) → Both R t.n (passed t v o) (passed u v p)
-  passed-both Pass f = f refl
-  passed-both (Stop r) f = still_both
+  passed-both : (v : Result (Unit {0}) Refusal) {o p : Outcome} → (v ≡ Ok tt → Both R t.n o p) → Both R t.n (passed t v o) (passed u v p)
+  passed-both (Ok tt) f = f refl
+  passed-both (Err r) f = still_both
 
-  pub gate-both : (room signal link slot : Given) {o p : Outcome} → (verdict t room signal link slot ≡ Pass → Both R t.n o p)
+  pub gate-both : (room signal link slot : Option ℕ) {o p : Outcome} → (verdict t room signal link slot ≡ Ok tt → Both R t.n o p)
       → Both R t.n (gate t room signal link slot o) (gate (beside t ys qs) room signal link slot p)
   gate-both room signal link slot {o} {p} f =
-      subst (λ (v : Verdict). Both R t.n (gate t room signal link slot o) (passed u v p)) (sym (verdict-same room signal link slot)) (passed-both (verdict t room signal link slot) f)
+      subst (λ (v : Result (Unit {0}) Refusal). Both R t.n (gate t room signal link slot o) (passed u v p)) (sym (verdict-same room signal link slot)) (passed-both (verdict t room signal link slot) f)
 
-  pub gate-at : (room signal link : Given) (s : ℕ) {o p : Outcome} → (s < t.n → Both R t.n o p) → Both R t.n (gate t room signal link (Is s) o) (gate (beside t ys qs) room signal link (Is s) p)
-  gate-at room signal link s f = gate-both room signal link (Is s) (λ v. f (leb-false t.n s (pass_slot t room signal link s v)))
+  pub gate-at : (room signal link : Option ℕ) (s : ℕ) {o p : Outcome} → (s < t.n → Both R t.n o p) → Both R t.n (gate t room signal link (Some s) o) (gate (beside t ys qs) room signal link (Some s) p)
+  gate-at room signal link s f = gate-both room signal link (Some s) (λ v. f (leb-false t.n s (pass_slot t room signal link s v)))
 
   -- ---- the calls
 
   module _ (s : ℕ) (e : get_or ys s gap ≡ slot_at t s) where
     holds-both : Both R t.n (inc_ref t s) (inc_ref u s)
     unfolding inc_ref
-    holds-both = gate-at Nothing Nothing Nothing s λ h. rw e (if_both (λ _. still_both) λ _. change-both s _ _ h)
+    holds-both = gate-at None None None s λ h. rw e (if_both (λ _. still_both) λ _. change-both s _ _ h)
 
     accepts_both : (signal : ℕ) (c : L2capChannelConfig) → Both R t.n (accept_pending t signal s c) (accept_pending u signal s c)
     unfolding accept_pending
     accepts_both signal c =
-        gate-at Nothing (Is signal) Nothing s λ h.
+        gate-at None (Some signal) None s λ h.
         rw e (if_both (λ _. still_both) λ _. if_both (λ _. still_both) λ _. if_both (λ _. still_both) λ _. if_both (λ _. still_both) λ _. change-both s _ _ h)
 
-    rejects_both : (room signal : ℕ) (result : ResultRead) → Both R t.n (reject_read t room signal s result) (reject_read u room signal s result)
+    rejects_both : (room signal : ℕ) (result : Option LeCreditConnResultCode) → Both R t.n (reject_read t room signal s result) (reject_read u room signal s result)
     unfolding reject_pending not_code
-    rejects_both room signal Unknown = gate-at (Is room) (Is signal) Nothing s λ _. still_both
-    rejects_both room signal (Known result) =
-        gate-at (Is room) (Is signal) Nothing s λ h. rw e (if_both (λ _. still_both) λ _. if_both (λ _. still_both) λ _. change-both s _ _ h)
+    rejects_both room signal None = gate-at (Some room) (Some signal) None s λ _. still_both
+    rejects_both room signal (Some result) =
+        gate-at (Some room) (Some signal) None s λ h. rw e (if_both (λ _. still_both) λ _. if_both (λ _. still_both) λ _. change-both s _ _ h)
 
     drops_both : (room : ℕ) → Both R t.n (drop_pending t room s) (drop_pending u room s)
     unfolding drop_pending
     drops_both room =
-        gate-at (Is room) Nothing Nothing s λ h.
+        gate-at (Some room) None None s λ h.
         rw e (if_both (λ _. still_both) λ _. if_both (λ _. still_both) λ _. if_both (λ _. change-both s _ _ h) λ _. change-both s _ _ h)
 
     pub opens_both : (room l : ℕ) (up : Bool) → Both R t.n (opened t room s l up) (opened (beside t ys qs) room s l up)
     unfolding opened
     opens_both room l up =
-        gate-at (Is room) Nothing (Is l) s λ h.
+        gate-at (Some room) None (Some l) s λ h.
         rw e (if_both (λ _. still_both) λ _. if_both (λ _. still_both) λ _. if_both (λ _. change-both s _ _ h) λ _. if_both (λ _. change-both s _ _ h) λ _.
         if_both (λ _. change-both s _ _ h) λ _. if_both (λ _. still_both) λ _. if_both (λ _. still_both) λ _. change-both s _ _ h)
 
     gives_both : (room : ℕ) → Both R t.n (give_up t room s) (give_up u room s)
     unfolding give_up
-    gives_both room = gate-at (Is room) Nothing Nothing s λ h. rw e (if_both (λ _. change-both s _ _ h) λ _. still_both)
+    gives_both room = gate-at (Some room) None None s λ h. rw e (if_both (λ _. change-both s _ _ h) λ _. still_both)
 
     releases_both : (room : ℕ) → Both R t.n (dec_ref t room s) (dec_ref u room s)
     unfolding dec_ref
-    releases_both room = gate-at (Is room) Nothing Nothing s λ h. rw e (if_both (λ _. still_both) λ _. if_both (λ _. change-both s _ _ h) λ _. change-both s _ _ h)
+    releases_both room = gate-at (Some room) None None s λ h. rw e (if_both (λ _. still_both) λ _. if_both (λ _. change-both s _ _ h) λ _. change-both s _ _ h)
 
     leaves-both : (room : ℕ) → Both R t.n (disconnect t room s) (disconnect u room s)
     unfolding disconnect disconnecting
-    leaves-both room = gate-at (Is room) Nothing Nothing s λ h. rw e (if_both (λ _. change-both s _ _ h) λ _. still_both)
+    leaves-both room = gate-at (Some room) None None s λ h. rw e (if_both (λ _. change-both s _ _ h) λ _. still_both)
 
     leaves_cid_both : (room cid : ℕ) → slot_of cid ≡ s → Both R t.n (disconnect_by_cid t room cid) (disconnect_by_cid u room cid)
     unfolding disconnect_by_cid disconnecting
     leaves_cid_both room cid q =
-        gate-both (Is room) Nothing Nothing Nothing λ _.
+        gate-both (Some room) None None None λ _.
         if_both (λ k. let h : s < t.n = rw (← q) (cid_within t cid k) in rw (q, e) (if_both (λ _. change-both s _ _ h) λ _. still_both)) λ _. still_both
 
     asks_both : (of : Slot → ℕ) → Both R t.n (query of t s) (query of u s)
     unfolding query
-    asks_both of = gate-at Nothing Nothing Nothing s λ _. rw e still_both
+    asks_both of = gate-at None None None s λ _. rw e still_both
 
     planned-both : (x : Slot) (l : ℕ) → s < t.n → (p : Plan) → Both R t.n (planned t s x l p) (planned u s x l p)
     unfolding planned
@@ -153,7 +147,7 @@ module _ {R : ℕ → Slot → Slot → Type 0} {t : Table} {ys : List Slot} {qs
 
     sends_both : (l out : ℕ) → Both R t.n (send t s l out) (send u s l out)
     unfolding send
-    sends_both l out = gate-at Nothing Nothing Nothing s λ h. rw e (if_both (λ _. still_both) λ _. if_both (λ _. still_both) λ _. planned-both (slot_at t s) l h _)
+    sends_both l out = gate-at None None None s λ h. rw e (if_both (λ _. still_both) λ _. if_both (λ _. still_both) λ _. planned-both (slot_at t s) l h _)
 
     started-both : (x : Slot) (l size : ℕ) → s < t.n → (p : Plan) → Both R t.n (start_planned t s x l size p) (start_planned u s x l size p)
     unfolding start_planned
@@ -162,29 +156,29 @@ module _ {R : ℕ → Slot → Slot → Type 0} {t : Table} {ys : List Slot} {qs
 
     starts_both : (l size : ℕ) → Both R t.n (start_job t s l size) (start_job u s l size)
     unfolding start_job
-    starts_both l size = gate-at Nothing Nothing Nothing s λ h. rw e (if_both (λ _. still_both) λ _. if_both (λ _. still_both) λ _. started-both (slot_at t s) l size h _)
+    starts_both l size = gate-at None None None s λ h. rw e (if_both (λ _. still_both) λ _. if_both (λ _. still_both) λ _. started-both (slot_at t s) l size h _)
 
     portions_both : (count size : ℕ) → Both R t.n (give_portion t s count size) (give_portion u s count size)
     unfolding give_portion
     portions_both count size =
-        gate-at Nothing Nothing Nothing s λ h.
+        gate-at None None None s λ h.
         rw e (if_both (λ _. still_both) λ _. if_both (λ _. still_both) λ _. if_both (λ _. still_both) λ _. if_both (λ _. still_both) λ _. filling-both s _ h)
 
     cancels_both : (room : ℕ) → Both R t.n (cancel_job t room s) (cancel_job u room s)
     unfolding cancel_job
     cancels_both room =
-        gate-at (Is room) Nothing Nothing s λ h.
+        gate-at (Some room) None None s λ h.
         rw e (if_both (λ _. still_both) λ _. if_both (λ _. still_both) λ _. if_both (λ _. change-both s _ _ h) λ _. change-both s _ _ h)
 
-    taken-both : (x : Slot) → s < t.n → (g : Grant) → Both R t.n (taken t s x g) (taken u s x g)
+    taken-both : (x : Slot) → s < t.n → (g : Option ℕ) → Both R t.n (taken t s x g) (taken u s x g)
     unfolding taken
-    taken-both x h Grant.Nothing = record { told = record { answer = refl; parts = refl; at = refl; out = refl; octets = refl; job = refl; identifier = refl }; slots = set_both s _ h }
-    taken-both x h (Grant.Credits n) = record { told = record { answer = refl; parts = refl; at = refl; out = refl; octets = refl; job = refl; identifier = refl }; slots = set_both s _ h }
+    taken-both x h None = record { told = record { answer = refl; parts = refl; at = refl; out = refl; octets = refl; job = refl; identifier = refl }; slots = set_both s _ h }
+    taken-both x h (Some n) = record { told = record { answer = refl; parts = refl; at = refl; out = refl; octets = refl; job = refl; identifier = refl }; slots = set_both s _ h }
 
     takes_both : (room signal size : ℕ) → Both R t.n (receive t room signal s size) (receive u room signal s size)
     unfolding receive
     takes_both room signal size =
-        gate-at (Is room) (Is signal) Nothing s λ h. rw e (if_both (λ _. still_both) λ _. if_both (λ _. still_both) λ _. if_both (λ _. still_both) λ _. taken-both (slot_at t s) h _)
+        gate-at (Some room) (Some signal) None s λ h. rw e (if_both (λ _. still_both) λ _. if_both (λ _. still_both) λ _. if_both (λ _. still_both) λ _. taken-both (slot_at t s) h _)
 
     joined-both : (x : Slot) (count : ℕ) → s < t.n → (j : Joined) → Both R t.n (joined t s x count j) (joined u s x count j)
     unfolding joined
@@ -196,7 +190,7 @@ module _ {R : ℕ → Slot → Slot → Type 0} {t : Table} {ys : List Slot} {qs
     dispatch-both : (room l cid : ℕ) (head : List ℕ) (count : ℕ) → slot_of cid ≡ s → Both R t.n (dispatch t room l cid head count) (dispatch u room l cid head count)
     unfolding dispatch
     dispatch-both room l cid head count q =
-        gate-both (Is room) Nothing (Is l) Nothing λ _.
+        gate-both (Some room) None (Some l) None λ _.
         if_both (λ _. still_both) λ k.
         let h : s < t.n = rw (← q) (cid_within t cid (not-false _ k)) in
         rw (q, e) (if_both (λ _. still_both) λ _. if_both (λ _. still_both) λ _. if_both (λ _. change-both s _ _ h) λ _. joined-both _ count h _)

@@ -2,8 +2,7 @@
 -- ones alone; what a call that names a slot does, on that slot alone. Each says: two tables that agree there, and may differ in all other
 -- slots, are told apart by no such call, nor by what it leaves of those slots. Of every call, with every size, on every table that has its N
 -- slots; so of every call of every run. Proved in Linked.antt and Named.antt.
-use Rattle.std.specs.Prelude.{◌≡◌, Bool, List, ℕ, ◌+◌, ◌<◌, length}
-use Rattle.codes.specs.declared.ResultRead.{ResultRead}
+use Rattle.std.specs.Prelude.{◌≡◌, Bool, List, ℕ, ◌+◌, ◌<◌, length, Option}
 use Rattle.channel.specs.Limits.{cid_base}
 use Rattle.channel.specs.declared.ChannelState.{ChannelState}
 use Rattle.channel.specs.declared.ChannelState.TheVariants.{Disconnected, Connected}
@@ -16,6 +15,7 @@ use Rattle.definition.specs.Calls.{Window, Call, frame, sends, portions, plain, 
 use Rattle.definition.specs.Apart.{called_by}
 use Rattle.definition.specs.Forms.{Fit}
 use Rattle.rules_slots.specs.Words.{Free, Of}
+use Rattle.codes.specs.declared.LeCreditConnResultCode.{LeCreditConnResultCode}
 
 -- What a call comes to on a table; room, out and job are the sizes of what it is lent.
 abbrev pub called : Table → Call → (room out job : ℕ) → Outcome
@@ -77,7 +77,7 @@ LinkLaw =
 
 pub data Names (s : ℕ) : Call → Type 0 where
   accepting : {c : L2capChannelConfig} {out tray : Window} → Names s (plain (accepts s c) out tray)
-  rejecting : {result : ResultRead} {out tray : Window} → Names s (plain (rejects s result) out tray)
+  rejecting : {result : Option LeCreditConnResultCode} {out tray : Window} → Names s (plain (rejects s result) out tray)
   dropping : {out tray : Window} → Names s (plain (drops s) out tray)
   querying : {l : ℕ} {up : Bool} {out tray : Window} → Names s (plain (opens s l up) out tray)
   giving : {out tray : Window} → Names s (plain (gives s) out tray)

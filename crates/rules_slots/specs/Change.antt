@@ -1,13 +1,10 @@
 -- WHICH SLOTS A CALL CHANGES, the law. A call that names a slot changes that slot alone; one that names a link, slots of that link or the
 -- lowest free one. No other slot's record changes, and no octet of another's part of the room. Of every call, with every size, on every
 -- table that has its N slots; so of every call of every run. Proved in Changes.antt.
-use Rattle.std.specs.Prelude.{◌≡◌, List, ℕ, ◌+◌, ◌*◌, ◌<◌, get_or, take, drop}
+use Rattle.std.specs.Prelude.{◌≡◌, List, ℕ, ◌+◌, ◌*◌, ◌<◌, get_or, take, drop, Some}
 use Rattle.signal_headers.specs.Headers.{body_in}
 use Rattle.signal_bodies.specs.Bodies.{disconnection_req, disconnection_res}
 use Rattle.signal_bodies.specs.LeCreditBodies.{le_credit_flow_ind}
-use Rattle.signal_bodies.specs.declared.DisconnectionReqRead.TheVariants as DisconnectionReq
-use Rattle.signal_bodies.specs.declared.DisconnectionResRead.TheVariants as DisconnectionRes
-use Rattle.signal_bodies.specs.declared.le_credit.LeCreditFlowIndRead.TheVariants as LeCreditFlowInd
 use Rattle.signal_forms.specs.declared.DisconnectionReq.{DisconnectionReq}
 use Rattle.signal_forms.specs.declared.DisconnectionRes.{DisconnectionRes}
 use Rattle.signal_forms.specs.declared.LeCreditFlowInd.{LeCreditFlowInd}
@@ -23,16 +20,16 @@ use Rattle.rules_slots.specs.Words.{Free, Of, Pending, Unheld, Attempt, Open, Op
 -- The slots that a signal PDU on link l may change, by the code of its first signal. Every other code changes none.
 pub data BySignal (t : Table) (l : ℕ) (pdu : List ℕ) (i : ℕ) : Type 0 where
   -- 0x06: "slot with that CID, this link, not Disconnected"
-  disconnects : {req : DisconnectionReq} → get_or pdu 0 0 ≡ 0x06 → disconnection_req (body_in pdu) ≡ DisconnectionReq.Is req → req.dcid ≡ cid_base + i → Of l (slot_at t i) → BySignal t l pdu i
+  disconnects : {req : DisconnectionReq} → get_or pdu 0 0 ≡ 0x06 → disconnection_req (body_in pdu) ≡ Some req → req.dcid ≡ cid_base + i → Of l (slot_at t i) → BySignal t l pdu i
   -- 0x07: "SCID names a Disconnecting slot of this link"
-  frees : {res : DisconnectionRes} → get_or pdu 0 0 ≡ 0x07 → disconnection_res (body_in pdu) ≡ DisconnectionRes.Is res → res.scid ≡ cid_base + i → Leaving l (slot_at t i) → BySignal t l pdu i
+  frees : {res : DisconnectionRes} → get_or pdu 0 0 ≡ 0x07 → disconnection_res (body_in pdu) ≡ Some res → res.scid ≡ cid_base + i → Leaving l (slot_at t i) → BySignal t l pdu i
   -- 0x14: "the lowest free slot becomes PeerConnecting"
   connects : get_or pdu 0 0 ≡ 0x14 → Lowest Free t i → BySignal t l pdu i
   -- 0x15: "matched to the lowest Connecting slot with that identifier and link"; "unmatched .. frees all Connecting slots of that link"
   matches : get_or pdu 0 0 ≡ 0x15 → Lowest (Attempt l (get_or pdu 1 0)) t i → BySignal t l pdu i
   unmatched : {id : ℕ} → get_or pdu 0 0 ≡ 0x15 → ((j : ℕ) → j < t.n → ¬ Attempt l (get_or pdu 1 0) (slot_at t j)) → Attempt l id (slot_at t i) → BySignal t l pdu i
   -- 0x16: "first Connected slot of this link with that peer CID"
-  credits : {ind : LeCreditFlowInd} → get_or pdu 0 0 ≡ 0x16 → le_credit_flow_ind (body_in pdu) ≡ LeCreditFlowInd.Is ind → Lowest (OpenTo l ind.cid) t i → BySignal t l pdu i
+  credits : {ind : LeCreditFlowInd} → get_or pdu 0 0 ≡ 0x16 → le_credit_flow_ind (body_in pdu) ≡ Some ind → Lowest (OpenTo l ind.cid) t i → BySignal t l pdu i
 
 abbrev pub Asking : Table → Request → ℕ → Type 0
 Asking t (register spsm) i = ⊥

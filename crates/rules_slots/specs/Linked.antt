@@ -3,14 +3,6 @@
 -- equal in both (`slot-found`). One lemma a call, from the forms in Named.antt.
 use Rattle.std.specs.Prelude.{◌≡◌, false, List, ℕ}
 use Rattle.std.proofs.Math.Bool.{Bool, true}
-use Rattle.signal_bodies.specs.declared.CommandRejectResRead.TheVariants as CommandRejectRes
-use Rattle.signal_bodies.specs.declared.DisconnectionReqRead.TheVariants as DisconnectionReq
-use Rattle.signal_bodies.specs.declared.DisconnectionResRead.TheVariants as DisconnectionRes
-use Rattle.signal_bodies.specs.declared.ConnParamUpdateReqRead.TheVariants as ConnParamUpdateReq
-use Rattle.signal_bodies.specs.declared.ConnParamUpdateResRead.TheVariants as ConnParamUpdateRes
-use Rattle.signal_bodies.specs.declared.le_credit.LeCreditConnReqRead.TheVariants as LeCreditConnReq
-use Rattle.signal_bodies.specs.declared.le_credit.LeCreditConnResRead.TheVariants as LeCreditConnRes
-use Rattle.signal_bodies.specs.declared.le_credit.LeCreditFlowIndRead.TheVariants as LeCreditFlowInd
 use Rattle.channel.specs.declared.Slot.{Slot}
 use Rattle.channel.specs.declared.Table.{Table}
 use Rattle.definition.specs.Calls.{Holder, nobody, by}

@@ -1,9 +1,8 @@
 -- The laws of Consequences.antt: each is read off the rows of the table (Steps.antt), which every call keeps to (Stepping.antt).
-use Rattle.std.specs.Prelude.{◌≡◌, refl, Bool, true, false, ◌&&◌, ◌||◌, not, List, ℕ, suc, ◌+◌, ◌-◌, ◌≤◌, ◌<◌, eqb}
+use Rattle.std.specs.Prelude.{◌≡◌, refl, Bool, true, false, ◌&&◌, ◌||◌, not, List, ℕ, suc, ◌+◌, ◌-◌, ◌≤◌, ◌<◌, eqb, Some}
 use Rattle.std.proofs.Common.{sym, ap, ◌∙◌, le_refl, add-zero, arith, eq-eqb, ltb-true, ltb-false}
 use Rattle.std.proofs.lemmas.Bool.{false≢true}
 use Rattle.codes.specs.declared.LeCreditConnResultCode.{LeCreditConnResultCode}
-use Rattle.codes.specs.declared.ResultRead.TheVariants.{Known}
 use Rattle.channel.specs.declared.Answer.{Answer}
 use Rattle.channel.specs.declared.Answer.TheVariants.{Portion}
 use Rattle.channel.specs.declared.ChannelState.{ChannelState}
@@ -30,7 +29,7 @@ module _ {t : Table} {i : ℕ} {v w : Window} where
   accepted q (row Steps.accept) e = record { was = refl; held = omega arith; now = refl }
   accepted {s = s} q (stay f) e = absurd (not-stay i s q e f)
 
-  rejected : {s : ℕ} {result : LeCreditConnResultCode} {a : Answer} {x y : Seen} → i ≡ s → Step t i (plain (rejects s (Known result)) v w) a x y → is_number 0 a ≡ true → Rejected x y
+  rejected : {s : ℕ} {result : LeCreditConnResultCode} {a : Answer} {x y : Seen} → i ≡ s → Step t i (plain (rejects s (Some result)) v w) a x y → is_number 0 a ≡ true → Rejected x y
   rejected q (row (Steps.reject {h = h})) e = record { was = refl; held = omega arith; now = (let z : h ≡ suc h - 1 = omega arith in ap free z) }
   rejected {s = s} q (stay f) e = absurd (not-stay i s q e f)
 
@@ -313,7 +312,7 @@ pub accept_needs_hold : AcceptNeedsHold
 accept_needs_hold s c v w t fit h count room out job = accepted refl (every_step t fit (plain (accepts s c) v w) count room out job s h)
 
 pub reject_needs_hold : RejectNeedsHold
-reject_needs_hold s result v w t fit h count room out job = rejected refl (every_step t fit (plain (rejects s (Known result)) v w) count room out job s h)
+reject_needs_hold s result v w t fit h count room out job = rejected refl (every_step t fit (plain (rejects s (Some result)) v w) count room out job s h)
 
 pub give_up_leaves_held : GiveUpLeavesHeld
 give_up_leaves_held s v w t fit h count room out job = given_up refl (every_step t fit (plain (gives s) v w) count room out job s h)

@@ -1,14 +1,12 @@
 -- A send lowers the peer's credits by the frames that it writes, a start by those that it sets aside, which a cancel in time returns, and a take books the grant that it
 -- tells (Credits.antt). Carried by the plan (crate sar_cut) and
 -- by the account's own rule (crate credit).
-use Rattle.std.specs.Prelude.{◌≡◌, refl, false, ℕ, zero, suc, ◌+◌, ◌-◌, ◌≤◌, min}
+use Rattle.std.specs.Prelude.{◌≡◌, refl, false, ℕ, zero, suc, ◌+◌, ◌-◌, ◌≤◌, min, None, Option, Some}
 use Rattle.std.proofs.Common.{sym, ap, ◌∙◌, subst, arith}
 use Rattle.std.proofs.lemmas.Bool.{false≢true}
 use borrow.Author.Tests.{ltb-true, ltb-false, eqb-true, eqb-false, not-false}
 use Rattle.lists.specs.Choose.{choose, if_cases}
 use Rattle.credit.specs.declared.CreditFlowControl.{CreditFlowControl}
-use Rattle.credit.specs.declared.Grant.{Grant}
-use Rattle.credit.specs.declared.Grant.TheVariants as Grant
 use Rattle.credit.specs.Account.{grant_of}
 use Rattle.sar_cut.specs.declared.Plan.{Plan}
 use Rattle.sar_cut.specs.declared.Plan.TheVariants as Plan
@@ -125,17 +123,17 @@ every_cancel t s v w count room out job = cancel_cancels t s room
 -- ---- take
 
 -- a grant is never of 0 credits
-grant_some : (a : CreditFlowControl) (n : ℕ) → grant_of a ≡ Grant.Credits n → 1 ≤ n
+grant_some : (a : CreditFlowControl) (n : ℕ) → grant_of a ≡ Some n → 1 ≤ n
 unfolding grant_of
 grant_some a n =
-    if_cases (λ g. g ≡ Grant.Credits n → 1 ≤ n) _ (λ _ e. nothing e)
-    (λ f. if_cases (λ g. g ≡ Grant.Credits n → 1 ≤ n) _ (λ _ e. let z : a.received ≡ n = cc in let y = eqb-false a.received 0 f in omega arith) (λ _ e. nothing e))
+    if_cases (λ g. g ≡ Some n → 1 ≤ n) _ (λ _ e. nothing e)
+    (λ f. if_cases (λ g. g ≡ Some n → 1 ≤ n) _ (λ _ e. let z : a.received ≡ n = cc in let y = eqb-false a.received 0 f in omega arith) (λ _ e. nothing e))
   where
-    nothing : Grant.Nothing ≡ Grant.Credits n → 1 ≤ n
+    nothing : None ≡ Some n → 1 ≤ n
     nothing e = let no : ◌≡◌ {A = ℕ} 0 1 = cc in absurd (omega arith)
 
 -- what is granted: the policy's grant in Connected, nothing elsewhere
-granted-is : (x : Slot) (P : Grant → Type 0) → (x.state ≡ Connected → P (grant_of x.account)) → ((x.state ≡ Connected → ⊥) → P Grant.Nothing) → P (grant_in x)
+granted-is : (x : Slot) (P : Option ℕ → Type 0) → (x.state ≡ Connected → P (grant_of x.account)) → ((x.state ≡ Connected → ⊥) → P None) → P (grant_in x)
 unfolding grant_in
 granted-is x P f g = if_cases P _ (λ e. f (connected-is x.state e)) (λ e. g (λ on. false≢true (sym e ∙ ap is_connected on)))
 
@@ -146,12 +144,12 @@ module _ (t : Table) (s size : ℕ) where
   abbrev T : Outcome → Type 0
   T o = TakesAs t s size o
 
-  on_grant : oldest y ≤ size → y.state ≡ Connected → (g : Grant) → grant_of y.account ≡ g → T (taken t s y g)
+  on_grant : oldest y ≤ size → y.state ≡ Connected → (g : Option ℕ) → grant_of y.account ≡ g → T (taken t s y g)
   unfolding taken
-  on_grant fits on Grant.Nothing e = grants_none fits (λ _. e)
-  on_grant fits on (Grant.Credits n) e = grants fits on e (grant_some y.account n e)
+  on_grant fits on None e = grants_none fits (λ _. e)
+  on_grant fits on (Some n) e = grants fits on e (grant_some y.account n e)
 
-  off_grant : oldest y ≤ size → (y.state ≡ Connected → ⊥) → T (taken t s y Grant.Nothing)
+  off_grant : oldest y ≤ size → (y.state ≡ Connected → ⊥) → T (taken t s y None)
   unfolding taken
   off_grant fits off = grants_none fits (λ on. absurd (off on))
 

@@ -1,5 +1,5 @@
 -- Every call makes only the steps of the table (Steps.antt): one lemma a call, its tests in the definition's order.
-use Rattle.std.specs.Prelude.{◌≡◌, ◌&&◌, ◌||◌, List, [], ◌∷◌, length, get_or, set}
+use Rattle.std.specs.Prelude.{◌≡◌, ◌&&◌, ◌||◌, List, [], ◌∷◌, length, get_or, set, None, Option, Some}
 use Rattle.std.proofs.Math.Path.{refl, sym, ap, subst}
 use Rattle.std.proofs.Common.{◌∙◌, not-suc-le-zero, le_of_suc-le-suc, arith, get_or-set_same, get_or-set_other}
 use Rattle.std.proofs.Math.Bool.{Bool, true, false, not}
@@ -13,32 +13,12 @@ use Rattle.lists.specs.Both.{and_left, and_right}
 use Rattle.codes.specs.Codes.{refusal_number}
 use Rattle.codes.specs.declared.Refusal.{Refusal}
 use Rattle.codes.specs.declared.Refusal.TheVariants as Refusal
-use Rattle.codes.specs.declared.ResultRead.{ResultRead}
-use Rattle.codes.specs.declared.ResultRead.TheVariants.{Known, Unknown}
-use Rattle.credit.specs.declared.Grant.{Grant}
-use Rattle.credit.specs.declared.Grant.TheVariants as Grant
 use Rattle.credit.specs.Account.{received}
 use Rattle.signal_headers.specs.Headers.{headers_of, body_in}
 use Rattle.signal_headers.specs.declared.Checked.{Checked}
 use Rattle.signal_headers.specs.declared.Checked.TheVariants.{Good, Cut, Past}
 use Rattle.signal_bodies.specs.Bodies.{disconnection_req, disconnection_res}
 use Rattle.signal_bodies.specs.LeCreditBodies.{le_credit_conn_req, le_credit_conn_res, le_credit_flow_ind}
-use Rattle.signal_bodies.specs.declared.CommandRejectResRead.{CommandRejectResRead}
-use Rattle.signal_bodies.specs.declared.CommandRejectResRead.TheVariants as CommandRejectRes
-use Rattle.signal_bodies.specs.declared.DisconnectionReqRead.{DisconnectionReqRead}
-use Rattle.signal_bodies.specs.declared.DisconnectionReqRead.TheVariants as DisconnectionReq
-use Rattle.signal_bodies.specs.declared.DisconnectionResRead.{DisconnectionResRead}
-use Rattle.signal_bodies.specs.declared.DisconnectionResRead.TheVariants as DisconnectionRes
-use Rattle.signal_bodies.specs.declared.ConnParamUpdateReqRead.{ConnParamUpdateReqRead}
-use Rattle.signal_bodies.specs.declared.ConnParamUpdateReqRead.TheVariants as ConnParamUpdateReq
-use Rattle.signal_bodies.specs.declared.ConnParamUpdateResRead.{ConnParamUpdateResRead}
-use Rattle.signal_bodies.specs.declared.ConnParamUpdateResRead.TheVariants as ConnParamUpdateRes
-use Rattle.signal_bodies.specs.declared.le_credit.LeCreditConnReqRead.{LeCreditConnReqRead}
-use Rattle.signal_bodies.specs.declared.le_credit.LeCreditConnReqRead.TheVariants as LeCreditConnReq
-use Rattle.signal_bodies.specs.declared.le_credit.LeCreditConnResRead.{LeCreditConnResRead}
-use Rattle.signal_bodies.specs.declared.le_credit.LeCreditConnResRead.TheVariants as LeCreditConnRes
-use Rattle.signal_bodies.specs.declared.le_credit.LeCreditFlowIndRead.{LeCreditFlowIndRead}
-use Rattle.signal_bodies.specs.declared.le_credit.LeCreditFlowIndRead.TheVariants as LeCreditFlowInd
 use Rattle.signal_forms.specs.declared.Signal.{Signal}
 use Rattle.octets.specs.Octets.{u16_at}
 use Rattle.sar_join.specs.declared.Assembly.{Assembly}
@@ -54,7 +34,6 @@ use Rattle.channel.specs.declared.Answer.{Answer}
 use Rattle.channel.specs.declared.Answer.TheVariants.{Done, Refused, At, Link, Opened, Due, Frames, Portion}
 use Rattle.channel.specs.declared.ChannelState.{ChannelState}
 use Rattle.channel.specs.declared.ChannelState.TheVariants.{Disconnected, Connecting, PeerConnecting, Connected, ConnectFailed, PeerDisconnecting, Disconnecting}
-use Rattle.channel.specs.declared.Given.TheVariants.{Nothing, Is}
 use Rattle.channel.specs.declared.L2capChannelConfig.{L2capChannelConfig}
 use Rattle.channel.specs.declared.OpenJob.{OpenJob}
 use Rattle.channel.specs.declared.Slot.{Slot}
@@ -79,6 +58,15 @@ use Rattle.rules.proofs.Forms.{gate_refusals}
 use Rattle.rules_steps.specs.Steps.{Seen, seen, is, free, Row, by_code, names_as_dcid, names_as_scid, admits, grants_to, is_good, steps, is_number, Fills, part, full, last, Step, row, stay, stay_down, stay-frame, stay-send, portion, stay-portion, link_down, overrun, Steps, EveryStep}
 use Rattle.rules_steps.specs.Steps as Steps
 use Rattle.rules_steps.specs.Stepping.{Overruns}
+use Rattle.codes.specs.declared.LeCreditConnResultCode.{LeCreditConnResultCode}
+use Rattle.signal_forms.specs.declared.CommandRejectRes.{CommandRejectRes}
+use Rattle.signal_forms.specs.declared.ConnParamUpdateReq.{ConnParamUpdateReq}
+use Rattle.signal_forms.specs.declared.ConnParamUpdateRes.{ConnParamUpdateRes}
+use Rattle.signal_forms.specs.declared.DisconnectionReq.{DisconnectionReq}
+use Rattle.signal_forms.specs.declared.DisconnectionRes.{DisconnectionRes}
+use Rattle.signal_forms.specs.declared.LeCreditConnReq.{LeCreditConnReq}
+use Rattle.signal_forms.specs.declared.LeCreditConnRes.{LeCreditConnRes}
+use Rattle.signal_forms.specs.declared.LeCreditFlowInd.{LeCreditFlowInd}
 
 -- a slot that was read, by what its tests told
 seen_as : (Q : ChannelState → (hold link : ℕ) → Type 0) (x : Slot) {k : ChannelState} {h l : ℕ} → x.state ≡ k → x.hold ≡ h → x.link ≡ l → Q k h l → Q x.state x.hold x.link
@@ -203,19 +191,19 @@ module _ (t : Table) (fit : Fit t) (v w : Window) where
       (pending-is x.state (not-false _ e)) (held _ f) refl Steps.accept)
       (λ i g. g))))))
 
-  reject-pending : (room signal s : ℕ) (result : ResultRead) → S (rejects s result) (reject_read t room signal s result)
+  reject-pending : (room signal s : ℕ) (result : Option LeCreditConnResultCode) → S (rejects s result) (reject_read t room signal s result)
   unfolding reject_pending not_code
-  reject-pending room signal s (Known result) =
-      let P = S (rejects s (Known result)) in
+  reject-pending room signal s (Some result) =
+      let P = S (rejects s (Some result)) in
       let x = slot_at t s in
       gate_refusals P t _ _ _ _ (λ r h i l. stay (and_off _ (refused_not_0 r)))
       (λ h. if_cases P _ (λ _ i l. stay refl)
       (λ e. if_cases P _ (λ _ i l. stay refl)
-      (λ f. steps-one (rejects s (Known result)) _ s _ h
-      (seen_as (λ k n l. Row t s (rejects s (Known result)) (Link l) (is k n l x.peer.credits x.job) (free (x.hold - 1))) x
+      (λ f. steps-one (rejects s (Some result)) _ s _ h
+      (seen_as (λ k n l. Row t s (rejects s (Some result)) (Link l) (is k n l x.peer.credits x.job) (free (x.hold - 1))) x
       (pending-is x.state (not-false _ e)) (held _ f) refl Steps.reject)
       (λ i g. g))))
-  reject-pending room signal s Unknown = gate_refusals (S (rejects s Unknown)) t _ _ _ _ (λ r h i l. stay (and_off _ (refused_not_0 r))) (λ _ i l. stay refl)
+  reject-pending room signal s None = gate_refusals (S (rejects s None)) t _ _ _ _ (λ r h i l. stay (and_off _ (refused_not_0 r))) (λ _ i l. stay refl)
 
   -- what holds of slot s alone
   only_at : (s i : ℕ) (p : Slot → Bool) → p (slot_at t s) ≡ false → (eqb i s && p (slot_at t i)) ≡ false
@@ -452,10 +440,10 @@ module _ (t : Table) (fit : Fit t) (v w : Window) where
     bad_body_lem : (i : ℕ) → i < t.n → Step t i (plain G v w) (Refused Refusal.Decode) (seen (slot_at t i)) (seen (slot_at t i))
     bad_body_lem = rests (not-handled (Refused Refusal.Decode) refl refl refl refl)
 
-    on_disconnection_req_lem : code ≡ 0x06 → (b : DisconnectionReqRead) → disconnection_req (body_in pdu) ≡ b → S G (on_disconnection_req t link id b)
+    on_disconnection_req_lem : code ≡ 0x06 → (b : Option DisconnectionReq) → disconnection_req (body_in pdu) ≡ b → S G (on_disconnection_req t link id b)
     unfolding on_disconnection_req
-    on_disconnection_req_lem c DisconnectionReq.Decode q = bad_body_lem
-    on_disconnection_req_lem c (DisconnectionReq.Is req) q =
+    on_disconnection_req_lem c None q = bad_body_lem
+    on_disconnection_req_lem c (Some req) q =
         let s = slot_of req.dcid in
         let x = slot_at t s in
         let named : (i : ℕ) → names_as_dcid i (disconnection_req (body_in pdu)) ≡ eqb (cid_of i) req.dcid = λ i. ap (names_as_dcid i) q in
@@ -473,10 +461,10 @@ module _ (t : Table) (fit : Fit t) (v w : Window) where
         (eqb-true _ _ (and_right (not (is_disconnected x.state)) _ its)) (Steps.peer-leaves c q (sym back) (not-true _ (and_left (not (is_disconnected x.state)) _ its))))
         (λ i z. code_06 _ _ _ _ _ c (and_off _ (at i ∙ z)))))
 
-    on_disconnection_res_lem : code ≡ 0x07 → (b : DisconnectionResRead) → disconnection_res (body_in pdu) ≡ b → S G (on_disconnection_res t link id b)
+    on_disconnection_res_lem : code ≡ 0x07 → (b : Option DisconnectionRes) → disconnection_res (body_in pdu) ≡ b → S G (on_disconnection_res t link id b)
     unfolding on_disconnection_res
-    on_disconnection_res_lem c DisconnectionRes.Decode q = bad_body_lem
-    on_disconnection_res_lem c (DisconnectionRes.Is res) q =
+    on_disconnection_res_lem c None q = bad_body_lem
+    on_disconnection_res_lem c (Some res) q =
         let s = slot_of res.scid in
         let x = slot_at t s in
         let named : (i : ℕ) → names_as_scid i (disconnection_res (body_in pdu)) ≡ eqb (cid_of i) res.scid = λ i. ap (names_as_scid i) q in
@@ -494,10 +482,10 @@ module _ (t : Table) (fit : Fit t) (v w : Window) where
         (λ a. subst (λ (l : ℕ). Row t s G Done (is (Disconnecting a) x.hold l x.peer.credits x.job) (free x.hold)) (sym (eqb-true _ _ (and_right (is_disconnecting x.state) _ its))) (Steps.peer_confirms c q (sym back))))
         (λ i z. code_07 _ _ _ _ _ c (and_off _ (at i ∙ z)))))
 
-    on_conn_req_lem : code ≡ 0x14 → (b : LeCreditConnReqRead) → le_credit_conn_req (body_in pdu) ≡ b → S G (on_conn_req t link listening id b)
+    on_conn_req_lem : code ≡ 0x14 → (b : Option LeCreditConnReq) → le_credit_conn_req (body_in pdu) ≡ b → S G (on_conn_req t link listening id b)
     unfolding on_conn_req
-    on_conn_req_lem c LeCreditConnReq.Decode q = bad_body_lem
-    on_conn_req_lem c (LeCreditConnReq.Is req) q =
+    on_conn_req_lem c None q = bad_body_lem
+    on_conn_req_lem c (Some req) q =
         let s = found is_free t in
         let known : Bool = is_registered t req.spsm in
         let least = min req.mtu req.mps in
@@ -522,10 +510,10 @@ module _ (t : Table) (fit : Fit t) (v w : Window) where
         (free-is x.state (and_left (is_disconnected x.state) _ p)) (eqb-true _ _ (and_right (is_disconnected x.state) _ p)) refl (Steps.peer_asks c q refl (let z = least_sizes (requester req) g in omega arith))))
         (λ i z. off i (and_off_right admitted z)))))))
 
-    on_conn_res_lem : code ≡ 0x15 → (b : LeCreditConnResRead) → le_credit_conn_res (body_in pdu) ≡ b → S G (on_conn_res t link id b)
+    on_conn_res_lem : code ≡ 0x15 → (b : Option LeCreditConnRes) → le_credit_conn_res (body_in pdu) ≡ b → S G (on_conn_res t link id b)
     unfolding on_conn_res
-    on_conn_res_lem c LeCreditConnRes.Decode q = bad_body_lem
-    on_conn_res_lem c (LeCreditConnRes.Is res) q =
+    on_conn_res_lem c None q = bad_body_lem
+    on_conn_res_lem c (Some res) q =
         let s = found (attempt_by link id) t in
         let x = slot_at t s in
         let p = x.peer.credits in
@@ -553,10 +541,10 @@ module _ (t : Table) (fit : Fit t) (v w : Window) where
         (seen_as (λ k h l. Row t s G Done (is k h l p x.job) (is Connected h l res.credits x.job)) x k-is refl l-is (Steps.peer_accepts c q refl good (let y = least_sizes (responder res) b in omega arith)))
         (λ i u. code_15 _ _ _ _ _ c u))))
 
-    on_credits_lem : code ≡ 0x16 → (b : LeCreditFlowIndRead) → le_credit_flow_ind (body_in pdu) ≡ b → S G (on_credits t link id b)
+    on_credits_lem : code ≡ 0x16 → (b : Option LeCreditFlowInd) → le_credit_flow_ind (body_in pdu) ≡ b → S G (on_credits t link id b)
     unfolding on_credits
-    on_credits_lem c LeCreditFlowInd.Decode q = bad_body_lem
-    on_credits_lem c (LeCreditFlowInd.Is ind) q =
+    on_credits_lem c None q = bad_body_lem
+    on_credits_lem c (Some ind) q =
         let s = found (connected_to link ind.cid) t in
         let x = slot_at t s in
         let p = x.peer.credits in
@@ -576,20 +564,20 @@ module _ (t : Table) (fit : Fit t) (v w : Window) where
 
     -- signals of the other codes move no slot
     module _ (off : (a : Answer) (i : ℕ) (x : Seen) → steps t i G a x ≡ false) where
-      on_parameters_lem : (b : ConnParamUpdateReqRead) → S G (on_parameters t id b)
+      on_parameters_lem : (b : Option ConnParamUpdateReq) → S G (on_parameters t id b)
       unfolding on_parameters
-      on_parameters_lem ConnParamUpdateReq.Decode = unmoved off
-      on_parameters_lem (ConnParamUpdateReq.Is req) = if_cases (S G) _ (λ _. unmoved off) (λ _. unmoved off)
+      on_parameters_lem None = unmoved off
+      on_parameters_lem (Some req) = if_cases (S G) _ (λ _. unmoved off) (λ _. unmoved off)
 
-      on_reject_lem : (b : CommandRejectResRead) → S G (on_reject t id b)
+      on_reject_lem : (b : Option CommandRejectRes) → S G (on_reject t id b)
       unfolding on_reject
-      on_reject_lem CommandRejectRes.Decode = unmoved off
-      on_reject_lem (CommandRejectRes.Is res) = unmoved off
+      on_reject_lem None = unmoved off
+      on_reject_lem (Some res) = unmoved off
 
-      on_parameter_response_lem : (b : ConnParamUpdateResRead) → S G (on_parameter_response t id b)
+      on_parameter_response_lem : (b : Option ConnParamUpdateRes) → S G (on_parameter_response t id b)
       unfolding on_parameter_response
-      on_parameter_response_lem ConnParamUpdateRes.Decode = unmoved off
-      on_parameter_response_lem (ConnParamUpdateRes.Is res) = unmoved off
+      on_parameter_response_lem None = unmoved off
+      on_parameter_response_lem (Some res) = unmoved off
 
     -- what is known of a code that is n, other than those that move slots
     off_code : (n : ℕ) → eqb code n ≡ true → eqb n 0x06 ≡ false → eqb n 0x07 ≡ false → eqb n 0x14 ≡ false → eqb n 0x15 ≡ false → eqb n 0x16 ≡ false → (a : Answer) (i : ℕ) (x : Seen) → steps t i G a x ≡ false
@@ -626,10 +614,10 @@ module _ (t : Table) (fit : Fit t) (v w : Window) where
 
   -- ---- jobs: what is seen of the slot stays
 
-  taken-steps : (s : ℕ) → s < t.n → (g : Grant) → S (takes s) (taken t s (slot_at t s) g)
+  taken-steps : (s : ℕ) → s < t.n → (g : Option ℕ) → S (takes s) (taken t s (slot_at t s) g)
   unfolding taken
-  taken-steps s h Grant.Nothing = one t fit (plain (takes s) v w) _ s _ h (stay refl) (λ i e. stay refl)
-  taken-steps s h (Grant.Credits n) = one t fit (plain (takes s) v w) _ s _ h (stay refl) (λ i e. stay refl)
+  taken-steps s h None = one t fit (plain (takes s) v w) _ s _ h (stay refl) (λ i e. stay refl)
+  taken-steps s h (Some n) = one t fit (plain (takes s) v w) _ s _ h (stay refl) (λ i e. stay refl)
 
   receive-steps : (room signal s size : ℕ) → S (takes s) (receive t room signal s size)
   unfolding receive

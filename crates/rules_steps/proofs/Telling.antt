@@ -1,5 +1,5 @@
 -- Every call tells what the table says (Told.antt): one lemma a call, its tests in the definition's order.
-use Rattle.std.specs.Prelude.{◌≡◌, refl, Bool, false, ◌||◌, List, [], ◌∷◌, ℕ, ◌≤◌, eqb, get_or}
+use Rattle.std.specs.Prelude.{◌≡◌, refl, Bool, false, ◌||◌, List, [], ◌∷◌, ℕ, ◌≤◌, eqb, get_or, None, Option, Some}
 use Rattle.std.proofs.Common.{sym, ap, ◌∙◌, subst, arith, eqb-true, ne_eqb}
 use Rattle.std.proofs.Math.Bool.{true}
 use Rattle.std.proofs.lemmas.Bool.{not-false}
@@ -7,30 +7,10 @@ use Rattle.lists.specs.Choose.{choose, choose_true, choose_false, if_cases}
 use Rattle.lists.specs.Both.{and_left, and_right}
 use Rattle.codes.specs.Codes.{refusal_number}
 use Rattle.codes.specs.declared.Refusal.{Refusal}
-use Rattle.codes.specs.declared.ResultRead.{ResultRead}
-use Rattle.codes.specs.declared.ResultRead.TheVariants.{Known, Unknown}
-use Rattle.credit.specs.declared.Grant.{Grant}
-use Rattle.credit.specs.declared.Grant.TheVariants as Grant
 use Rattle.credit.specs.Account.{grant_of}
 use Rattle.signal_headers.specs.Headers.{headers_of}
 use Rattle.signal_headers.specs.declared.Checked.{Checked}
 use Rattle.signal_headers.specs.declared.Checked.TheVariants.{Good, Cut, Past}
-use Rattle.signal_bodies.specs.declared.CommandRejectResRead.{CommandRejectResRead}
-use Rattle.signal_bodies.specs.declared.CommandRejectResRead.TheVariants as CommandRejectRes
-use Rattle.signal_bodies.specs.declared.DisconnectionReqRead.{DisconnectionReqRead}
-use Rattle.signal_bodies.specs.declared.DisconnectionReqRead.TheVariants as DisconnectionReq
-use Rattle.signal_bodies.specs.declared.DisconnectionResRead.{DisconnectionResRead}
-use Rattle.signal_bodies.specs.declared.DisconnectionResRead.TheVariants as DisconnectionRes
-use Rattle.signal_bodies.specs.declared.ConnParamUpdateReqRead.{ConnParamUpdateReqRead}
-use Rattle.signal_bodies.specs.declared.ConnParamUpdateReqRead.TheVariants as ConnParamUpdateReq
-use Rattle.signal_bodies.specs.declared.ConnParamUpdateResRead.{ConnParamUpdateResRead}
-use Rattle.signal_bodies.specs.declared.ConnParamUpdateResRead.TheVariants as ConnParamUpdateRes
-use Rattle.signal_bodies.specs.declared.le_credit.LeCreditConnReqRead.{LeCreditConnReqRead}
-use Rattle.signal_bodies.specs.declared.le_credit.LeCreditConnReqRead.TheVariants as LeCreditConnReq
-use Rattle.signal_bodies.specs.declared.le_credit.LeCreditConnResRead.{LeCreditConnResRead}
-use Rattle.signal_bodies.specs.declared.le_credit.LeCreditConnResRead.TheVariants as LeCreditConnRes
-use Rattle.signal_bodies.specs.declared.le_credit.LeCreditFlowIndRead.{LeCreditFlowIndRead}
-use Rattle.signal_bodies.specs.declared.le_credit.LeCreditFlowIndRead.TheVariants as LeCreditFlowInd
 use Rattle.signal_forms.specs.declared.Signal.{Signal}
 use Rattle.signal_write.specs.Writer.{encode_of}
 use Rattle.sar_join.specs.declared.Joined.{Joined}
@@ -39,7 +19,6 @@ use Rattle.sar_cut.specs.declared.Plan.{Plan}
 use Rattle.sar_cut.specs.declared.Plan.TheVariants as Plan
 use Rattle.channel.specs.declared.Answer.{Answer}
 use Rattle.channel.specs.declared.ChannelState.{ChannelState}
-use Rattle.channel.specs.declared.Given.TheVariants.{Nothing, Is}
 use Rattle.channel.specs.declared.L2capChannelConfig.{L2capChannelConfig}
 use Rattle.channel.specs.declared.Slot.{Slot}
 use Rattle.channel.specs.declared.Table.{Table}
@@ -62,19 +41,28 @@ use Rattle.rules.proofs.Forms.{gate_refusals}
 use Rattle.rules_steps.proofs.Tools.{is_peer_leaving, is_unannounced}
 use Rattle.rules_steps.specs.Told.{connect, credits, parameters, Replies, accepted, rejected, cleared, replied_to, not_understood, not-connected, not_valid, request, refused_12, refused_13, reply, silent, frame_in_lem, frames-out, portion-out, begin-out, link_down, own, Told, uses, keeps, Tells, EveryCallTells}
 use Rattle.rules_steps.specs.Told as Told
+use Rattle.codes.specs.declared.LeCreditConnResultCode.{LeCreditConnResultCode}
+use Rattle.signal_forms.specs.declared.CommandRejectRes.{CommandRejectRes}
+use Rattle.signal_forms.specs.declared.ConnParamUpdateReq.{ConnParamUpdateReq}
+use Rattle.signal_forms.specs.declared.ConnParamUpdateRes.{ConnParamUpdateRes}
+use Rattle.signal_forms.specs.declared.DisconnectionReq.{DisconnectionReq}
+use Rattle.signal_forms.specs.declared.DisconnectionRes.{DisconnectionRes}
+use Rattle.signal_forms.specs.declared.LeCreditConnReq.{LeCreditConnReq}
+use Rattle.signal_forms.specs.declared.LeCreditConnRes.{LeCreditConnRes}
+use Rattle.signal_forms.specs.declared.LeCreditFlowInd.{LeCreditFlowInd}
 
 -- the gate's refusals are neither 12 nor 13
 not_full : (r : Refusal) → refusal_number r ≤ 6 → (eqb (refusal_number r) 12 || eqb (refusal_number r) 13) ≡ false
 not_full r h = rw (ne_eqb (refusal_number r) 12 (λ e. omega arith), ne_eqb (refusal_number r) 13 (λ e. omega arith))
 
 -- a grant is told in Connected only, and is what the policy says
-granted_in : (x : Slot) (n : ℕ) → grant_in x ≡ Grant.Credits n → (is_connected x.state ≡ true) × (grant_of x.account ≡ Grant.Credits n)
+granted_in : (x : Slot) (n : ℕ) → grant_in x ≡ Some n → (is_connected x.state ≡ true) × (grant_of x.account ≡ Some n)
 unfolding grant_in
 granted_in x n = by_state (is_connected x.state)
   where
-    by_state : (b : Bool) → choose b (grant_of x.account) Grant.Nothing ≡ Grant.Credits n → (b ≡ true) × (grant_of x.account ≡ Grant.Credits n)
+    by_state : (b : Bool) → choose b (grant_of x.account) None ≡ Some n → (b ≡ true) × (grant_of x.account ≡ Some n)
     by_state true e = (refl, sym (choose_true true _ _ refl) ∙ e)
-    by_state false e = let z : Grant.Nothing ≡ Grant.Credits n = sym (choose_false false _ _ refl) ∙ e in
+    by_state false e = let z : None ≡ Some n = sym (choose_false false _ _ refl) ∙ e in
         let no : ◌≡◌ {A = ℕ} 0 1 = cc in
         absurd (omega arith)
 
@@ -114,14 +102,14 @@ module _ (t : Table) (fit : Fit t) (v w : Window) where
       (λ _. if_cases Q _ (λ _. keeps (silent refl))
       (λ e. if_cases Q _ (λ _. keeps (silent refl)) (λ _. keeps (reply (accepted (pending-is (slot_at t s).state (not-false _ e)))))))))
 
-  reject-pending : (room signal s : ℕ) (result : ResultRead) → P (rejects s result) (reject_read t room signal s result)
+  reject-pending : (room signal s : ℕ) (result : Option LeCreditConnResultCode) → P (rejects s result) (reject_read t room signal s result)
   unfolding reject_pending not_code
-  reject-pending room signal s (Known result) =
-      let Q = P (rejects s (Known result)) in
+  reject-pending room signal s (Some result) =
+      let Q = P (rejects s (Some result)) in
       gate_refusals Q t _ _ _ _ (λ r h. keeps (silent refl))
       (λ _. if_cases Q _ (λ _. keeps (silent refl))
       (λ e. if_cases Q _ (λ _. keeps (silent refl)) (λ _. keeps (reply (rejected (pending-is (slot_at t s).state (not-false _ e)))))))
-  reject-pending room signal s Unknown = gate_refusals (P (rejects s Unknown)) t _ _ _ _ (λ r h. keeps (silent refl)) (λ _. keeps (silent refl))
+  reject-pending room signal s None = gate_refusals (P (rejects s None)) t _ _ _ _ (λ r h. keeps (silent refl)) (λ _. keeps (silent refl))
 
   drop-pending : (room s : ℕ) → P (drops s) (drop_pending t room s)
   unfolding drop_pending
@@ -203,49 +191,49 @@ module _ (t : Table) (fit : Fit t) (v w : Window) where
         → Told t (plain (signals link listening central pdu) v w) a t.identifier (given (encode_of id s) ∷ [])
     replies {a} {s} p = keeps (reply (subst (λ (i : ℕ). Replies t (signals link listening central pdu) a i s) on p))
 
-    on_conn_req_lem : get_or pdu 0 0 ≡ 0x14 → (b : LeCreditConnReqRead) → S (on_conn_req t link listening id b)
+    on_conn_req_lem : get_or pdu 0 0 ≡ 0x14 → (b : Option LeCreditConnReq) → S (on_conn_req t link listening id b)
     unfolding on_conn_req
-    on_conn_req_lem code LeCreditConnReq.Decode = replies not_understood
-    on_conn_req_lem code (LeCreditConnReq.Is req) =
+    on_conn_req_lem code None = replies not_understood
+    on_conn_req_lem code (Some req) =
         if_cases S _ (λ _. replies (not-connected code))
         (λ _. if_cases S _ (λ _. replies (not-connected code))
         (λ _. if_cases S _ (λ _. replies (not-connected code))
         (λ _. if_cases S _ (λ _. replies (not-connected code)) (λ _. if_cases S _ (λ _. replies (not-connected code)) (λ _. none)))))
 
-    on_conn_res_lem : (b : LeCreditConnResRead) → S (on_conn_res t link id b)
+    on_conn_res_lem : (b : Option LeCreditConnRes) → S (on_conn_res t link id b)
     unfolding on_conn_res
-    on_conn_res_lem LeCreditConnRes.Decode = replies not_understood
-    on_conn_res_lem (LeCreditConnRes.Is res) = if_cases S _ (λ _. none) (λ _. if_cases S _ (λ _. none) (λ _. if_cases S _ (λ _. none) (λ _. none)))
+    on_conn_res_lem None = replies not_understood
+    on_conn_res_lem (Some res) = if_cases S _ (λ _. none) (λ _. if_cases S _ (λ _. none) (λ _. if_cases S _ (λ _. none) (λ _. none)))
 
-    on_credits_lem : (b : LeCreditFlowIndRead) → S (on_credits t link id b)
+    on_credits_lem : (b : Option LeCreditFlowInd) → S (on_credits t link id b)
     unfolding on_credits
-    on_credits_lem LeCreditFlowInd.Decode = replies not_understood
-    on_credits_lem (LeCreditFlowInd.Is ind) = if_cases S _ (λ _. none) (λ _. if_cases S _ (λ _. none) (λ _. none))
+    on_credits_lem None = replies not_understood
+    on_credits_lem (Some ind) = if_cases S _ (λ _. none) (λ _. if_cases S _ (λ _. none) (λ _. none))
 
-    on_disconnection_req_lem : (b : DisconnectionReqRead) → S (on_disconnection_req t link id b)
+    on_disconnection_req_lem : (b : Option DisconnectionReq) → S (on_disconnection_req t link id b)
     unfolding on_disconnection_req
-    on_disconnection_req_lem DisconnectionReq.Decode = replies not_understood
-    on_disconnection_req_lem (DisconnectionReq.Is req) = if_cases S _ (λ _. replies not_understood) (λ _. if_cases S _ (λ _. replies not_understood) (λ _. none))
+    on_disconnection_req_lem None = replies not_understood
+    on_disconnection_req_lem (Some req) = if_cases S _ (λ _. replies not_understood) (λ _. if_cases S _ (λ _. replies not_understood) (λ _. none))
 
-    on_disconnection_res_lem : (b : DisconnectionResRead) → S (on_disconnection_res t link id b)
+    on_disconnection_res_lem : (b : Option DisconnectionRes) → S (on_disconnection_res t link id b)
     unfolding on_disconnection_res
-    on_disconnection_res_lem DisconnectionRes.Decode = replies not_understood
-    on_disconnection_res_lem (DisconnectionRes.Is res) = if_cases S _ (λ _. none) (λ _. if_cases S _ (λ _. none) (λ _. none))
+    on_disconnection_res_lem None = replies not_understood
+    on_disconnection_res_lem (Some res) = if_cases S _ (λ _. none) (λ _. if_cases S _ (λ _. none) (λ _. none))
 
-    on_parameters_lem : get_or pdu 0 0 ≡ 0x12 → (b : ConnParamUpdateReqRead) → S (on_parameters t id b)
+    on_parameters_lem : get_or pdu 0 0 ≡ 0x12 → (b : Option ConnParamUpdateReq) → S (on_parameters t id b)
     unfolding on_parameters
-    on_parameters_lem code ConnParamUpdateReq.Decode = replies not_understood
-    on_parameters_lem code (ConnParamUpdateReq.Is req) = if_cases S _ (λ _. none) (λ _. replies (not_valid code))
+    on_parameters_lem code None = replies not_understood
+    on_parameters_lem code (Some req) = if_cases S _ (λ _. none) (λ _. replies (not_valid code))
 
-    on_reject_lem : (b : CommandRejectResRead) → S (on_reject t id b)
+    on_reject_lem : (b : Option CommandRejectRes) → S (on_reject t id b)
     unfolding on_reject
-    on_reject_lem CommandRejectRes.Decode = replies not_understood
-    on_reject_lem (CommandRejectRes.Is res) = none
+    on_reject_lem None = replies not_understood
+    on_reject_lem (Some res) = none
 
-    on_parameter_response_lem : (b : ConnParamUpdateResRead) → S (on_parameter_response t id b)
+    on_parameter_response_lem : (b : Option ConnParamUpdateRes) → S (on_parameter_response t id b)
     unfolding on_parameter_response
-    on_parameter_response_lem ConnParamUpdateRes.Decode = replies not_understood
-    on_parameter_response_lem (ConnParamUpdateRes.Is res) = none
+    on_parameter_response_lem None = replies not_understood
+    on_parameter_response_lem (Some res) = none
 
     handled-tells : (body : List ℕ) → S (handled t link listening central (get_or pdu 0 0) id body)
     unfolding handled
@@ -272,10 +260,10 @@ module _ (t : Table) (fit : Fit t) (v w : Window) where
 
   -- ---- jobs
 
-  taken-tells : (s : ℕ) (g : Grant) → grant_in (slot_at t s) ≡ g → P (takes s) (taken t s (slot_at t s) g)
+  taken-tells : (s : ℕ) (g : Option ℕ) → grant_in (slot_at t s) ≡ g → P (takes s) (taken t s (slot_at t s) g)
   unfolding taken
-  taken-tells s Grant.Nothing e = keeps (silent refl)
-  taken-tells s (Grant.Credits n) e = let g = granted_in (slot_at t s) n e in uses (request (credits (connected-is (slot_at t s).state g.0) g.1))
+  taken-tells s None e = keeps (silent refl)
+  taken-tells s (Some n) e = let g = granted_in (slot_at t s) n e in uses (request (credits (connected-is (slot_at t s).state g.0) g.1))
 
   receive-tells : (room signal s size : ℕ) → P (takes s) (receive t room signal s size)
   unfolding receive

@@ -1,11 +1,9 @@
 -- What the table of steps (Steps.antt) comes to, call by call, in document 01's words: for every table that has its slots, every size, every slot in use. Each law is a type,
 -- proved in Concluding.antt.
-use Rattle.std.specs.Prelude.{◌≡◌, Bool, true, false, ◌||◌, List, ℕ, ◌+◌, ◌-◌, ◌≤◌, ◌<◌, get_or}
+use Rattle.std.specs.Prelude.{◌≡◌, Bool, true, false, ◌||◌, List, ℕ, ◌+◌, ◌-◌, ◌≤◌, ◌<◌, get_or, Some}
 use Rattle.codes.specs.declared.LeCreditConnResultCode.{LeCreditConnResultCode}
-use Rattle.codes.specs.declared.ResultRead.TheVariants.{Known}
 use Rattle.signal_headers.specs.Headers.{body_in}
 use Rattle.signal_bodies.specs.LeCreditBodies.{le_credit_flow_ind}
-use Rattle.signal_bodies.specs.declared.le_credit.LeCreditFlowIndRead.TheVariants as LeCreditFlowInd
 use Rattle.signal_forms.specs.declared.LeCreditFlowInd.{LeCreditFlowInd}
 use Rattle.channel.specs.declared.Answer.{Answer}
 use Rattle.channel.specs.declared.Answer.TheVariants.{Done, Frames, Portion}
@@ -46,7 +44,7 @@ pub record Rejected (x y : Seen) : Type 0 where
   pub now : y ≡ free (x.hold - 1)
 
 abbrev pub RejectNeedsHold : Type 0
-RejectNeedsHold = (s : ℕ) (result : LeCreditConnResultCode) (v w : Window) → On (plain (rejects s (Known result)) v w) s (λ a x y. is_number 0 a ≡ true → Rejected x y)
+RejectNeedsHold = (s : ℕ) (result : LeCreditConnResultCode) (v w : Window) → On (plain (rejects s (Some result)) v w) s (λ a x y. is_number 0 a ≡ true → Rejected x y)
 
 -- ---- "Give-up frees .. Connected without holds": a held Connected slot stays as it is, and the answer is not 0
 
@@ -118,7 +116,7 @@ unused x = x.credits + x.job.aside
 pub data Budget : Call → Answer → Seen → Seen → Type 0 where
   kept : {c : Call} {a : Answer} {x y : Seen} → unused y ≡ unused x → Budget c a x y
   given : {link : ℕ} {listening central : Bool} {pdu : List ℕ} {ind : LeCreditFlowInd} {v w : Window} {x y : Seen} → get_or pdu 0 0 ≡ 0x16
-      → le_credit_flow_ind (body_in pdu) ≡ LeCreditFlowInd.Is ind → unused y ≡ unused x + ind.credits → y.job ≡ x.job → Budget (plain (signals link listening central pdu) v w) Done x y
+      → le_credit_flow_ind (body_in pdu) ≡ Some ind → unused y ≡ unused x + ind.credits → y.job ≡ x.job → Budget (plain (signals link listening central pdu) v w) Done x y
   sent : {s l n : ℕ} {sdu : List ℕ} {w : Window} {x y : Seen} → unused y + n ≡ unused x → Budget (sends s sdu w) (Frames l n) x y
   framed : {s l k : ℕ} {octets : List ℕ} {w : Window} {x y : Seen} → unused y + 1 ≡ unused x → Budget (portions s octets w) (Portion l k true) x y
   -- the last frame closes the job: in a run it uses the last credit that was set aside (`portion-credits` of crate rules)

@@ -1,25 +1,15 @@
 -- Which steps a slot can make, as one table: by call and answer the slot before and the slot after, with its holds, its identifiers, its link, the peer's credits and the
 -- job that is handed over in portions. Document 01, 'Slots', 'Signals' and 'Cutting, joining, credits'; document 02 (i), (ii). Proved in Stepping.antt; what it comes to call by call is in Consequences.antt.
-use Rattle.std.specs.Prelude.{◌≡◌, Bool, true, false, ◌&&◌, ◌||◌, not, List, ℕ, suc, ◌+◌, ◌-◌, ◌≤◌, ◌<◌, min, eqb, leb, ltb, get_or}
+use Rattle.std.specs.Prelude.{◌≡◌, Bool, true, false, ◌&&◌, ◌||◌, not, List, ℕ, suc, ◌+◌, ◌-◌, ◌≤◌, ◌<◌, min, eqb, leb, ltb, get_or, None, Option, Some}
 use Rattle.codes.specs.declared.LeCreditConnResultCode.{LeCreditConnResultCode}
 use Rattle.codes.specs.Codes.{result_number}
 use Rattle.codes.specs.declared.Refusal.{Refusal}
 use Rattle.codes.specs.declared.Refusal.TheVariants as Refusal
-use Rattle.codes.specs.declared.ResultRead.TheVariants.{Known}
 use Rattle.signal_headers.specs.Headers.{headers_of, body_in}
 use Rattle.signal_headers.specs.declared.Checked.{Checked}
 use Rattle.signal_headers.specs.declared.Checked.TheVariants.{Good, Cut, Past}
 use Rattle.signal_bodies.specs.Bodies.{disconnection_req, disconnection_res}
 use Rattle.signal_bodies.specs.LeCreditBodies.{le_credit_conn_req, le_credit_conn_res, le_credit_flow_ind}
-use Rattle.signal_bodies.specs.declared.DisconnectionReqRead.{DisconnectionReqRead}
-use Rattle.signal_bodies.specs.declared.DisconnectionReqRead.TheVariants as DisconnectionReq
-use Rattle.signal_bodies.specs.declared.DisconnectionResRead.{DisconnectionResRead}
-use Rattle.signal_bodies.specs.declared.DisconnectionResRead.TheVariants as DisconnectionRes
-use Rattle.signal_bodies.specs.declared.le_credit.LeCreditConnReqRead.{LeCreditConnReqRead}
-use Rattle.signal_bodies.specs.declared.le_credit.LeCreditConnReqRead.TheVariants as LeCreditConnReq
-use Rattle.signal_bodies.specs.declared.le_credit.LeCreditConnResRead.TheVariants as LeCreditConnRes
-use Rattle.signal_bodies.specs.declared.le_credit.LeCreditFlowIndRead.{LeCreditFlowIndRead}
-use Rattle.signal_bodies.specs.declared.le_credit.LeCreditFlowIndRead.TheVariants as LeCreditFlowInd
 use Rattle.signal_forms.specs.declared.DisconnectionReq.{DisconnectionReq}
 use Rattle.signal_forms.specs.declared.DisconnectionRes.{DisconnectionRes}
 use Rattle.signal_forms.specs.declared.LeCreditConnReq.{LeCreditConnReq}
@@ -70,7 +60,7 @@ pub data Row (t : Table) (i : ℕ) : Request → Answer → Seen → Seen → Ty
   -- "Accept: .. state (8), hold 0 (22, added)."
   accept : {id h l p : ℕ} {j : OpenJob} {c : L2capChannelConfig} → Row t i (accepts i c) (Link l) (is (PeerConnecting id) (suc h) l p j) (is Connected (suc h) l p j)
   -- "Reject: state, hold."
-  reject : {id h l p : ℕ} {j : OpenJob} {result : LeCreditConnResultCode} → Row t i (rejects i (Known result)) (Link l) (is (PeerConnecting id) (suc h) l p j) (free h)
+  reject : {id h l p : ℕ} {j : OpenJob} {result : LeCreditConnResultCode} → Row t i (rejects i (Some result)) (Link l) (is (PeerConnecting id) (suc h) l p j) (free h)
   -- "Dropping a pending: when Connected nothing ..; else the hold falls by one, and PeerConnecting is freed."
   drop-pending : {id h l p : ℕ} {j : OpenJob} → Row t i (drops i) Done (is (PeerConnecting id) (suc h) l p j) (free h)
   drop_hold : {k : ChannelState} {h l p : ℕ} {j : OpenJob} → is_connected k ≡ false → is_peer_connecting k ≡ false → Row t i (drops i) Done (is k (suc h) l p j) (is k h l p j)
@@ -98,33 +88,33 @@ pub data Row (t : Table) (i : ℕ) : Request → Answer → Seen → Seen → Ty
   announce_request : {h l p : ℕ} {j : OpenJob} → found due_slot t ≡ i → Row t i announces (Due l (index i)) (is (Disconnecting false) h l p j) (is (Disconnecting true) h l p j)
   -- 0x06: "slot with that CID, this link, not Disconnected → PeerDisconnecting"
   peer-leaves : {k : ChannelState} {h l p : ℕ} {j : OpenJob} {listening central : Bool} {pdu : List ℕ} {req : DisconnectionReq} → get_or pdu 0 0 ≡ 0x06
-      → disconnection_req (body_in pdu) ≡ DisconnectionReq.Is req → req.dcid ≡ cid_of i → is_disconnected k ≡ false
+      → disconnection_req (body_in pdu) ≡ Some req → req.dcid ≡ cid_of i → is_disconnected k ≡ false
       → Row t i (signals l listening central pdu) Done (is k h l p j) (is (PeerDisconnecting (get_or pdu 1 0)) h l p no_job)
   -- 0x07: "SCID names a Disconnecting slot of this link: freed"
   peer_confirms : {a : Bool} {h l p : ℕ} {j : OpenJob} {listening central : Bool} {pdu : List ℕ} {res : DisconnectionRes} → get_or pdu 0 0 ≡ 0x07
-      → disconnection_res (body_in pdu) ≡ DisconnectionRes.Is res → res.scid ≡ cid_of i
+      → disconnection_res (body_in pdu) ≡ Some res → res.scid ≡ cid_of i
       → Row t i (signals l listening central pdu) Done (is (Disconnecting a) h l p j) (free h)
   -- 0x14: "Else the lowest free slot becomes PeerConnecting." The request's MTU and MPS are at least 23 (document 02).
-  peer_asks : {l l' p : ℕ} {j : OpenJob} {central : Bool} {pdu : List ℕ} {req : LeCreditConnReq} → get_or pdu 0 0 ≡ 0x14 → le_credit_conn_req (body_in pdu) ≡ LeCreditConnReq.Is req
+  peer_asks : {l l' p : ℕ} {j : OpenJob} {central : Bool} {pdu : List ℕ} {req : LeCreditConnReq} → get_or pdu 0 0 ≡ 0x14 → le_credit_conn_req (body_in pdu) ≡ Some req
       → found is_free t ≡ i → size_least ≤ min req.mtu req.mps → Row t i (signals l true central pdu) Done (is Disconnected 0 l' p j) (is (PeerConnecting (get_or pdu 1 0)) 0 l req.credits no_job)
   -- 0x15: "matched to the lowest Connecting slot with that identifier and link"; row 17: "a response leaves ConnectFailed";
   -- row 8: "unmatched connect response frees all Connecting slots of that link"; "a good response below either [least] leaves the slot Disconnecting, its numbers stored" (document 02)
-  peer_accepts : {h l p : ℕ} {j : OpenJob} {listening central : Bool} {pdu : List ℕ} {res : LeCreditConnRes} → get_or pdu 0 0 ≡ 0x15 → le_credit_conn_res (body_in pdu) ≡ LeCreditConnRes.Is res
+  peer_accepts : {h l p : ℕ} {j : OpenJob} {listening central : Bool} {pdu : List ℕ} {res : LeCreditConnRes} → get_or pdu 0 0 ≡ 0x15 → le_credit_conn_res (body_in pdu) ≡ Some res
       → found (attempt_by l (get_or pdu 1 0)) t ≡ i → result_number res.result ≡ 0 → size_least ≤ min res.mtu res.mps
       → Row t i (signals l listening central pdu) Done (is (Connecting (get_or pdu 1 0)) h l p j) (is Connected h l res.credits j)
-  peer_below : {h l p : ℕ} {j : OpenJob} {listening central : Bool} {pdu : List ℕ} {res : LeCreditConnRes} → get_or pdu 0 0 ≡ 0x15 → le_credit_conn_res (body_in pdu) ≡ LeCreditConnRes.Is res
+  peer_below : {h l p : ℕ} {j : OpenJob} {listening central : Bool} {pdu : List ℕ} {res : LeCreditConnRes} → get_or pdu 0 0 ≡ 0x15 → le_credit_conn_res (body_in pdu) ≡ Some res
       → found (attempt_by l (get_or pdu 1 0)) t ≡ i → result_number res.result ≡ 0 → min res.mtu res.mps < size_least
       → Row t i (signals l listening central pdu) (Refused Refusal.InvalidValue) (is (Connecting (get_or pdu 1 0)) h l p j) (is (Disconnecting false) h l res.credits j)
-  peer_refuses : {h l p : ℕ} {j : OpenJob} {listening central : Bool} {pdu : List ℕ} {res : LeCreditConnRes} → get_or pdu 0 0 ≡ 0x15 → le_credit_conn_res (body_in pdu) ≡ LeCreditConnRes.Is res
+  peer_refuses : {h l p : ℕ} {j : OpenJob} {listening central : Bool} {pdu : List ℕ} {res : LeCreditConnRes} → get_or pdu 0 0 ≡ 0x15 → le_credit_conn_res (body_in pdu) ≡ Some res
       → found (attempt_by l (get_or pdu 1 0)) t ≡ i → ¬ (result_number res.result ≡ 0)
       → Row t i (signals l listening central pdu) (Refused (Refusal.ConnectError res.result)) (is (Connecting (get_or pdu 1 0)) h l p j) (is (ConnectFailed res.result) h l p j)
   unmatched : {id h l p : ℕ} {j : OpenJob} {listening central : Bool} {pdu : List ℕ} → get_or pdu 0 0 ≡ 0x15 → t.n ≤ found (attempt_by l (get_or pdu 1 0)) t
       → Row t i (signals l listening central pdu) (Refused Refusal.NotFound) (is (Connecting id) h l p j) (free h)
   -- 0x16: "first Connected slot of this link with that peer CID. A sum above 65,535: Disconnecting, credits kept." It "counts credits set aside".
-  peer_grants : {h l p : ℕ} {j : OpenJob} {listening central : Bool} {pdu : List ℕ} {ind : LeCreditFlowInd} → get_or pdu 0 0 ≡ 0x16 → le_credit_flow_ind (body_in pdu) ≡ LeCreditFlowInd.Is ind
+  peer_grants : {h l p : ℕ} {j : OpenJob} {listening central : Bool} {pdu : List ℕ} {ind : LeCreditFlowInd} → get_or pdu 0 0 ≡ 0x16 → le_credit_flow_ind (body_in pdu) ≡ Some ind
       → found (connected_to l ind.cid) t ≡ i → p + j.aside + ind.credits ≤ credits_most
       → Row t i (signals l listening central pdu) Done (is Connected h l p j) (is Connected h l (p + ind.credits) j)
-  peer_overflows : {h l p : ℕ} {j : OpenJob} {listening central : Bool} {pdu : List ℕ} {ind : LeCreditFlowInd} → get_or pdu 0 0 ≡ 0x16 → le_credit_flow_ind (body_in pdu) ≡ LeCreditFlowInd.Is ind
+  peer_overflows : {h l p : ℕ} {j : OpenJob} {listening central : Bool} {pdu : List ℕ} {ind : LeCreditFlowInd} → get_or pdu 0 0 ≡ 0x16 → le_credit_flow_ind (body_in pdu) ≡ Some ind
       → found (connected_to l ind.cid) t ≡ i → credits_most < p + j.aside + ind.credits
       → Row t i (signals l listening central pdu) (Refused Refusal.InvalidValue) (is Connected h l p j) (is (Disconnecting false) h l p no_job)
   -- "The sender states the SDU length first, gets n credits set aside"; 24: "for a second send while a job is open"
@@ -158,22 +148,22 @@ is_number n a = eqb (answer_number a) n
 unfoldable pub by_code : (code : ℕ) (x06 x07 x14 x15 x16 : Bool) → Bool
 by_code code x06 x07 x14 x15 x16 = (eqb code 0x06 && x06) || ((eqb code 0x07 && x07) || ((eqb code 0x14 && x14) || ((eqb code 0x15 && x15) || (eqb code 0x16 && x16))))
 
-abbrev pub names_as_dcid : (i : ℕ) → DisconnectionReqRead → Bool
-names_as_dcid i DisconnectionReq.Decode = false
-names_as_dcid i (DisconnectionReq.Is req) = eqb (cid_of i) req.dcid
+abbrev pub names_as_dcid : (i : ℕ) → Option DisconnectionReq → Bool
+names_as_dcid i None = false
+names_as_dcid i (Some req) = eqb (cid_of i) req.dcid
 
-abbrev pub names_as_scid : (i : ℕ) → DisconnectionResRead → Bool
-names_as_scid i DisconnectionRes.Decode = false
-names_as_scid i (DisconnectionRes.Is res) = eqb (cid_of i) res.scid
+abbrev pub names_as_scid : (i : ℕ) → Option DisconnectionRes → Bool
+names_as_scid i None = false
+names_as_scid i (Some res) = eqb (cid_of i) res.scid
 
 -- "SPSM not registered → result 2; not listening → 4; peer CID used on this link by a slot not Disconnected → 10", nor MTU or MPS below 23 → 0x000B: none of these
-abbrev pub admits : Table → (link : ℕ) (listening : Bool) → LeCreditConnReqRead → Bool
-admits t l listening LeCreditConnReq.Decode = false
-admits t l listening (LeCreditConnReq.Is req) = is_registered t req.spsm && (listening && (leb size_least (min req.mtu req.mps) && not (ltb (found (uses_peer l req.scid) t) t.n)))
+abbrev pub admits : Table → (link : ℕ) (listening : Bool) → Option LeCreditConnReq → Bool
+admits t l listening None = false
+admits t l listening (Some req) = is_registered t req.spsm && (listening && (leb size_least (min req.mtu req.mps) && not (ltb (found (uses_peer l req.scid) t) t.n)))
 
-abbrev pub grants_to : Table → (i link : ℕ) → LeCreditFlowIndRead → Bool
-grants_to t i l LeCreditFlowInd.Decode = false
-grants_to t i l (LeCreditFlowInd.Is ind) = eqb i (found (connected_to l ind.cid) t)
+abbrev pub grants_to : Table → (i link : ℕ) → Option LeCreditFlowInd → Bool
+grants_to t i l None = false
+grants_to t i l (Some ind) = eqb i (found (connected_to l ind.cid) t)
 
 abbrev pub is_good : Checked → Bool
 is_good Good = true

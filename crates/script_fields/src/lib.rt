@@ -5,7 +5,6 @@
 ghost use Rattle.std.specs.Prelude.{◌≡◌, drop};
 ghost use Rattle.script_fields.specs.Fields.{is_setting, setting_of, is_policy, policy_of};
 
-use channel::Setting;
 use credit::CreditFlowPolicy;
 use script_fields_plain::{is_number, is_one, number_of};
 
@@ -15,13 +14,13 @@ pub fn is_setting(word: &[u8]) -> bool
     is_one(word, b'-') | is_number(word)
 }
 
-pub fn setting_of(word: &[u8]) -> Setting
+pub fn setting_of(word: &[u8]) -> Option<u16>
     ensures { result ≡ setting_of word.now }
 {
     if is_one(word, b'-') {
-        return Setting::Default;
+        return None;
     }
-    Setting::Is(number_of(word))
+    Some(number_of(word))
 }
 
 // What stands behind the first character.

@@ -3,24 +3,17 @@
 ghost use Rattle.std.specs.Prelude.{◌≡◌};
 ghost use Rattle.signal_bodies.specs.LeCreditBodies.{le_credit_conn_req, le_credit_conn_res, le_credit_flow_ind};
 
-use codes::ResultRead;
 use octets::number;
 use signal_forms::{LeCreditConnReq, LeCreditConnRes, LeCreditFlowInd};
 
-#[derive(Clone, Copy)]
-pub enum LeCreditConnReqRead {
-    Decode,
-    Is(LeCreditConnReq),
-}
-
 // Code 0x14.
-pub fn read_le_credit_conn_req(body: &[u8]) -> LeCreditConnReqRead
+pub fn read_le_credit_conn_req(body: &[u8]) -> Option<LeCreditConnReq>
     ensures { result ≡ le_credit_conn_req body.now }
 {
     if body.len() != 10 {
-        return LeCreditConnReqRead::Decode;
+        return None;
     }
-    LeCreditConnReqRead::Is(LeCreditConnReq {
+    Some(LeCreditConnReq {
         spsm: number(body, 0),
         scid: number(body, 2),
         mtu: number(body, 4),
@@ -29,45 +22,33 @@ pub fn read_le_credit_conn_req(body: &[u8]) -> LeCreditConnReqRead
     })
 }
 
-#[derive(Clone, Copy)]
-pub enum LeCreditConnResRead {
-    Decode,
-    Is(LeCreditConnRes),
-}
-
 // Code 0x15.
-pub fn read_le_credit_conn_res(body: &[u8]) -> LeCreditConnResRead
+pub fn read_le_credit_conn_res(body: &[u8]) -> Option<LeCreditConnRes>
     ensures { result ≡ le_credit_conn_res body.now }
 {
     if body.len() != 10 {
-        return LeCreditConnResRead::Decode;
+        return None;
     }
     match codes::result_of(number(body, 8)) {
-        ResultRead::Known(result) => LeCreditConnResRead::Is(LeCreditConnRes {
+        Some(result) => Some(LeCreditConnRes {
             dcid: number(body, 0),
             mtu: number(body, 2),
             mps: number(body, 4),
             credits: number(body, 6),
             result,
         }),
-        ResultRead::Unknown => LeCreditConnResRead::Decode,
+        None => None,
     }
-}
-
-#[derive(Clone, Copy)]
-pub enum LeCreditFlowIndRead {
-    Decode,
-    Is(LeCreditFlowInd),
 }
 
 // Code 0x16.
-pub fn read_le_credit_flow_ind(body: &[u8]) -> LeCreditFlowIndRead
+pub fn read_le_credit_flow_ind(body: &[u8]) -> Option<LeCreditFlowInd>
     ensures { result ≡ le_credit_flow_ind body.now }
 {
     if body.len() != 4 {
-        return LeCreditFlowIndRead::Decode;
+        return None;
     }
-    LeCreditFlowIndRead::Is(LeCreditFlowInd {
+    Some(LeCreditFlowInd {
         cid: number(body, 0),
         credits: number(body, 2),
     })

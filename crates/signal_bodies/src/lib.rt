@@ -12,76 +12,52 @@ use signal_forms::{
     CommandRejectRes, ConnParamUpdateReq, ConnParamUpdateRes, DisconnectionReq, DisconnectionRes,
 };
 
-#[derive(Clone, Copy)]
-pub enum CommandRejectResRead {
-    Decode,
-    Is(CommandRejectRes),
-}
-
 // Code 0x01: longer bodies carry data, which is not read.
-pub fn read_command_reject_res(body: &[u8]) -> CommandRejectResRead
+pub fn read_command_reject_res(body: &[u8]) -> Option<CommandRejectRes>
     ensures { result ≡ command_reject_res body.now }
 {
     if body.len() < 2 {
-        return CommandRejectResRead::Decode;
+        return None;
     }
-    CommandRejectResRead::Is(CommandRejectRes {
+    Some(CommandRejectRes {
         reason: number(body, 0),
     })
 }
 
-#[derive(Clone, Copy)]
-pub enum DisconnectionReqRead {
-    Decode,
-    Is(DisconnectionReq),
-}
-
 // Code 0x06.
-pub fn read_disconnection_req(body: &[u8]) -> DisconnectionReqRead
+pub fn read_disconnection_req(body: &[u8]) -> Option<DisconnectionReq>
     ensures { result ≡ disconnection_req body.now }
 {
     if body.len() != 4 {
-        return DisconnectionReqRead::Decode;
+        return None;
     }
-    DisconnectionReqRead::Is(DisconnectionReq {
+    Some(DisconnectionReq {
         dcid: number(body, 0),
         scid: number(body, 2),
     })
-}
-
-#[derive(Clone, Copy)]
-pub enum DisconnectionResRead {
-    Decode,
-    Is(DisconnectionRes),
 }
 
 // Code 0x07.
-pub fn read_disconnection_res(body: &[u8]) -> DisconnectionResRead
+pub fn read_disconnection_res(body: &[u8]) -> Option<DisconnectionRes>
     ensures { result ≡ disconnection_res body.now }
 {
     if body.len() != 4 {
-        return DisconnectionResRead::Decode;
+        return None;
     }
-    DisconnectionResRead::Is(DisconnectionRes {
+    Some(DisconnectionRes {
         dcid: number(body, 0),
         scid: number(body, 2),
     })
 }
 
-#[derive(Clone, Copy)]
-pub enum ConnParamUpdateReqRead {
-    Decode,
-    Is(ConnParamUpdateReq),
-}
-
 // Code 0x12.
-pub fn read_conn_param_update_req(body: &[u8]) -> ConnParamUpdateReqRead
+pub fn read_conn_param_update_req(body: &[u8]) -> Option<ConnParamUpdateReq>
     ensures { result ≡ conn_param_update_req body.now }
 {
     if body.len() != 8 {
-        return ConnParamUpdateReqRead::Decode;
+        return None;
     }
-    ConnParamUpdateReqRead::Is(ConnParamUpdateReq {
+    Some(ConnParamUpdateReq {
         min: number(body, 0),
         max: number(body, 2),
         latency: number(body, 4),
@@ -89,20 +65,14 @@ pub fn read_conn_param_update_req(body: &[u8]) -> ConnParamUpdateReqRead
     })
 }
 
-#[derive(Clone, Copy)]
-pub enum ConnParamUpdateResRead {
-    Decode,
-    Is(ConnParamUpdateRes),
-}
-
 // Code 0x13.
-pub fn read_conn_param_update_res(body: &[u8]) -> ConnParamUpdateResRead
+pub fn read_conn_param_update_res(body: &[u8]) -> Option<ConnParamUpdateRes>
     ensures { result ≡ conn_param_update_res body.now }
 {
     if body.len() != 2 {
-        return ConnParamUpdateResRead::Decode;
+        return None;
     }
-    ConnParamUpdateResRead::Is(ConnParamUpdateRes {
+    Some(ConnParamUpdateRes {
         result: number(body, 0),
     })
 }

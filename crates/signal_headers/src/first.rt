@@ -11,21 +11,14 @@ pub struct L2capSignalHeader {
     pub length: u16,
 }
 
-#[derive(Clone, Copy)]
-pub enum HeaderRead {
-    // Under 4 octets.
-    Short,
-    Is(L2capSignalHeader),
-}
-
 // The header of the first signal.
-pub fn read_header(pdu: &[u8]) -> HeaderRead
+pub fn read_header(pdu: &[u8]) -> Option<L2capSignalHeader>
     ensures { result ≡ header_of pdu.now }
 {
     if pdu.len() < 4 {
-        HeaderRead::Short
+        None
     } else {
-        HeaderRead::Is(L2capSignalHeader {
+        Some(L2capSignalHeader {
             code: pdu[0],
             identifier: pdu[1],
             length: number(pdu, 2),

@@ -1,5 +1,5 @@
 -- The header check over what is written, and over what it gives back.
-use Rattle.std.specs.Prelude.{◌≡◌, List, [], ℕ, ◌+◌, ◌-◌, ◌*◌, ◌≤◌, ◌<◌, drop, length, ltb}
+use Rattle.std.specs.Prelude.{◌≡◌, List, [], ℕ, ◌+◌, ◌-◌, ◌*◌, ◌≤◌, ◌<◌, drop, length, ltb, Some, Ok}
 use Rattle.std.proofs.Common.{sym, ◌∙◌, arith, length-drop, drop_of_length-le, take_all}
 use borrow.Author.Tests.{ltb-false, lt-ltb, le-ltb}
 use Rattle.lists.specs.Choose.{choose, if_cases}
@@ -7,11 +7,9 @@ use Rattle.lists.specs.Fuel.{whole, fuelled}
 use Rattle.octets.specs.Octets.{u16_at}
 use Rattle.octets.specs.Numbers.{le16_back}
 use Rattle.signal_headers.specs.Headers.{header_of, headers_of, headers_eq, size_of, body_in, rest_of, rest_if}
-use Rattle.signal_headers.specs.declared.first.HeaderRead.TheVariants as HeaderRead
 use Rattle.signal_headers.specs.declared.Checked.{Checked}
 use Rattle.signal_headers.specs.declared.Checked.TheVariants.{Good, Cut, Past}
 use Rattle.signal_forms.specs.declared.Signal.{Signal}
-use Rattle.signal_read.specs.declared.SignalRead.TheVariants as SignalRead
 use Rattle.signal_read.specs.SignalRead.{signal_of}
 use Rattle.signal_write.specs.Writer.{octets_of, pdu_of, code_of, fields_of, encode_of}
 use Rattle.signal_laws.specs.Fields.{octets_length}
@@ -43,7 +41,7 @@ module _ (code id : ℕ) (fs : List ℕ) where
   pdu_rest = rw pdu-good past
 
   -- its header and its body are those that were meant
-  pub pdu-header : header_of pdu ≡ HeaderRead.Is (record { code = code; identifier = id; length = 2 * length fs })
+  pub pdu-header : header_of pdu ≡ Some (record { code = code; identifier = id; length = 2 * length fs })
   unfolding header_of choose
   pdu-header = rw (le-ltb (length pdu) 4 (omega (arith, whole_length)), size)
 
@@ -59,7 +57,7 @@ unfolding encode_of
 written_rest id s = pdu_rest (code_of s) id (fields_of s)
 
 -- so a written signal is read as what was meant
-pub written_back : (id : ℕ) (s : Signal) → signal_of (code_of s) (body_in (drop 4 (encode_of id s))) ≡ SignalRead.Is s
+pub written_back : (id : ℕ) (s : Signal) → signal_of (code_of s) (body_in (drop 4 (encode_of id s))) ≡ Ok s
 unfolding encode_of
 written_back id s = rw (pdu_body (code_of s) id (fields_of s)) (round_trip s)
 

@@ -5,12 +5,10 @@
 ghost use Rattle.std.specs.Prelude.{◌≡◌, ◌≤◌, IfOk, length, nat_eq};
 ghost use Rattle.lists.specs.First.{first};
 
+use codes::Refusal;
 use octets::{least, put};
 use signal_forms::Signal;
 use signal_headers::Checked;
-use signal_headers::first::HeaderRead;
-use signal_read::SignalRead;
-use signal_write::SignalWritten;
 use std::io;
 use std::io::Read;
 
@@ -69,20 +67,20 @@ fn valid(s: Signal) -> u8 {
 // signal; and whether its parameters are valid.
 fn again(code: u8, id: u8, body: &[u8], head: &mut [u8], out: &mut [u8]) -> usize {
     match signal_read::read_signal(code, body) {
-        SignalRead::NotSupported => {
+        Err(Refusal::NotSupported) => {
             put(head, 2, 1);
             0
         }
-        SignalRead::Decode => {
+        Err(_) => {
             put(head, 2, 2);
             0
         }
-        SignalRead::Is(s) => {
+        Ok(s) => {
             put(head, 2, 3);
             put(head, 4, valid(s));
             match signal_write::write_signal(out, id, s) {
-                SignalWritten::NoRoom => 0,
-                SignalWritten::Octets(n) => n,
+                None => 0,
+                Some(n) => n,
             }
         }
     }
@@ -103,8 +101,8 @@ fn answer(pdu: &[u8], head: &mut [u8], out: &mut [u8]) -> usize {
             0
         }
         Checked::Good => match signal_headers::read_header(pdu) {
-            HeaderRead::Short => 0,
-            HeaderRead::Is(h) => again(h.code, h.identifier, signal_headers::body(pdu), head, out),
+            None => 0,
+            Some(h) => again(h.code, h.identifier, signal_headers::body(pdu), head, out),
         },
     }
 }

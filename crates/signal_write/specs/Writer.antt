@@ -1,5 +1,5 @@
 -- A signal, written (Core Vol 3 Part A 3.1 and 4; document 01): the PDU of its form's code and fields.
-use Rattle.std.specs.Prelude.{◌≡◌, List, [], ◌∷◌, ℕ, ◌≤◌, ◌<◌, length, ltb}
+use Rattle.std.specs.Prelude.{◌≡◌, List, [], ◌∷◌, ℕ, ◌≤◌, ◌<◌, length, ltb, None, Option, Some}
 use Rattle.std.proofs.lemmas.List.Edits.{sets}
 use Rattle.std.proofs.Common.{lit≤, lt-ltb, le-ltb}
 use Rattle.lists.specs.Choose.{choose}
@@ -8,8 +8,6 @@ use Rattle.codes.specs.Codes.{result_number}
 use Rattle.signal_forms.specs.Limits.{signal_most}
 use Rattle.signal_forms.specs.declared.Signal.{Signal}
 use Rattle.signal_forms.specs.declared.Signal.TheVariants.{CommandRejectRes, DisconnectionReq, DisconnectionRes, ConnParamUpdateReq, ConnParamUpdateRes, LeCreditConnReq, LeCreditConnRes, LeCreditFlowInd}
-use Rattle.signal_write.specs.declared.SignalWritten.{SignalWritten}
-use Rattle.signal_write.specs.declared.SignalWritten.TheVariants.{NoRoom, Octets}
 
 -- each form's code, and its fields in Core's order
 abbrev pub code_of : Signal → ℕ
@@ -36,13 +34,13 @@ unfoldable pub encode_of : ℕ → Signal → List ℕ
 encode_of id s = pdu_of (code_of s) id (fields_of s)
 
 -- what is answered, and what the buffer l holds, once the octets x were to be written: a buffer under `signal_most` octets is refused
-unfoldable pub written_of : List ℕ → List ℕ → SignalWritten
-written_of l x = choose (ltb (length l) signal_most) NoRoom (Octets (length x))
+unfoldable pub written_of : List ℕ → List ℕ → Option ℕ
+written_of l x = choose (ltb (length l) signal_most) None (Some (length x))
 
 unfoldable pub out_of : List ℕ → List ℕ → List ℕ
 out_of l x = choose (ltb (length l) signal_most) l (sets l 0 x)
 
-pub record Writes (l x : List ℕ) (r : SignalWritten) (out : List ℕ) : Type 0 where
+pub record Writes (l x : List ℕ) (r : Option ℕ) (out : List ℕ) : Type 0 where
   pub answer : r ≡ written_of l x
   pub buffer : out ≡ out_of l x
 
@@ -59,11 +57,11 @@ encode_short id (LeCreditConnRes f) = lit≤ tt
 encode_short id (LeCreditFlowInd f) = lit≤ tt
 
 -- the two ways that a buffer is met
-pub writes-none : {l x : List ℕ} → length l < signal_most → Writes l x NoRoom l
+pub writes-none : {l x : List ℕ} → length l < signal_most → Writes l x None l
 unfolding written_of out_of choose
 writes-none {l} h = let e = lt-ltb (length l) signal_most h in record { answer = rw e; buffer = rw e }
 
 pub writes_all : {l out : List ℕ} (id : ℕ) {s s' : Signal} → s ≡ s' → signal_most ≤ length l → out ≡ sets l 0 (encode_of id s')
-    → Writes l (encode_of id s) (Octets (length (encode_of id s'))) out
+    → Writes l (encode_of id s) (Some (length (encode_of id s'))) out
 unfolding written_of out_of choose
 writes_all {l} id e h p = let f = le-ltb (length l) signal_most h in record { answer = rw (e, f); buffer = rw (e, f) p }

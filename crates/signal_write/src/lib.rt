@@ -6,44 +6,37 @@ ghost use Rattle.signal_write.specs.Writer.{encode_of, Writes};
 use signal_forms::{SIGNAL_MOST, Signal};
 use signal_write_pdu::{put_five, put_four, put_one, put_two};
 
-#[derive(Clone, Copy)]
-pub enum SignalWritten {
-    // Refusal 3.
-    NoRoom,
-    Octets(usize),
-}
-
 // Writes a signal from the buffer's start; a buffer under SIGNAL_MOST octets is left as it is, whatever the signal.
-pub fn write_signal(out: &mut [u8], id: u8, s: Signal) -> SignalWritten
+pub fn write_signal(out: &mut [u8], id: u8, s: Signal) -> Option<usize>
     ensures { Writes out.old (encode_of id s) result out.new }
 {
     if out.len() < SIGNAL_MOST {
-        return SignalWritten::NoRoom;
+        return None;
     }
     match s {
         Signal::CommandRejectRes(f) => {
             put_one(out, 0x01, id, f.reason);
-            SignalWritten::Octets(10)
+            Some(10)
         }
         Signal::DisconnectionReq(f) => {
             put_two(out, 0x06, id, f.dcid, f.scid);
-            SignalWritten::Octets(12)
+            Some(12)
         }
         Signal::DisconnectionRes(f) => {
             put_two(out, 0x07, id, f.dcid, f.scid);
-            SignalWritten::Octets(12)
+            Some(12)
         }
         Signal::ConnParamUpdateReq(f) => {
             put_four(out, 0x12, id, f.min, f.max, f.latency, f.timeout);
-            SignalWritten::Octets(16)
+            Some(16)
         }
         Signal::ConnParamUpdateRes(f) => {
             put_one(out, 0x13, id, f.result);
-            SignalWritten::Octets(10)
+            Some(10)
         }
         Signal::LeCreditConnReq(f) => {
             put_five(out, 0x14, id, f.spsm, f.scid, f.mtu, f.mps, f.credits);
-            SignalWritten::Octets(18)
+            Some(18)
         }
         Signal::LeCreditConnRes(f) => {
             let result = f.result;
@@ -57,11 +50,11 @@ pub fn write_signal(out: &mut [u8], id: u8, s: Signal) -> SignalWritten
                 f.credits,
                 codes::result_number(result),
             );
-            SignalWritten::Octets(18)
+            Some(18)
         }
         Signal::LeCreditFlowInd(f) => {
             put_two(out, 0x16, id, f.cid, f.credits);
-            SignalWritten::Octets(12)
+            Some(12)
         }
     }
 }

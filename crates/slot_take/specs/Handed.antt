@@ -1,9 +1,8 @@
 -- What a slot that hands a job out leaves, and its law: with the signal that was written it is the work of a take (Taking.antt).
-use Rattle.std.specs.Prelude.{◌≡◌, refl, List, [], ◌∷◌, ◌++◌, ℕ, ◌+◌, ◌*◌, length, get_or, drop}
+use Rattle.std.specs.Prelude.{◌≡◌, refl, List, [], ◌∷◌, ◌++◌, ℕ, ◌+◌, ◌*◌, length, get_or, drop, None, Some}
 use Rattle.std.proofs.Common.{sym, ◌∙◌, append-nil, arith}
 use Rattle.std.proofs.lemmas.List.Edits.{sets}
 use Rattle.octets.specs.Octets.{part}
-use Rattle.credit.specs.declared.Grant.TheVariants as Grant
 use Rattle.credit.specs.Account.{granted}
 use Rattle.sar_join.specs.Joining.{place}
 use Rattle.signal_forms.specs.declared.LeCreditFlowInd.{LeCreditFlowInd}
@@ -58,7 +57,7 @@ module _ (d m s id : ℕ) (x : Slot) {octets : ℕ} {room job : List ℕ} {r : W
 
 -- no credits are granted
 pub took_still : (d m s id : ℕ) (x : Slot) (out : List ℕ) {room job : List ℕ} {r : Worked} {room' job' : List ℕ} → Handed d m s x 0 room job r room' job'
-    → Took (part_width d m) s (granted_of d m s id x Grant.Nothing) room out job r room' out job'
+    → Took (part_width d m) s (granted_of d m s id x None) room out job r room' out job'
 unfolding granted_of sizes
 took_still d m s id x out {room = room} h = hands d m s id x h [] refl (sym (written_none [] room out))
 
@@ -66,7 +65,7 @@ took_still d m s id x out {room = room} h = hands d m s id x h [] refl (sym (wri
 pub took_granting : (d m s id : ℕ) (x : Slot) (out : List ℕ) {room job : List ℕ} {r : Worked} {room' job' : List ℕ} {y : Slot} {n octets : ℕ} {ind : LeCreditFlowInd} {out' : List ℕ}
     → y ≡ with_account (granted x.account n) x → ind ≡ crediting s n
     → Handed d m s y octets room job r room' job' → Replied out (encode_of id (Signal.LeCreditFlowInd ind)) octets out'
-    → Took (part_width d m) s (granted_of d m s id x (Grant.Credits n)) room out job r room' out' job'
+    → Took (part_width d m) s (granted_of d m s id x (Some n)) room out job r room' out' job'
 unfolding granted_of
 took_granting d m s id x out {room = room} {n = n} f i h w =
     let y = with_account (granted x.account n) x in

@@ -1,13 +1,11 @@
 -- A take that has passed the first refusals: what the definition has for the table is the work on its slot (Taking.antt), put into the table.
-use Rattle.std.specs.Prelude.{◌≡◌, refl, Bool, ℕ, eqb, ltb, length}
+use Rattle.std.specs.Prelude.{◌≡◌, refl, Bool, ℕ, eqb, ltb, length, None, Option, Some}
 use Rattle.std.proofs.Math.Path.{ap}
 use Rattle.std.proofs.Common.{◌∙◌}
 use Rattle.std.proofs.Math.Bool.{true, false}
 use mathlib.Core.List.{List, [], ◌∷◌}
 use Rattle.lists.specs.Choose.{choose, if_cases}
 use Rattle.codes.specs.declared.Refusal.TheVariants.{ChannelClosed, InsufficientSpace}
-use Rattle.credit.specs.declared.Grant.{Grant}
-use Rattle.credit.specs.declared.Grant.TheVariants as Grant
 use Rattle.signal_forms.specs.declared.Signal.TheVariants as Signal
 use Rattle.signal_write.specs.Writer.{encode_of}
 use Rattle.channel.specs.declared.Answer.TheVariants.{Done, Refused}
@@ -28,10 +26,10 @@ signal-long : (id s n : ℕ) → eqb (sizes (given (encode_of id (Signal.LeCredi
 unfolding sizes size encode_of
 signal-long id s n = refl
 
-granted_in : (t : Table) (s : ℕ) (x : Slot) (g : Grant) → take_in t s (granted_of t.d t.m s (next_id t) x g) ≡ taken t s x g
+granted_in : (t : Table) (s : ℕ) (x : Slot) (g : Option ℕ) → take_in t s (granted_of t.d t.m s (next_id t) x g) ≡ taken t s x g
 unfolding granted_of taken sizes choose
-granted_in t s x Grant.Nothing = refl
-granted_in t s x (Grant.Credits n) = rw (signal-long (next_id t) s n)
+granted_in t s x None = refl
+granted_in t s x (Some n) = rw (signal-long (next_id t) s n)
 
 -- the slot's tests are the table's, in the same order; a slot that stays leaves its table
 module _ (t : Table) (s : ℕ) (room out job : List ℕ) where
@@ -70,10 +68,10 @@ takes_in t s room out job e i p h = put_in t s (take_of t.d t.m s (next_id t) (s
 abbrev Alone : Slot → Take → Type 0
 Alone x k = k.work.slot ≡ with_queue k.work.slot.queue (with_account k.work.slot.account x)
 
-granted-alone : (d m s id : ℕ) (x : Slot) (g : Grant) → Alone x (granted_of d m s id x g)
+granted-alone : (d m s id : ℕ) (x : Slot) (g : Option ℕ) → Alone x (granted_of d m s id x g)
 unfolding granted_of
-granted-alone d m s id x Grant.Nothing = refl
-granted-alone d m s id x (Grant.Credits n) = refl
+granted-alone d m s id x None = refl
+granted-alone d m s id x (Some n) = refl
 
 pub take-alone : (d m s id : ℕ) (x : Slot) (size : ℕ) → Alone x (take_of d m s id x size)
 unfolding take_of

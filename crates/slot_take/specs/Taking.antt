@@ -1,10 +1,8 @@
 -- What a take makes of one slot, of its part of the room and of the two lent buffers (document 01, 'Cutting, joining, credits'): the definition's `taken_on`, of
 -- one slot. Taken.antt has the law that it is that.
-use Rattle.std.specs.Prelude.{◌≡◌, List, [], ◌∷◌, ℕ, ◌+◌, ◌*◌, eqb, ltb}
+use Rattle.std.specs.Prelude.{◌≡◌, List, [], ◌∷◌, ℕ, ◌+◌, ◌*◌, eqb, ltb, None, Option, Some}
 use Rattle.lists.specs.Choose.{choose}
 use Rattle.codes.specs.declared.Refusal.TheVariants.{ChannelClosed, InsufficientSpace}
-use Rattle.credit.specs.declared.Grant.{Grant}
-use Rattle.credit.specs.declared.Grant.TheVariants as Grant
 use Rattle.credit.specs.Account.{granted}
 use Rattle.sar_join.specs.Joining.{place}
 use Rattle.signal_forms.specs.declared.Signal.TheVariants as Signal
@@ -38,9 +36,9 @@ hand_of d m s x signal =
     }
 
 -- With a grant its signal is written, by the identifier `id`, and the credits are booked.
-unfoldable pub granted_of : (d m s id : ℕ) → Slot → Grant → Take
-granted_of d m s id x Grant.Nothing = hand_of d m s x []
-granted_of d m s id x (Grant.Credits n) = hand_of d m s (with_account (granted x.account n) x) (given (encode_of id (Signal.LeCreditFlowInd (crediting s n))) ∷ [])
+unfoldable pub granted_of : (d m s id : ℕ) → Slot → Option ℕ → Take
+granted_of d m s id x None = hand_of d m s x []
+granted_of d m s id x (Some n) = hand_of d m s (with_account (granted x.account n) x) (given (encode_of id (Signal.LeCreditFlowInd (crediting s n))) ∷ [])
 
 -- "11 .. taking when free, connecting, pending or failed"; "no job waiting is reported as such .. and writes and grants nothing"; "A buffer shorter than the job
 -- should now be refused" (document 02)

@@ -1,19 +1,17 @@
 // The credits that a take grants the peer, and a job handed out with them.
-ghost use Rattle.std.specs.Prelude.{◌≡◌, ◌≤◌, ◌<◌, length};
+ghost use Rattle.std.specs.Prelude.{◌≡◌, ◌≤◌, ◌<◌, length, Some};
 ghost use Rattle.channel.specs.Limits.{signal_most};
-ghost use Rattle.credit.specs.declared.Grant.TheVariants.{Credits};
 ghost use Rattle.definition.specs.Table.{part_width};
 ghost use Rattle.definition.specs.Frames.{grant_in, crediting};
 ghost use Rattle.table_room.specs.Placed.{Placed};
 ghost use Rattle.slot_take.specs.Taking.{granted_of, Took};
 
 use channel::Slot;
-use credit::Grant;
 use signal_forms::{LeCreditFlowInd, Signal};
 use slot_work::Worked;
 
 // What is granted: only a channel that is Connected gets new credits.
-pub fn grant_in(x: Slot) -> Grant
+pub fn grant_in(x: Slot) -> Option<u16>
     ensures { result ≡ grant_in x }
 {
     let k = x.state;
@@ -21,7 +19,7 @@ pub fn grant_in(x: Slot) -> Grant
     if table_state::is_connected(k) {
         return a.process();
     }
-    Grant::Nothing
+    None
 }
 
 // Slot s, as x, hands its oldest job out, and its peer is granted n credits: the signal uses the identifier, and the credits are booked.
@@ -37,7 +35,7 @@ pub fn hand_and_grant(
     n: u16,
 ) -> Worked
     requires { Placed d m s (length room.old) × (signal_most ≤ length signal.old) × (0 < x.queue.count) }
-    ensures { Took (part_width d m) s (granted_of d m s id x (Credits n)) room.old signal.old job.old result room.new signal.new job.new }
+    ensures { Took (part_width d m) s (granted_of d m s id x (Some n)) room.old signal.old job.old result room.new signal.new job.new }
 {
     let a = x.account;
     let y = table_slot::with_account(x, credit_in_place::granted_through(a, n));

@@ -16,7 +16,6 @@ ghost use Rattle.slot_take.specs.Taking.{take_of, Took};
 
 use channel::{Answer, ChannelState, Queue, Slot};
 use codes::Refusal;
-use credit::Grant;
 use slot_work::Worked;
 
 // Takes the oldest job that waits in slot s, as x, which has its part in the room; `id` is the identifier of a signal that is written. A refusal leaves all.
@@ -45,8 +44,8 @@ pub fn take_from(
         return slot_work::became(x, Answer::Refused(Refusal::InsufficientSpace), 0);
     }
     match granting::grant_in(x) {
-        Grant::Nothing => handing::hand(room, d, m, s, x, job, 0),
-        Grant::Credits(n) => granting::hand_and_grant(room, signal, d, m, s, x, id, job, n),
+        None => handing::hand(room, d, m, s, x, job, 0),
+        Some(n) => granting::hand_and_grant(room, signal, d, m, s, x, id, job, n),
     }
 }
 

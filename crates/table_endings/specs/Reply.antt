@@ -1,10 +1,8 @@
 -- What a reply of the octets xs leaves in the buffer l, and how many they are; and how a call's proof reads that off the outcome.
-use Rattle.std.specs.Prelude.{◌≡◌, List, [], ◌∷◌, ℕ, ◌≤◌, length}
+use Rattle.std.specs.Prelude.{◌≡◌, List, [], ◌∷◌, ℕ, ◌≤◌, length, None, Option, Some}
 use Rattle.std.proofs.Common.{sym, ◌∙◌, arith, le-ltb}
 use Rattle.std.proofs.lemmas.List.Edits.{sets}
 use Rattle.lists.specs.Choose.{choose}
-use Rattle.signal_write.specs.declared.SignalWritten.{SignalWritten}
-use Rattle.signal_write.specs.declared.SignalWritten.TheVariants.{NoRoom, Octets}
 use Rattle.signal_write.specs.Writer.{written_of, out_of, Writes}
 use Rattle.channel.specs.declared.Answer.{Answer}
 use Rattle.channel.specs.declared.Slot.{Slot}
@@ -20,18 +18,18 @@ pub record Replied (l xs : List ℕ) (n : ℕ) (out : List ℕ) : Type 0 where
   pub octets : n ≡ length xs
   pub buffer : out ≡ sets l 0 xs
 
-pub replied : {l xs out : List ℕ} {r : SignalWritten} {n : ℕ} → signal_most ≤ length l → Writes l xs r out → r ≡ Octets n → Replied l xs n out
+pub replied : {l xs out : List ℕ} {r : Option ℕ} {n : ℕ} → signal_most ≤ length l → Writes l xs r out → r ≡ Some n → Replied l xs n out
 unfolding written_of out_of choose
 replied {l} {xs} {out} {r} {n} h w e =
     let f = le-ltb (length l) signal_most h in
-    let a : Octets n ≡ Octets (length xs) = sym e ∙ w.answer ∙ rw f in
+    let a : Some n ≡ Some (length xs) = sym e ∙ w.answer ∙ rw f in
     record { octets = cc; buffer = w.buffer ∙ rw f }
 
-pub refused : {l xs out : List ℕ} {r : SignalWritten} → signal_most ≤ length l → Writes l xs r out → r ≡ NoRoom → ⊥
+pub refused : {l xs out : List ℕ} {r : Option ℕ} → signal_most ≤ length l → Writes l xs r out → r ≡ None → ⊥
 unfolding written_of out_of choose
 refused {l} {xs} {out} {r} h w e =
     let f = le-ltb (length l) signal_most h in
-    let a : NoRoom ≡ Octets (length xs) = sym e ∙ w.answer ∙ rw f in
+    let a : None ≡ Some (length xs) = sym e ∙ w.answer ∙ rw f in
     let z : ◌≡◌ {A = ℕ} 0 1 = cc in omega arith
 
 -- a slot changes without a move, and given octets are written

@@ -5,7 +5,6 @@ ghost use Rattle.channel.specs.Limits.{signal_most};
 ghost use Rattle.table_endings.specs.Reply.{Replied};
 
 use signal_forms::Signal;
-use signal_write::SignalWritten;
 
 // Writes the signal at the buffer's start, and says how many octets that took.
 pub fn reply(out: &mut [u8], id: u8, s: Signal) -> usize
@@ -13,7 +12,7 @@ pub fn reply(out: &mut [u8], id: u8, s: Signal) -> usize
     ensures { Replied out.old (encode_of id s) result out.new }
 {
     match signal_write::write_signal(out, id, s) {
-        SignalWritten::NoRoom => 0,
-        SignalWritten::Octets(n) => n,
+        None => 0,
+        Some(n) => n,
     }
 }

@@ -1,11 +1,8 @@
 -- What a call may rely on once the first refusals let it pass. It follows from the definition of `verdict`, test by test.
-use Rattle.std.specs.Prelude.{◌≡◌, Bool, true, false, ℕ, ◌≤◌, ◌<◌}
+use Rattle.std.specs.Prelude.{◌≡◌, Bool, true, false, ℕ, ◌≤◌, ◌<◌, None, Ok, Option, Some}
 use Rattle.std.proofs.Common.{ltb-false, leb-false, eqb-true}
 use Rattle.std.proofs.lemmas.Bool.{not-false}
 use Rattle.channel.specs.Limits.{signal_most, handle_most}
-use Rattle.channel.specs.declared.Given.{Given}
-use Rattle.channel.specs.declared.Given.TheVariants.{Nothing, Is}
-use Rattle.channel.specs.declared.Verdict.TheVariants.{Pass}
 use Rattle.channel.specs.declared.Table.{Table}
 use Rattle.definition.specs.Table.{well_formed, room_size}
 use Rattle.definition.specs.Outcome.{fails, verdict}
@@ -13,11 +10,11 @@ use Rattle.definition.proofs.Tells.{not_stopped}
 use Rattle.table_gate_sizes.specs.Sizes.{Sized, formed_sizes}
 
 -- P Holds of the number, if one was given
-abbrev pub Holds : (ℕ → Type 0) → Given → Type 0
-Holds P Nothing = Unit {0}
-Holds P (Is x) = P x
+abbrev pub Holds : (ℕ → Type 0) → Option ℕ → Type 0
+Holds P None = Unit {0}
+Holds P (Some x) = P x
 
-pub record Passed (t : Table) (room signal link slot : Given) : Type 0 where
+pub record Passed (t : Table) (room signal link slot : Option ℕ) : Type 0 where
   pub formed : well_formed t ≡ true
   pub sizes : Sized t.n t.d t.m
   pub room-is : Holds (λ size. size ≡ room_size t) room
@@ -25,11 +22,11 @@ pub record Passed (t : Table) (room signal link slot : Given) : Type 0 where
   pub link-is : Holds (λ l. l ≤ handle_most) link
   pub slot_is : Holds (λ s. s < t.n) slot
 
-good : (bad : ℕ → Bool) (P : ℕ → Type 0) (g : Given) → ((x : ℕ) → bad x ≡ false → P x) → fails bad g ≡ false → Holds P g
-good bad P Nothing f e = tt
-good bad P (Is x) f e = f x e
+good : (bad : ℕ → Bool) (P : ℕ → Type 0) (g : Option ℕ) → ((x : ℕ) → bad x ≡ false → P x) → fails bad g ≡ false → Holds P g
+good bad P None f e = tt
+good bad P (Some x) f e = f x e
 
-pub passed : (t : Table) (room signal link slot : Given) → verdict t room signal link slot ≡ Pass → Passed t room signal link slot
+pub passed : (t : Table) (room signal link slot : Option ℕ) → verdict t room signal link slot ≡ Ok tt → Passed t room signal link slot
 unfolding verdict
 passed t room signal link slot e0 =
     let (h1, e1) = not_stopped _ _ _ e0 in

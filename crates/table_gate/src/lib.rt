@@ -5,12 +5,18 @@
 ghost use Rattle.std.specs.Prelude.{◌≡◌};
 ghost use Rattle.definition.specs.Outcome.{verdict};
 
-use channel::{Given, HANDLE_MOST, SIGNAL_MOST, Table, Verdict};
+use channel::{HANDLE_MOST, SIGNAL_MOST, Table};
 use codes::Refusal;
 pub use table_gate_sizes::{part_size, place_size, room_size, sizes_fit};
 
 // First 1, 2, 3 (signal buffer), 4, 6.
-pub fn gate(t: Table, room: Given, signal: Given, link: Given, slot: Given) -> Verdict
+pub fn gate(
+    t: Table,
+    room: Option<usize>,
+    signal: Option<usize>,
+    link: Option<usize>,
+    slot: Option<usize>,
+) -> Result<(), Refusal>
     ensures { result ≡ verdict t room signal link slot }
 {
     let formed = table_gate_validity::well_formed(t);
@@ -18,19 +24,19 @@ pub fn gate(t: Table, room: Given, signal: Given, link: Given, slot: Given) -> V
     let beyond = table_gate_given::above(link, HANDLE_MOST);
     let no_slot = table_gate_given::reaching(slot, t.n);
     if !formed {
-        return Verdict::Stop(Refusal::BadTable);
+        return Err(Refusal::BadTable);
     }
     if table_gate_given::other_than(room, room_size(t.n, t.d, t.m)) {
-        return Verdict::Stop(Refusal::BadRoom);
+        return Err(Refusal::BadRoom);
     }
     if short {
-        return Verdict::Stop(Refusal::NoRoom);
+        return Err(Refusal::NoRoom);
     }
     if beyond {
-        return Verdict::Stop(Refusal::BadHandle);
+        return Err(Refusal::BadHandle);
     }
     if no_slot {
-        return Verdict::Stop(Refusal::BadSlot);
+        return Err(Refusal::BadSlot);
     }
-    Verdict::Pass
+    Ok(())
 }

@@ -4,40 +4,38 @@
 ghost use Rattle.std.specs.Prelude.{◌≡◌, not, eqb, leb, ltb};
 ghost use Rattle.definition.specs.Outcome.{fails};
 
-use channel::Given;
-
-pub fn other_than(g: Given, k: usize) -> bool
+pub fn other_than(g: Option<usize>, k: usize) -> bool
     ensures { result ≡ fails (λ x. not (eqb x k)) g }
 {
     match g {
-        Given::Nothing => false,
-        Given::Is(x) => x != k,
+        None => false,
+        Some(x) => x != k,
     }
 }
 
-pub fn below(g: Given, k: usize) -> bool
+pub fn below(g: Option<usize>, k: usize) -> bool
     ensures { result ≡ fails (λ x. ltb x k) g }
 {
     match g {
-        Given::Nothing => false,
-        Given::Is(x) => x < k,
+        None => false,
+        Some(x) => x < k,
     }
 }
 
-pub fn above(g: Given, k: usize) -> bool
+pub fn above(g: Option<usize>, k: usize) -> bool
     ensures { result ≡ fails (λ x. ltb k x) g }
 {
     match g {
-        Given::Nothing => false,
-        Given::Is(x) => k < x,
+        None => false,
+        Some(x) => k < x,
     }
 }
 
-pub fn reaching(g: Given, k: usize) -> bool
+pub fn reaching(g: Option<usize>, k: usize) -> bool
     ensures { result ≡ fails (λ x. leb k x) g }
 {
     match g {
-        Given::Nothing => false,
-        Given::Is(x) => k <= x,
+        None => false,
+        Some(x) => k <= x,
     }
 }

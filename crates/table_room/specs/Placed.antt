@@ -1,9 +1,7 @@
 -- What the functions on the room ask, and how a call has it from a passed gate: sizes within the limits, and a room as long as they say.
-use Rattle.std.specs.Prelude.{◌≡◌, ℕ, ◌+◌, ◌*◌, ◌≤◌, ◌<◌}
+use Rattle.std.specs.Prelude.{◌≡◌, ℕ, ◌+◌, ◌*◌, ◌≤◌, ◌<◌, Option, Some}
 use Rattle.std.proofs.Common.{arith}
 use Rattle.channel.specs.Limits.{slots_most, depth_most, packet_most}
-use Rattle.channel.specs.declared.Given.{Given}
-use Rattle.channel.specs.declared.Given.TheVariants.{Is}
 use Rattle.channel.specs.declared.Table.{Table}
 use Rattle.definition.specs.Table.{width, room_size, spent}
 use Rattle.definition.specs.Table.{part_width}
@@ -22,7 +20,7 @@ pub record RoomOf (t : Table) (long : ℕ) : Type 0 where
   pub sizes : Sized t.n t.d t.m
   pub is : long ≡ room_size t
 
-pub room_of : {t : Table} {long : ℕ} {signal link slot : Given} → Passed t (Is long) signal link slot → RoomOf t long
+pub room_of : {t : Table} {long : ℕ} {signal link slot : Option ℕ} → Passed t (Some long) signal link slot → RoomOf t long
 room_of p = record { sizes = p.sizes; is = p.room-is }
 
 -- the room of a table is its room once an identifier was used

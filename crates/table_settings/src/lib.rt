@@ -9,19 +9,19 @@ ghost use Rattle.channel.specs.Limits.{packet_least, packet_most, depth_most};
 ghost use Rattle.definition.specs.Pending.{settled, mtu_of, mps_of, credits_of, accepted_as, accepting};
 ghost use Rattle.definition.specs.Opening.{attempt_as, asking};
 
-use channel::{ChannelState, FRAME_HEAD, JOB_HEAD, L2capChannelConfig, Setting, Slot, Table};
+use channel::{ChannelState, FRAME_HEAD, JOB_HEAD, L2capChannelConfig, Slot, Table};
 use codes::LeCreditConnResultCode;
 use credit::CreditFlowControl;
 use signal_forms::{LeCreditConnReq, LeCreditConnRes};
 pub use sizing::too_large;
 
 // The number that the caller gives, or the usual one.
-pub fn settled(usual: u16, g: Setting) -> u16
+pub fn settled(usual: u16, g: Option<u16>) -> u16
     ensures { result ≡ settled usual g }
 {
     match g {
-        Setting::Default => usual,
-        Setting::Is(n) => n,
+        None => usual,
+        Some(n) => n,
     }
 }
 

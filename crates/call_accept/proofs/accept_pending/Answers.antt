@@ -10,7 +10,7 @@ use Rattle.call_accept.proofs.accept_pending.Goals as goal
 
 pub too_large-large-requires : goal.too_large-large-requires
 too_large-large-requires c =
-    let p = behind c.gate.ensures c.in-Pass.is in
+    let p = behind c.gate.ensures c.in-Ok.is in
     (p.sizes.m_least, p.sizes.m_most)
 
 pub returns-then-large : goal.returns-then-large
@@ -18,7 +18,7 @@ unfolding choose accept_pending
 returns-then-large c =
     rw (
       ← c.number-s.ensures,
-      on c.gate.ensures c.in-Pass.is,
+      on c.gate.ensures c.in-Ok.is,
       either_refuses _ _ (sym c.too_large-large.ensures ∙ c.if-large.true),
     ) (ended c.refused-then-large.ensures _ _)
 
@@ -27,7 +27,7 @@ unfolding choose accept_pending
 returns-then-not-asked c =
     rw (
       ← c.number-s.ensures,
-      on c.gate.ensures c.in-Pass.is,
+      on c.gate.ensures c.in-Ok.is,
       neither_refuses _ _ (sym c.too_large-large.ensures ∙ c.if-large.false),
       ← c.slot_at-x.ensures,
       ← c.is_peer_connecting-asked.ensures,
@@ -39,7 +39,7 @@ unfolding choose accept_pending
 returns-then-x-eq0 c =
     rw (
       ← c.number-s.ensures,
-      on c.gate.ensures c.in-Pass.is,
+      on c.gate.ensures c.in-Ok.is,
       neither_refuses _ _ (sym c.too_large-large.ensures ∙ c.if-large.false),
       ← c.slot_at-x.ensures,
       ← c.is_peer_connecting-asked.ensures,
@@ -49,15 +49,15 @@ returns-then-x-eq0 c =
 
 pub agree-requires : goal.agree-requires
 agree-requires c =
-    let p = behind c.gate.ensures c.in-Pass.is in
+    let p = behind c.gate.ensures c.in-Ok.is in
     (p.sizes, p.slot_is, p.signal-is)
 
-pub returns-in-Stop : goal.returns-in-Stop
+pub returns-in-Err : goal.returns-in-Err
 unfolding accept_pending
-returns-in-Stop c =
+returns-in-Err c =
     rw (
       ← c.number-s.ensures,
-      stopped c.gate.ensures c.in-Stop.is,
+      stopped c.gate.ensures c.in-Err.is,
     ) (ended c.refused.ensures _ _)
 
 pub returns-else-x-eq0 : goal.returns-else-x-eq0
@@ -65,7 +65,7 @@ unfolding choose accept_pending
 returns-else-x-eq0 c =
     rw (
       ← c.number-s.ensures,
-      on c.gate.ensures c.in-Pass.is,
+      on c.gate.ensures c.in-Ok.is,
       neither_refuses _ _ (sym c.too_large-large.ensures ∙ c.if-large.false),
       ← c.slot_at-x.ensures,
       ← c.is_peer_connecting-asked.ensures,

@@ -7,15 +7,15 @@ use Rattle.definition.specs.Asking.{attention}
 use Rattle.table_gate.specs.Behind.{on, stopped}
 use Rattle.call_attention.proofs.attention.Goals as goal
 
-pub returns-in-Stop : goal.returns-in-Stop
+pub returns-in-Err : goal.returns-in-Err
 unfolding attention
-returns-in-Stop c =
-    rw (stopped c.gate.ensures c.in-Stop.is) c.refused.ensures
+returns-in-Err c =
+    rw (stopped c.gate.ensures c.in-Err.is) c.refused.ensures
 
-pub returns-in-Pass : goal.returns-in-Pass
+pub returns-in-Ok : goal.returns-in-Ok
 unfolding sizes attention
-returns-in-Pass c =
+returns-in-Ok c =
     rw (
-      on c.gate.ensures c.in-Pass.is,
+      on c.gate.ensures c.in-Ok.is,
       c.still.ensures,
     ) (ap (λ (a : Answer). gave a c.args.t 0) c.attention-a.ensures)

@@ -15,20 +15,20 @@ pub cancel_at-w-requires : goal.cancel_at-w-requires
 cancel_at-w-requires c =
     let t = c.args.t in
     let s = c.number-s.result in
-    let p = behind c.gate.ensures c.in-Pass.is in
+    let p = behind c.gate.ensures c.in-Ok.is in
     (placed (room_of p) s p.slot_is, rw c.slot_at-x.ensures (sum_fits t s p.formed p.slot_is))
 
-pub returns-in-Stop : goal.returns-in-Stop
+pub returns-in-Err : goal.returns-in-Err
 unfolding cancel_job
-returns-in-Stop c =
+returns-in-Err c =
     rw (
       ← c.number-s.ensures,
-      stopped c.gate.ensures c.in-Stop.is,
+      stopped c.gate.ensures c.in-Err.is,
     ) (ended c.refused.ensures _ _)
 
-pub returns-in-Pass : goal.returns-in-Pass
+pub returns-in-Ok : goal.returns-in-Ok
 unfolding cancel_job
-returns-in-Pass c =
+returns-in-Ok c =
     let a = c.args in
     let t = a.t in
     let s = c.number-s.result in
@@ -37,7 +37,7 @@ returns-in-Pass c =
     let worked = rw c.slot_at-x.ensures at c.cancel_at-w.ensures in
     rw (
       ← c.number-s.ensures,
-      on c.gate.ensures c.in-Pass.is,
+      on c.gate.ensures c.in-Ok.is,
     )
     (works_in t s (cancel_of (place_of t) x) [] room [] [] c.changed.ensures worked.0 worked.1 (rw (cancel_quiet (place_of t) x) (sym (written_none [] room [])))
     ∙ sym (cancel_into t s [] room [] []))

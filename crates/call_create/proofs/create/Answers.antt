@@ -11,14 +11,14 @@ use Rattle.call_create.proofs.create.Goals as goal
 
 pub too_large-requires : goal.too_large-requires
 too_large-requires c =
-    let p = behind c.gate.ensures c.in-Pass.is in
+    let p = behind c.gate.ensures c.in-Ok.is in
     (p.sizes.m_least, p.sizes.m_most)
 
 pub returns-then-too_large : goal.returns-then-too_large
 unfolding choose create
 returns-then-too_large c =
     rw (
-      on c.gate.ensures c.in-Pass.is,
+      on c.gate.ensures c.in-Ok.is,
       either_refuses _ _ (sym c.too_large.ensures ∙ c.if-too_large.true),
       ← c.spent-u.ensures,
     ) (ended c.refused-then-too_large.ensures _ _)
@@ -27,7 +27,7 @@ pub returns-then-t-s : goal.returns-then-t-s
 unfolding choose create
 returns-then-t-s c =
     rw (
-      on c.gate.ensures c.in-Pass.is,
+      on c.gate.ensures c.in-Ok.is,
       neither_refuses _ _ (sym c.too_large.ensures ∙ c.if-too_large.false),
       ← c.find-s.ensures,
       le-leb _ _ c.if-t-s.true,
@@ -36,19 +36,19 @@ returns-then-t-s c =
 
 pub start-requires : goal.start-requires
 start-requires c =
-    let p = behind c.gate.ensures c.in-Pass.is in
+    let p = behind c.gate.ensures c.in-Ok.is in
     (p.sizes, search rules, p.signal-is)
 
-pub returns-in-Stop : goal.returns-in-Stop
+pub returns-in-Err : goal.returns-in-Err
 unfolding create
-returns-in-Stop c =
-    rw (stopped c.gate.ensures c.in-Stop.is) (ended c.refused.ensures _ _)
+returns-in-Err c =
+    rw (stopped c.gate.ensures c.in-Err.is) (ended c.refused.ensures _ _)
 
 pub returns-else-t-s : goal.returns-else-t-s
 unfolding choose create
 returns-else-t-s c =
     rw (
-      on c.gate.ensures c.in-Pass.is,
+      on c.gate.ensures c.in-Ok.is,
       neither_refuses _ _ (sym c.too_large.ensures ∙ c.if-too_large.false),
       ← c.find-s.ensures,
       lt-leb _ _ c.if-t-s.false,

@@ -12,7 +12,7 @@ unfolding choose drop_pending
 returns-then-is_connected c =
     rw (
       ← c.number-s.ensures,
-      on c.gate.ensures c.in-Pass.is,
+      on c.gate.ensures c.in-Ok.is,
       ← c.slot_at-x.ensures,
       ← c.is_connected.ensures,
       c.if-is_connected.true,
@@ -23,7 +23,7 @@ unfolding choose drop_pending
 returns-then-hold-eq0 c =
     rw (
       ← c.number-s.ensures,
-      on c.gate.ensures c.in-Pass.is,
+      on c.gate.ensures c.in-Ok.is,
       ← c.slot_at-x.ensures,
       ← c.is_connected.ensures,
       c.if-is_connected.false,
@@ -32,7 +32,7 @@ returns-then-hold-eq0 c =
 
 pub free-requires : goal.free-requires
 free-requires c =
-    let p = behind c.gate.ensures c.in-Pass.is in
+    let p = behind c.gate.ensures c.in-Ok.is in
     (room_of p, p.slot_is)
 
 pub returns-then-is_peer_connecting : goal.returns-then-is_peer_connecting
@@ -40,7 +40,7 @@ unfolding choose drop_pending
 returns-then-is_peer_connecting c =
     rw (
       ← c.number-s.ensures,
-      on c.gate.ensures c.in-Pass.is,
+      on c.gate.ensures c.in-Ok.is,
       ← c.slot_at-x.ensures,
       ← c.is_connected.ensures,
       c.if-is_connected.false,
@@ -49,12 +49,12 @@ returns-then-is_peer_connecting c =
       c.if-is_peer_connecting.true,
     ) (rw c.with_hold-y.ensures at (c.free.ensures [] []))
 
-pub returns-in-Stop : goal.returns-in-Stop
+pub returns-in-Err : goal.returns-in-Err
 unfolding drop_pending
-returns-in-Stop c =
+returns-in-Err c =
     rw (
       ← c.number-s.ensures,
-      stopped c.gate.ensures c.in-Stop.is,
+      stopped c.gate.ensures c.in-Err.is,
     ) (ended c.refused.ensures _ _)
 
 pub returns-else-is_peer_connecting : goal.returns-else-is_peer_connecting
@@ -62,7 +62,7 @@ unfolding choose drop_pending
 returns-else-is_peer_connecting c =
     rw (
       ← c.number-s.ensures,
-      on c.gate.ensures c.in-Pass.is,
+      on c.gate.ensures c.in-Ok.is,
       ← c.slot_at-x.ensures,
       ← c.is_connected.ensures,
       c.if-is_connected.false,

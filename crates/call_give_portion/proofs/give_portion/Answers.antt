@@ -3,18 +3,18 @@ use Rattle.definition.specs.Portions.{give_portion}
 use Rattle.table_gate.specs.Behind.{on, stopped, ended}
 use Rattle.call_give_portion.proofs.give_portion.Goals as goal
 
-pub returns-in-Stop : goal.returns-in-Stop
+pub returns-in-Err : goal.returns-in-Err
 unfolding give_portion
-returns-in-Stop c =
+returns-in-Err c =
     rw (
       ← c.number-s.ensures,
-      stopped c.gate.ensures c.in-Stop.is,
+      stopped c.gate.ensures c.in-Err.is,
     ) (ended c.refused.ensures _ _)
 
-pub returns-in-Pass : goal.returns-in-Pass
+pub returns-in-Ok : goal.returns-in-Ok
 unfolding give_portion
-returns-in-Pass c =
+returns-in-Ok c =
     rw (
       ← c.number-s.ensures,
-      on c.gate.ensures c.in-Pass.is,
+      on c.gate.ensures c.in-Ok.is,
     ) c.portion_on.ensures

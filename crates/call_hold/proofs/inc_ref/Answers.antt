@@ -11,17 +11,17 @@ unfolding choose inc_ref
 returns-then-hold-ge-HOLDS_MOST c =
     rw (
       ← c.number-s.ensures,
-      on c.gate.ensures c.in-Pass.is,
+      on c.gate.ensures c.in-Ok.is,
       ← c.slot_at-x.ensures,
       le-leb _ _ c.if-hold-ge-HOLDS_MOST.true,
     ) c.refused-then-hold-ge-HOLDS_MOST.ensures
 
-pub returns-in-Stop : goal.returns-in-Stop
+pub returns-in-Err : goal.returns-in-Err
 unfolding inc_ref
-returns-in-Stop c =
+returns-in-Err c =
     rw (
       ← c.number-s.ensures,
-      stopped c.gate.ensures c.in-Stop.is,
+      stopped c.gate.ensures c.in-Err.is,
     ) c.refused.ensures
 
 pub returns-else-hold-ge-HOLDS_MOST : goal.returns-else-hold-ge-HOLDS_MOST
@@ -29,7 +29,7 @@ unfolding choose sizes inc_ref
 returns-else-hold-ge-HOLDS_MOST c =
     rw (
       ← c.number-s.ensures,
-      on c.gate.ensures c.in-Pass.is,
+      on c.gate.ensures c.in-Ok.is,
       ← c.slot_at-x.ensures,
       lt-leb _ _ c.if-hold-ge-HOLDS_MOST.false,
       c.changed.ensures,

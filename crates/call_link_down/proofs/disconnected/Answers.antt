@@ -6,15 +6,15 @@ use Rattle.call_link_down.proofs.disconnected.Goals as goal
 
 pub free_all-requires : goal.free_all-requires
 free_all-requires c =
-    let p = behind c.gate.ensures c.in-Pass.is in
+    let p = behind c.gate.ensures c.in-Ok.is in
     room_of p
 
-pub returns-in-Stop : goal.returns-in-Stop
+pub returns-in-Err : goal.returns-in-Err
 unfolding disconnected
-returns-in-Stop c =
-    rw (stopped c.gate.ensures c.in-Stop.is) (ended c.refused.ensures _ _)
+returns-in-Err c =
+    rw (stopped c.gate.ensures c.in-Err.is) (ended c.refused.ensures _ _)
 
-pub returns-in-Pass : goal.returns-in-Pass
+pub returns-in-Ok : goal.returns-in-Ok
 unfolding disconnected
-returns-in-Pass c =
-    rw (on c.gate.ensures c.in-Pass.is) (c.free_all.ensures _ _)
+returns-in-Ok c =
+    rw (on c.gate.ensures c.in-Ok.is) (c.free_all.ensures _ _)

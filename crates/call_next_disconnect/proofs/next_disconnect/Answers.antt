@@ -11,21 +11,21 @@ pub returns-then-t-s : goal.returns-then-t-s
 unfolding choose next_disconnect
 returns-then-t-s c =
     rw (
-      on c.gate.ensures c.in-Pass.is,
+      on c.gate.ensures c.in-Ok.is,
       ← c.find-s.ensures,
       le-leb _ _ c.if-t-s.true,
     ) (ended c.done.ensures _ _)
 
 pub respond-requires : goal.respond-requires
 respond-requires c =
-    let p = behind c.gate.ensures c.in-Pass.is in
+    let p = behind c.gate.ensures c.in-Ok.is in
     (room_of p, omega arith, p.signal-is, omega (arith, p.sizes.n-most))
 
 pub returns-then-is_peer_disconnecting : goal.returns-then-is_peer_disconnecting
 unfolding choose next_disconnect
 returns-then-is_peer_disconnecting c =
     rw (
-      on c.gate.ensures c.in-Pass.is,
+      on c.gate.ensures c.in-Ok.is,
       ← c.find-s.ensures,
       lt-leb _ _ c.if-t-s.false,
       ← c.slot_at-x.ensures,
@@ -35,19 +35,19 @@ returns-then-is_peer_disconnecting c =
 
 pub request-requires : goal.request-requires
 request-requires c =
-    let p = behind c.gate.ensures c.in-Pass.is in
+    let p = behind c.gate.ensures c.in-Ok.is in
     (p.signal-is, omega (arith, p.sizes.n-most))
 
-pub returns-in-Stop : goal.returns-in-Stop
+pub returns-in-Err : goal.returns-in-Err
 unfolding next_disconnect
-returns-in-Stop c =
-    rw (stopped c.gate.ensures c.in-Stop.is) (ended c.refused.ensures _ _)
+returns-in-Err c =
+    rw (stopped c.gate.ensures c.in-Err.is) (ended c.refused.ensures _ _)
 
 pub returns-else-is_peer_disconnecting : goal.returns-else-is_peer_disconnecting
 unfolding choose next_disconnect
 returns-else-is_peer_disconnecting c =
     rw (
-      on c.gate.ensures c.in-Pass.is,
+      on c.gate.ensures c.in-Ok.is,
       ← c.find-s.ensures,
       lt-leb _ _ c.if-t-s.false,
       ← c.slot_at-x.ensures,

@@ -11,7 +11,7 @@ pub returns-then-up : goal.returns-then-up
 unfolding choose next_pending
 returns-then-up c =
     rw (
-      on c.gate.ensures c.in-Pass.is,
+      on c.gate.ensures c.in-Ok.is,
       ← c.find-s.ensures,
       le-leb _ _ c.if-t-s.true,
       c.if-up.true,
@@ -21,7 +21,7 @@ pub returns-then-t-s : goal.returns-then-t-s
 unfolding choose next_pending
 returns-then-t-s c =
     rw (
-      on c.gate.ensures c.in-Pass.is,
+      on c.gate.ensures c.in-Ok.is,
       ← c.find-s.ensures,
       le-leb _ _ c.if-t-s.true,
       c.if-up.false,
@@ -31,7 +31,7 @@ pub returns-then-x-ne0 : goal.returns-then-x-ne0
 unfolding choose next_pending
 returns-then-x-ne0 c =
     rw (
-      on c.gate.ensures c.in-Pass.is,
+      on c.gate.ensures c.in-Ok.is,
       ← c.find-s.ensures,
       lt-leb _ _ c.if-t-s.false,
       ← c.slot_at-x.ensures,
@@ -40,19 +40,19 @@ returns-then-x-ne0 c =
 
 pub index_at-i-requires : goal.index_at-i-requires
 index_at-i-requires c =
-    let p = behind c.gate.ensures c.in-Pass.is in
+    let p = behind c.gate.ensures c.in-Ok.is in
     omega (arith, p.sizes.n-most)
 
-pub returns-in-Stop : goal.returns-in-Stop
+pub returns-in-Err : goal.returns-in-Err
 unfolding next_pending
-returns-in-Stop c =
-    rw (stopped c.gate.ensures c.in-Stop.is) c.refused.ensures
+returns-in-Err c =
+    rw (stopped c.gate.ensures c.in-Err.is) c.refused.ensures
 
 pub returns-else-x-ne0 : goal.returns-else-x-ne0
 unfolding choose sizes next_pending
 returns-else-x-ne0 c =
     rw (
-      on c.gate.ensures c.in-Pass.is,
+      on c.gate.ensures c.in-Ok.is,
       ← c.find-s.ensures,
       lt-leb _ _ c.if-t-s.false,
       ← c.slot_at-x.ensures,

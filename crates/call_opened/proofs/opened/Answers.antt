@@ -11,7 +11,7 @@ unfolding choose opened
 returns-then-is_disconnected c =
     rw (
       ← c.number-s.ensures,
-      on c.gate.ensures c.in-Pass.is,
+      on c.gate.ensures c.in-Ok.is,
       ← c.slot_at-x.ensures,
       ← c.is_disconnected.ensures,
       c.if-is_disconnected.true,
@@ -22,7 +22,7 @@ unfolding choose opened
 returns-then-x-link c =
     rw (
       ← c.number-s.ensures,
-      on c.gate.ensures c.in-Pass.is,
+      on c.gate.ensures c.in-Ok.is,
       ← c.slot_at-x.ensures,
       ← c.is_disconnected.ensures,
       c.if-is_disconnected.false,
@@ -31,15 +31,15 @@ returns-then-x-link c =
 
 pub polled-requires : goal.polled-requires
 polled-requires c =
-    let p = behind c.gate.ensures c.in-Pass.is in
+    let p = behind c.gate.ensures c.in-Ok.is in
     (room_of p, p.slot_is)
 
-pub returns-in-Stop : goal.returns-in-Stop
+pub returns-in-Err : goal.returns-in-Err
 unfolding opened
-returns-in-Stop c =
+returns-in-Err c =
     rw (
       ← c.number-s.ensures,
-      stopped c.gate.ensures c.in-Stop.is,
+      stopped c.gate.ensures c.in-Err.is,
     ) (ended c.refused.ensures _ _)
 
 pub returns-else-x-link : goal.returns-else-x-link
@@ -47,7 +47,7 @@ unfolding choose opened
 returns-else-x-link c =
     rw (
       ← c.number-s.ensures,
-      on c.gate.ensures c.in-Pass.is,
+      on c.gate.ensures c.in-Ok.is,
       ← c.slot_at-x.ensures,
       ← c.is_disconnected.ensures,
       c.if-is_disconnected.false,

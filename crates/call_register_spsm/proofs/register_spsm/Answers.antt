@@ -13,7 +13,7 @@ pub returns-then-not-n : goal.returns-then-not-n
 unfolding choose register_spsm
 returns-then-not-n c =
     rw (
-      on c.gate.ensures c.in-Pass.is,
+      on c.gate.ensures c.in-Ok.is,
       c.if-not-n.true-raw,
     ) c.refused-then-not-n.ensures
 
@@ -23,16 +23,16 @@ registered-requires c =
     let (low, high) = both (leb 1 n) (leb n spsm_most) (c.if-not-n.false) in
     (leb-true 1 n low, leb-true n spsm_most high)
 
-pub returns-in-Stop : goal.returns-in-Stop
+pub returns-in-Err : goal.returns-in-Err
 unfolding register_spsm
-returns-in-Stop c =
-    rw (stopped c.gate.ensures c.in-Stop.is) c.refused.ensures
+returns-in-Err c =
+    rw (stopped c.gate.ensures c.in-Err.is) c.refused.ensures
 
 pub returns-else-not-n : goal.returns-else-not-n
 unfolding choose sizes register_spsm
 returns-else-not-n c =
     rw (
-      on c.gate.ensures c.in-Pass.is,
+      on c.gate.ensures c.in-Ok.is,
       c.if-not-n.false-raw,
       c.still.ensures,
       c.registered.ensures,

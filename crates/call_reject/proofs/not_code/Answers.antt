@@ -3,18 +3,18 @@ use Rattle.definition.specs.Pending.{not_code}
 use Rattle.table_gate.specs.Behind.{on, stopped, ended}
 use Rattle.call_reject.proofs.not_code.Goals as goal
 
-pub returns-in-Stop : goal.returns-in-Stop
+pub returns-in-Err : goal.returns-in-Err
 unfolding not_code
-returns-in-Stop c =
+returns-in-Err c =
     rw (
       ← c.number-s.ensures,
-      stopped c.gate.ensures c.in-Stop.is,
+      stopped c.gate.ensures c.in-Err.is,
     ) (ended c.refused.ensures _ _)
 
-pub returns-in-Pass : goal.returns-in-Pass
+pub returns-in-Ok : goal.returns-in-Ok
 unfolding not_code
-returns-in-Pass c =
+returns-in-Ok c =
     rw (
       ← c.number-s.ensures,
-      on c.gate.ensures c.in-Pass.is,
-    ) (ended c.refused-in-Pass.ensures _ _)
+      on c.gate.ensures c.in-Ok.is,
+    ) (ended c.refused-in-Ok.ensures _ _)

@@ -6,16 +6,16 @@ use Rattle.call_send_parameters.proofs.send_signal.Goals as goal
 
 pub tell-requires : goal.tell-requires
 tell-requires c =
-    let p = behind c.gate.ensures c.in-Pass.is in
+    let p = behind c.gate.ensures c.in-Ok.is in
     p.signal-is
 
-pub returns-in-Stop : goal.returns-in-Stop
+pub returns-in-Err : goal.returns-in-Err
 unfolding send_signal
-returns-in-Stop c =
-    rw (stopped c.gate.ensures c.in-Stop.is) (ended c.refused.ensures _ _)
+returns-in-Err c =
+    rw (stopped c.gate.ensures c.in-Err.is) (ended c.refused.ensures _ _)
 
-pub returns-in-Pass : goal.returns-in-Pass
+pub returns-in-Ok : goal.returns-in-Ok
 unfolding send_signal
-returns-in-Pass c =
-    rw (on c.gate.ensures c.in-Pass.is)
+returns-in-Ok c =
+    rw (on c.gate.ensures c.in-Ok.is)
     (rw (c.next_id-id.ensures, c.spent-u.ensures) at (c.tell.ensures c.args.t [] []))

@@ -6,15 +6,15 @@ use Rattle.call_signal.proofs.signal.Goals as goal
 
 pub checked-requires : goal.checked-requires
 checked-requires c =
-    let p = behind c.gate.ensures c.in-Pass.is in
+    let p = behind c.gate.ensures c.in-Ok.is in
     (room_of p, p.signal-is)
 
-pub returns-in-Stop : goal.returns-in-Stop
+pub returns-in-Err : goal.returns-in-Err
 unfolding signalled
-returns-in-Stop c =
-    rw (stopped c.gate.ensures c.in-Stop.is) (ended c.refused.ensures _ _)
+returns-in-Err c =
+    rw (stopped c.gate.ensures c.in-Err.is) (ended c.refused.ensures _ _)
 
-pub returns-in-Pass : goal.returns-in-Pass
+pub returns-in-Ok : goal.returns-in-Ok
 unfolding signalled
-returns-in-Pass c =
-    rw (on c.gate.ensures c.in-Pass.is) c.checked.ensures
+returns-in-Ok c =
+    rw (on c.gate.ensures c.in-Ok.is) c.checked.ensures

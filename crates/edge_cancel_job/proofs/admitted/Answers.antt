@@ -1,4 +1,5 @@
 -- `edge_cancel_job::admitted` meets its contract: the first refusals told from line 0, and else the work on one slot, put into its row (cancel_placed).
+use Rattle.std.specs.Prelude.{None, Ok, Some}
 use mathlib.Core.Path.{◌≡◌, refl, ◌∙◌}
 use mathlib.Core.Bool.{true, false}
 use Prim.Native.Nat.{◌<◌}
@@ -8,8 +9,6 @@ use lib.ListN.{length, get_or}
 use borrow.Author.Tests.{not-false, le-leb, lt-leb}
 use Rattle.octets.specs.Octets.{u16_at}
 use Rattle.codes.specs.declared.Refusal.TheVariants.{BadRoom, BadSlot}
-use Rattle.channel.specs.declared.Given.TheVariants.{Nothing, Is}
-use Rattle.channel.specs.declared.Verdict.TheVariants.{Pass}
 use Rattle.definition.specs.Table.{room_width}
 use Rattle.definition.specs.Outcome.{verdict}
 use Rattle.edge_layout.specs.Layout.{read}
@@ -29,7 +28,7 @@ returns-then-other c =
     let told = c.put_answer.ensures in
     rw (told.value, told.out_after)
     (cancel_stopped g.table.now g.answer.now g.room.now g.slot BadRoom
-    (stops_2 g.table.now c.requires (Is (length g.room.now)) Nothing Nothing (Is g.slot) (rw (c.room_size-size.ensures, c.octet-n.ensures, c.octet-d.ensures, c.number-m.ensures) at c.if-other.true-raw)))
+    (stops_2 g.table.now c.requires (Some (length g.room.now)) None None (Some g.slot) (rw (c.room_size-size.ensures, c.octet-n.ensures, c.octet-d.ensures, c.number-m.ensures) at c.if-other.true-raw)))
 
 pub returns-then-n-s : goal.returns-then-n-s
 returns-then-n-s c =
@@ -39,7 +38,7 @@ returns-then-n-s c =
     let none : leb (get_or o 1 0) g.slot ≡ true = rw c.octet-n.ensures at (le-leb _ _ c.if-n-s.true) in
     rw (told.value, told.out_after)
     (cancel_stopped o g.answer.now g.room.now g.slot BadSlot
-    (stops_6 o c.requires (Is (length g.room.now)) Nothing Nothing (Is g.slot) (rw (c.room_size-size.ensures, c.octet-n.ensures, c.octet-d.ensures, c.number-m.ensures) at c.if-other.false-raw) refl refl none))
+    (stops_6 o c.requires (Some (length g.room.now)) None None (Some g.slot) (rw (c.room_size-size.ensures, c.octet-n.ensures, c.octet-d.ensures, c.number-m.ensures) at c.if-other.false-raw) refl refl none))
 
 pub at_slot-requires : goal.at_slot-requires
 at_slot-requires c =
@@ -56,6 +55,6 @@ returns c =
     let g = c.args in
     let o = g.table.now in
     let one : leb (get_or o 1 0) g.slot ≡ false = rw c.octet-n.ensures at (lt-leb _ _ c.if-n-s.false) in
-    let on : verdict (read o).table (Is (length g.room.now)) Nothing Nothing (Is g.slot) ≡ Pass = passes o c.requires (Is (length g.room.now)) Nothing Nothing (Is g.slot) (rw (c.room_size-size.ensures, c.octet-n.ensures, c.octet-d.ensures, c.number-m.ensures) at c.if-other.false-raw) refl refl one in
+    let on : verdict (read o).table (Some (length g.room.now)) None None (Some g.slot) ≡ Ok tt = passes o c.requires (Some (length g.room.now)) None None (Some g.slot) (rw (c.room_size-size.ensures, c.octet-n.ensures, c.octet-d.ensures, c.number-m.ensures) at c.if-other.false-raw) refl refl one in
     rw (c.octet-d.ensures, c.number-m.ensures) at c.at_slot.ensures
     ∙ cancel_placed o g.answer.now g.room.now g.slot c.requires on one

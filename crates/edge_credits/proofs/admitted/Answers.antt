@@ -1,4 +1,5 @@
 -- `edge_credits::admitted` meets its contract: the first refusals told from line 0, no row (refused_8), and else the work on one slot, put into its row (credits_placed).
+use Rattle.std.specs.Prelude.{None, Some}
 use mathlib.Core.Path.{◌≡◌, refl, ◌∙◌}
 use mathlib.Core.Bool.{true, false}
 use Prim.Native.Nat.{◌<◌}
@@ -8,7 +9,6 @@ use lib.ListN.{length, get_or}
 use borrow.Author.Tests.{not-false, le-leb, lt-leb}
 use Rattle.octets.specs.Octets.{u16_at}
 use Rattle.codes.specs.declared.Refusal.TheVariants.{BadRoom, NoRoom, BadHandle}
-use Rattle.channel.specs.declared.Given.TheVariants.{Nothing, Is}
 use Rattle.definition.specs.Table.{room_width}
 use Rattle.edge_row.proofs.Gate.{valid_long, valid_slots, stops_2, stops_3, stops_4, passes}
 use Rattle.edge_row.proofs.Room.{sized-told, row_low, part_placed}
@@ -25,7 +25,7 @@ returns-then-other c =
     let told = c.put_answer.ensures in
     rw (told.value, told.out_after)
     (credits_stopped g.table.now g.answer.now g.room.now g.signal.now g.link g.ind BadRoom
-    (stops_2 g.table.now c.requires (Is (length g.room.now)) (Is (length g.signal.now)) (Is g.link) Nothing (rw (c.room_size-size.ensures, c.octet-n.ensures, c.octet-d.ensures, c.number-m.ensures) at c.if-other.true-raw)))
+    (stops_2 g.table.now c.requires (Some (length g.room.now)) (Some (length g.signal.now)) (Some g.link) None (rw (c.room_size-size.ensures, c.octet-n.ensures, c.octet-d.ensures, c.number-m.ensures) at c.if-other.true-raw)))
 
 pub returns-then-short : goal.returns-then-short
 returns-then-short c =
@@ -33,7 +33,7 @@ returns-then-short c =
     let told = c.put_answer-then-short.ensures in
     rw (told.value, told.out_after)
     (credits_stopped g.table.now g.answer.now g.room.now g.signal.now g.link g.ind NoRoom
-    (stops_3 g.table.now c.requires (Is (length g.room.now)) (Is (length g.signal.now)) (Is g.link) Nothing (rw (c.room_size-size.ensures, c.octet-n.ensures, c.octet-d.ensures, c.number-m.ensures) at c.if-other.false-raw) c.if-short.true-raw))
+    (stops_3 g.table.now c.requires (Some (length g.room.now)) (Some (length g.signal.now)) (Some g.link) None (rw (c.room_size-size.ensures, c.octet-n.ensures, c.octet-d.ensures, c.number-m.ensures) at c.if-other.false-raw) c.if-short.true-raw))
 
 pub returns-then-beyond : goal.returns-then-beyond
 returns-then-beyond c =
@@ -41,7 +41,7 @@ returns-then-beyond c =
     let told = c.put_answer-then-beyond.ensures in
     rw (told.value, told.out_after)
     (credits_stopped g.table.now g.answer.now g.room.now g.signal.now g.link g.ind BadHandle
-    (stops_4 g.table.now c.requires (Is (length g.room.now)) (Is (length g.signal.now)) (Is g.link) Nothing (rw (c.room_size-size.ensures, c.octet-n.ensures, c.octet-d.ensures, c.number-m.ensures) at c.if-other.false-raw) c.if-short.false-raw c.if-beyond.true-raw))
+    (stops_4 g.table.now c.requires (Some (length g.room.now)) (Some (length g.signal.now)) (Some g.link) None (rw (c.room_size-size.ensures, c.octet-n.ensures, c.octet-d.ensures, c.number-m.ensures) at c.if-other.false-raw) c.if-short.false-raw c.if-beyond.true-raw))
 
 pub row_of-s-requires : goal.row_of-s-requires
 row_of-s-requires c =
@@ -54,7 +54,7 @@ returns-then-n-s c =
     let told = c.put_answer-then-n-s.ensures in
     let none : leb (get_or o 1 0) (row_of o (get_or o 1 0) g.link g.ind.cid) ≡ true = rw (c.row_of-s.ensures, c.octet-n.ensures) at (le-leb _ _ c.if-n-s.true) in
     rw (told.value, told.out_after)
-    (refused_8 o g.answer.now g.room.now g.signal.now g.link g.ind c.requires (passes o c.requires (Is (length g.room.now)) (Is (length g.signal.now)) (Is g.link) Nothing (rw (c.room_size-size.ensures, c.octet-n.ensures, c.octet-d.ensures, c.number-m.ensures) at c.if-other.false-raw) c.if-short.false-raw c.if-beyond.false-raw refl) none)
+    (refused_8 o g.answer.now g.room.now g.signal.now g.link g.ind c.requires (passes o c.requires (Some (length g.room.now)) (Some (length g.signal.now)) (Some g.link) None (rw (c.room_size-size.ensures, c.octet-n.ensures, c.octet-d.ensures, c.number-m.ensures) at c.if-other.false-raw) c.if-short.false-raw c.if-beyond.false-raw refl) none)
 
 pub to_slot-requires : goal.to_slot-requires
 to_slot-requires c =
@@ -71,4 +71,4 @@ returns c =
     let o = g.table.now in
     let some : leb (get_or o 1 0) (row_of o (get_or o 1 0) g.link g.ind.cid) ≡ false = rw (c.row_of-s.ensures, c.octet-n.ensures) at (lt-leb _ _ c.if-n-s.false) in
     rw (c.octet-d.ensures, c.number-m.ensures, c.row_of-s.ensures, c.octet-n.ensures) at (c.to_slot.ensures g.signal.now)
-    ∙ credits_placed o g.answer.now g.room.now g.signal.now g.link g.ind c.requires (passes o c.requires (Is (length g.room.now)) (Is (length g.signal.now)) (Is g.link) Nothing (rw (c.room_size-size.ensures, c.octet-n.ensures, c.octet-d.ensures, c.number-m.ensures) at c.if-other.false-raw) c.if-short.false-raw c.if-beyond.false-raw refl) some
+    ∙ credits_placed o g.answer.now g.room.now g.signal.now g.link g.ind c.requires (passes o c.requires (Some (length g.room.now)) (Some (length g.signal.now)) (Some g.link) None (rw (c.room_size-size.ensures, c.octet-n.ensures, c.octet-d.ensures, c.number-m.ensures) at c.if-other.false-raw) c.if-short.false-raw c.if-beyond.false-raw refl) some

@@ -1,10 +1,10 @@
 -- `edge_dispatch::dispatch` meets its contract: refusal 1 told from the octets, and behind it `incoming`.
+use Rattle.std.specs.Prelude.{None, Some}
 use mathlib.Core.Path.{◌≡◌, sym, ◌∙◌}
 use mathlib.Core.Bool.{false}
 use lib.ListN.{length}
 use borrow.Author.Tests.{not-true, not-false}
 use Rattle.codes.specs.declared.Refusal.TheVariants.{BadTable}
-use Rattle.channel.specs.declared.Given.TheVariants.{Nothing, Is}
 use Rattle.edge_scan.specs.Scan.{valid_octets}
 use Rattle.edge_row.proofs.Gate.{refused_1}
 use Rattle.edge_placed.specs.Incoming.{frame_stopped}
@@ -16,7 +16,7 @@ returns-then-not-valid c =
     let o = g.table.now in
     let told = c.put_answer.ensures in
     let bad : valid_octets o ≡ false = sym c.valid.ensures ∙ not-true c.valid.result c.if-not-valid.true-raw in
-    rw (told.value, told.out_after) (frame_stopped o g.answer.now g.room.now g.payload.now g.link g.cid BadTable (refused_1 o bad (Is (length g.room.now)) Nothing (Is g.link) Nothing))
+    rw (told.value, told.out_after) (frame_stopped o g.answer.now g.room.now g.payload.now g.link g.cid BadTable (refused_1 o bad (Some (length g.room.now)) None (Some g.link) None))
 
 pub admitted-requires : goal.admitted-requires
 admitted-requires c = sym c.valid.ensures ∙ not-false c.valid.result c.if-not-valid.false-raw

@@ -1,11 +1,11 @@
 -- `edge_dispatch_run::dispatch_run` meets its contract: the first refusals told from the octets, and behind them the frames.
+use Rattle.std.specs.Prelude.{None, Some}
 use mathlib.Core.Path.{◌≡◌, sym, ◌∙◌}
 use mathlib.Core.Bool.{true, false}
 use lib.Dec.{eqb}
 use lib.ListN.{length, get_or}
 use Rattle.octets.specs.Octets.{u16_at}
 use Rattle.codes.specs.declared.Refusal.TheVariants.{BadTable, BadRoom}
-use Rattle.channel.specs.declared.Given.TheVariants.{Nothing, Is}
 use Rattle.definition.specs.Table.{room_width}
 use Rattle.edge_scan.specs.Scan.{valid_octets}
 use Rattle.edge_row.proofs.Gate.{refused_1, refused_2}
@@ -18,7 +18,7 @@ returns-then-not-valid c =
     let o = g.table.now in
     let bad : valid_octets o ≡ false = sym c.valid.ensures ∙ c.if-not-valid.true in
     let told = c.put_ended.ensures in
-    run_stopped o g.answer.now g.room.now g.frames.now g.answers.now BadTable (refused_1 o bad (Is (length g.room.now)) Nothing Nothing Nothing) c.refused.ensures told.value told.answer_after
+    run_stopped o g.answer.now g.room.now g.frames.now g.answers.now BadTable (refused_1 o bad (Some (length g.room.now)) None None None) c.refused.ensures told.value told.answer_after
 
 pub room_fits-requires : goal.room_fits-requires
 room_fits-requires c = sym c.valid.ensures ∙ c.if-not-valid.false
@@ -30,7 +30,7 @@ returns-then-not-room_fits c =
     let valid : valid_octets o ≡ true = sym c.valid.ensures ∙ c.if-not-valid.false in
     let other : eqb (length g.room.now) (room_width (get_or o 1 0) (get_or o 2 0) (u16_at o 3)) ≡ false = sym c.room_fits.ensures ∙ c.if-not-room_fits.true in
     let told = c.put_ended-then-not-room_fits.ensures in
-    run_stopped o g.answer.now g.room.now g.frames.now g.answers.now BadRoom (refused_2 o valid (length g.room.now) Nothing Nothing Nothing other) c.refused-then-not-room_fits.ensures told.value told.answer_after
+    run_stopped o g.answer.now g.room.now g.frames.now g.answers.now BadRoom (refused_2 o valid (length g.room.now) None None None other) c.refused-then-not-room_fits.ensures told.value told.answer_after
 
 pub frames_in-e-requires : goal.frames_in-e-requires
 frames_in-e-requires c = sym c.valid.ensures ∙ c.if-not-valid.false

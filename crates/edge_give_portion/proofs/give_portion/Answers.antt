@@ -1,9 +1,9 @@
 -- `edge_give_portion::give_portion` meets its contract: refusal 1 told from the octets, and behind it `given`.
+use Rattle.std.specs.Prelude.{None, Some}
 use mathlib.Core.Path.{◌≡◌, sym, ◌∙◌}
 use mathlib.Core.Bool.{false}
 use borrow.Author.Tests.{not-true, not-false}
 use Rattle.codes.specs.declared.Refusal.TheVariants.{BadTable}
-use Rattle.channel.specs.declared.Given.TheVariants.{Nothing, Is}
 use Rattle.edge_scan.specs.Scan.{valid_octets}
 use Rattle.edge_row.proofs.Gate.{refused_1}
 use Rattle.edge_placed.specs.Filled.{portion_stopped}
@@ -15,7 +15,7 @@ returns-then-not-valid c =
     let o = a.table.now in
     let told = c.put_answer.ensures in
     let bad : valid_octets o ≡ false = sym c.valid.ensures ∙ not-true c.valid.result c.if-not-valid.true-raw in
-    rw (told.value, told.out_after) (portion_stopped o a.answer.now a.buffer.now a.slot a.octets.now BadTable (refused_1 o bad Nothing Nothing Nothing (Is a.slot)))
+    rw (told.value, told.out_after) (portion_stopped o a.answer.now a.buffer.now a.slot a.octets.now BadTable (refused_1 o bad None None None (Some a.slot)))
 
 pub given-requires : goal.given-requires
 given-requires c = sym c.valid.ensures ∙ not-false c.valid.result c.if-not-valid.false-raw

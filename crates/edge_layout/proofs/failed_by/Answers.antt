@@ -3,5 +3,5 @@ use mathlib.Core.Path.{ap, sym}
 use Rattle.edge_layout.specs.Layout.{failed_by}
 use Rattle.edge_layout.proofs.failed_by.Goals as goal
 
-pub returns-in-Known : goal.returns-in-Known
-returns-in-Known c = ap failed_by (sym c.in-Known.is)
+pub returns-in-Some : goal.returns-in-Some
+returns-in-Some c = ap failed_by (sym c.in-Some.is)

@@ -4,11 +4,11 @@ use Rattle.edge.specs.Edge.{on_table_lem}
 use Rattle.edge_signals.specs.Crediting.{signal-credits}
 use Rattle.edge_signals.proofs.signal.Goals as goal
 
-pub returns-in-Is : goal.returns-in-Is
-returns-in-Is c =
+pub returns-in-Some : goal.returns-in-Some
+returns-in-Some c =
     let g = c.args in
     c.credit.ensures
-    ∙ signal-credits g.table.now g.answer.now g.room.now g.signal.now g.link g.listening g.central g.pdu.now c.in-Is.ind (sym c.credits_in.ensures ∙ c.in-Is.is)
+    ∙ signal-credits g.table.now g.answer.now g.room.now g.signal.now g.link g.listening g.central g.pdu.now c.in-Some.ind (sym c.credits_in.ensures ∙ c.in-Some.is)
 
-pub returns-in-Decode : goal.returns-in-Decode
-returns-in-Decode c = on_table_lem _ _ _ c.decode-d.ensures (c.store.ensures _ _ _) c.signal-s.ensures
+pub returns-in-None : goal.returns-in-None
+returns-in-None c = on_table_lem _ _ _ c.decode-d.ensures (c.store.ensures _ _ _) c.signal-s.ensures

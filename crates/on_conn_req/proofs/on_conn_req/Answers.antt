@@ -11,18 +11,18 @@ use Rattle.on_conn_req.proofs.on_conn_req.Goals as goal
 pub returns-then-not-is_registered : goal.returns-then-not-is_registered
 unfolding choose sizes on_conn_req
 returns-then-not-is_registered c t₀ room job =
-    rw (c.in-Is.is, ← c.is_registered.ensures, c.if-not-is_registered.true-raw) (c.refuse.ensures t₀ room job)
+    rw (c.in-Some.is, ← c.is_registered.ensures, c.if-not-is_registered.true-raw) (c.refuse.ensures t₀ room job)
 
 pub returns-then-not-listening : goal.returns-then-not-listening
 unfolding choose sizes on_conn_req
 returns-then-not-listening c t₀ room job =
-    rw (c.in-Is.is, ← c.is_registered.ensures, c.if-not-is_registered.false-raw, c.if-not-listening.true-raw) (c.refuse-then-not-listening.ensures t₀ room job)
+    rw (c.in-Some.is, ← c.is_registered.ensures, c.if-not-is_registered.false-raw, c.if-not-listening.true-raw) (c.refuse-then-not-listening.ensures t₀ room job)
 
 pub returns-then-below_least : goal.returns-then-below_least
 unfolding choose sizes on_conn_req
 returns-then-below_least c t₀ room job =
     rw (
-      c.in-Is.is,
+      c.in-Some.is,
       ← c.is_registered.ensures,
       c.if-not-is_registered.false-raw,
       c.if-not-listening.false-raw,
@@ -34,7 +34,7 @@ pub returns-then-find-t : goal.returns-then-find-t
 unfolding choose sizes on_conn_req
 returns-then-find-t c t₀ room job =
     rw (
-      c.in-Is.is,
+      c.in-Some.is,
       ← c.is_registered.ensures,
       c.if-not-is_registered.false-raw,
       c.if-not-listening.false-raw,
@@ -48,7 +48,7 @@ pub returns-then-t-s : goal.returns-then-t-s
 unfolding choose sizes on_conn_req
 returns-then-t-s c t₀ room job =
     rw (
-      c.in-Is.is,
+      c.in-Some.is,
       ← c.is_registered.ensures,
       c.if-not-is_registered.false-raw,
       c.if-not-listening.false-raw,
@@ -60,16 +60,16 @@ returns-then-t-s c t₀ room job =
       le-leb _ _ c.if-t-s.true,
     ) (c.refuse-then-t-s.ensures t₀ room job)
 
-pub returns-in-Decode : goal.returns-in-Decode
+pub returns-in-None : goal.returns-in-None
 unfolding choose sizes on_conn_req
-returns-in-Decode c t₀ room job =
-    rw c.in-Decode.is (c.bad_body.ensures t₀ room job)
+returns-in-None c t₀ room job =
+    rw c.in-None.is (c.bad_body.ensures t₀ room job)
 
 pub returns-else-t-s : goal.returns-else-t-s
 unfolding choose sizes on_conn_req
 returns-else-t-s c t₀ room job =
     rw (
-      c.in-Is.is,
+      c.in-Some.is,
       ← c.is_registered.ensures,
       c.if-not-is_registered.false-raw,
       c.if-not-listening.false-raw,

@@ -9,14 +9,14 @@ use Rattle.on_conn_res.proofs.on_conn_res.Goals as goal
 pub returns-then-t-s : goal.returns-then-t-s
 unfolding choose sizes on_conn_res
 returns-then-t-s c =
-    rw (c.in-Is.is, ← c.find-s.ensures, le-leb _ _ c.if-t-s.true) (c.free_all.ensures _ [])
+    rw (c.in-Some.is, ← c.find-s.ensures, le-leb _ _ c.if-t-s.true) (c.free_all.ensures _ [])
 
-pub returns-in-Decode : goal.returns-in-Decode
+pub returns-in-None : goal.returns-in-None
 unfolding choose sizes on_conn_res
-returns-in-Decode c =
-    rw c.in-Decode.is (c.bad_body.ensures _ _ [])
+returns-in-None c =
+    rw c.in-None.is (c.bad_body.ensures _ _ [])
 
 pub returns-else-t-s : goal.returns-else-t-s
 unfolding choose sizes on_conn_res
 returns-else-t-s c =
-    rw (c.in-Is.is, ← c.find-s.ensures, lt-leb _ _ c.if-t-s.false) (c.on_answer.ensures _ _ _ [])
+    rw (c.in-Some.is, ← c.find-s.ensures, lt-leb _ _ c.if-t-s.false) (c.on_answer.ensures _ _ _ [])

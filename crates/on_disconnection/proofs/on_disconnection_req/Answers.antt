@@ -12,18 +12,18 @@ use Rattle.on_disconnection.proofs.on_disconnection_req.Goals as goal
 pub returns-then-not-is_cid : goal.returns-then-not-is_cid
 unfolding choose sizes on_disconnection_req
 returns-then-not-is_cid c =
-    rw (c.in-Is.is, ← c.is_cid.ensures, c.if-not-is_cid.true-raw) (c.reject.ensures _ _ [])
+    rw (c.in-Some.is, ← c.is_cid.ensures, c.if-not-is_cid.true-raw) (c.reject.ensures _ _ [])
 
 pub slot_of-requires : goal.slot_of-requires
 slot_of-requires c =
-    let h = cid_within c.args.t c.in-Is.req.dcid (sym c.is_cid.ensures ∙ c.if-not-is_cid.false) in
+    let h = cid_within c.args.t c.in-Some.req.dcid (sym c.is_cid.ensures ∙ c.if-not-is_cid.false) in
     omega (arith, h, c.requires.0.sizes.n-most)
 
 pub returns-then-not-of_link : goal.returns-then-not-of_link
 unfolding choose sizes on_disconnection_req
 returns-then-not-of_link c =
     rw (
-      c.in-Is.is,
+      c.in-Some.is,
       ← c.is_cid.ensures,
       c.if-not-is_cid.false-raw,
       ← (c.number-s.ensures ∙ ap (λ (i : ChannelIndex). i.0) c.slot_of.ensures),
@@ -34,19 +34,19 @@ returns-then-not-of_link c =
 
 pub leave-requires : goal.leave-requires
 leave-requires c =
-    let h = cid_within c.args.t c.in-Is.req.dcid (sym c.is_cid.ensures ∙ c.if-not-is_cid.false) in
+    let h = cid_within c.args.t c.in-Some.req.dcid (sym c.is_cid.ensures ∙ c.if-not-is_cid.false) in
     (c.requires.0, rw (c.number-s.ensures ∙ ap (λ (i : ChannelIndex). i.0) c.slot_of.ensures) h)
 
-pub returns-in-Decode : goal.returns-in-Decode
+pub returns-in-None : goal.returns-in-None
 unfolding choose sizes on_disconnection_req
-returns-in-Decode c =
-    rw c.in-Decode.is (c.bad_body.ensures _ _ [])
+returns-in-None c =
+    rw c.in-None.is (c.bad_body.ensures _ _ [])
 
 pub returns-else-not-of_link : goal.returns-else-not-of_link
 unfolding choose sizes on_disconnection_req
 returns-else-not-of_link c =
     rw (
-      c.in-Is.is,
+      c.in-Some.is,
       ← c.is_cid.ensures,
       c.if-not-is_cid.false-raw,
       ← (c.number-s.ensures ∙ ap (λ (i : ChannelIndex). i.0) c.slot_of.ensures),

@@ -1,90 +1,52 @@
 -- `signal_read::read_signal` meets its contract: in each arm the definition is a function of the reader's answer.
+use Rattle.std.specs.Prelude.{◌≡◌, Option, None, Some, Ok, MatchOption, IsSomeAnd, ok_or, eqb}
 use mathlib.Core.Path.{sym, ap, ◌∙◌}
 use borrow.Author.Tests.{ne_eqb}
-use Rattle.lists.specs.Choose.{choose}
-use Rattle.signal_read.specs.SignalRead.{signal_of, from_command_reject_res, from_disconnection_req, from_disconnection_res, from_conn_param_update_req, from_conn_param_update_res, from_le_credit_conn_req, from_le_credit_conn_res, from_le_credit_flow_ind}
 use native.Mathlib.Omega.{arith}
+use Rattle.lists.specs.Choose.{choose}
+use Rattle.codes.specs.declared.Refusal.TheVariants.{Decode}
+use Rattle.signal_forms.specs.declared.Signal.{Signal}
+use Rattle.signal_forms.specs.declared.Signal.TheVariants as Signal
+use Rattle.signal_read.specs.SignalRead.{from_body, signal_of}
 use Rattle.signal_read.proofs.read_signal.Goals as goal
 
-pub returns-in-Decode : goal.returns-in-Decode
-unfolding signal_of choose
-returns-in-Decode c =
-    rw c.in-1.is (ap from_command_reject_res (sym c.in-Decode.is ∙ c.read_command_reject_res.ensures))
+-- a body that was read, or not, under its form
+under : {A : Type 0} (form : A → Signal) (o : Option A) (r : Option Signal) → MatchOption o (r ≡ None) (λ x. IsSomeAnd r (λ y. y ≡ form x)) → ok_or r Decode ≡ from_body form o
+under form None r h = rw h
+under form (Some x) (Some y) h = ap Ok h
+under form (Some x) None h = absurd h
 
-pub returns-in-Is : goal.returns-in-Is
+pub returns-in-1 : goal.returns-in-1
 unfolding signal_of choose
-returns-in-Is c =
-    rw c.in-1.is (ap from_command_reject_res (sym c.in-Is.is ∙ c.read_command_reject_res.ensures))
+returns-in-1 c = rw c.in-1.is (c.ok_or.ensures.value ∙ under Signal.CommandRejectRes _ _ c.map.ensures.cases ∙ ap (from_body Signal.CommandRejectRes) c.read_command_reject_res.ensures)
 
-pub returns-in-Decode-read_disconnection_req : goal.returns-in-Decode-read_disconnection_req
+pub returns-in-6 : goal.returns-in-6
 unfolding signal_of choose
-returns-in-Decode-read_disconnection_req c =
-    rw c.in-6.is (ap from_disconnection_req (sym c.in-Decode-read_disconnection_req.is ∙ c.read_disconnection_req.ensures))
+returns-in-6 c = rw c.in-6.is (c.ok_or-in-6.ensures.value ∙ under Signal.DisconnectionReq _ _ c.map-in-6.ensures.cases ∙ ap (from_body Signal.DisconnectionReq) c.read_disconnection_req.ensures)
 
-pub returns-in-Is-read_disconnection_req : goal.returns-in-Is-read_disconnection_req
+pub returns-in-7 : goal.returns-in-7
 unfolding signal_of choose
-returns-in-Is-read_disconnection_req c =
-    rw c.in-6.is (ap from_disconnection_req (sym c.in-Is-read_disconnection_req.is ∙ c.read_disconnection_req.ensures))
+returns-in-7 c = rw c.in-7.is (c.ok_or-in-7.ensures.value ∙ under Signal.DisconnectionRes _ _ c.map-in-7.ensures.cases ∙ ap (from_body Signal.DisconnectionRes) c.read_disconnection_res.ensures)
 
-pub returns-in-Decode-read_disconnection_res : goal.returns-in-Decode-read_disconnection_res
+pub returns-in-18 : goal.returns-in-18
 unfolding signal_of choose
-returns-in-Decode-read_disconnection_res c =
-    rw c.in-7.is (ap from_disconnection_res (sym c.in-Decode-read_disconnection_res.is ∙ c.read_disconnection_res.ensures))
+returns-in-18 c = rw c.in-18.is (c.ok_or-in-18.ensures.value ∙ under Signal.ConnParamUpdateReq _ _ c.map-in-18.ensures.cases ∙ ap (from_body Signal.ConnParamUpdateReq) c.read_conn_param_update_req.ensures)
 
-pub returns-in-Is-read_disconnection_res : goal.returns-in-Is-read_disconnection_res
+pub returns-in-19 : goal.returns-in-19
 unfolding signal_of choose
-returns-in-Is-read_disconnection_res c =
-    rw c.in-7.is (ap from_disconnection_res (sym c.in-Is-read_disconnection_res.is ∙ c.read_disconnection_res.ensures))
+returns-in-19 c = rw c.in-19.is (c.ok_or-in-19.ensures.value ∙ under Signal.ConnParamUpdateRes _ _ c.map-in-19.ensures.cases ∙ ap (from_body Signal.ConnParamUpdateRes) c.read_conn_param_update_res.ensures)
 
-pub returns-in-Decode-read_conn_param_update_req : goal.returns-in-Decode-read_conn_param_update_req
+pub returns-in-20 : goal.returns-in-20
 unfolding signal_of choose
-returns-in-Decode-read_conn_param_update_req c =
-    rw c.in-18.is (ap from_conn_param_update_req (sym c.in-Decode-read_conn_param_update_req.is ∙ c.read_conn_param_update_req.ensures))
+returns-in-20 c = rw c.in-20.is (c.ok_or-in-20.ensures.value ∙ under Signal.LeCreditConnReq _ _ c.map-in-20.ensures.cases ∙ ap (from_body Signal.LeCreditConnReq) c.read_le_credit_conn_req.ensures)
 
-pub returns-in-Is-read_conn_param_update_req : goal.returns-in-Is-read_conn_param_update_req
+pub returns-in-21 : goal.returns-in-21
 unfolding signal_of choose
-returns-in-Is-read_conn_param_update_req c =
-    rw c.in-18.is (ap from_conn_param_update_req (sym c.in-Is-read_conn_param_update_req.is ∙ c.read_conn_param_update_req.ensures))
+returns-in-21 c = rw c.in-21.is (c.ok_or-in-21.ensures.value ∙ under Signal.LeCreditConnRes _ _ c.map-in-21.ensures.cases ∙ ap (from_body Signal.LeCreditConnRes) c.read_le_credit_conn_res.ensures)
 
-pub returns-in-Decode-read_conn_param_update_res : goal.returns-in-Decode-read_conn_param_update_res
+pub returns-in-22 : goal.returns-in-22
 unfolding signal_of choose
-returns-in-Decode-read_conn_param_update_res c =
-    rw c.in-19.is (ap from_conn_param_update_res (sym c.in-Decode-read_conn_param_update_res.is ∙ c.read_conn_param_update_res.ensures))
-
-pub returns-in-Is-read_conn_param_update_res : goal.returns-in-Is-read_conn_param_update_res
-unfolding signal_of choose
-returns-in-Is-read_conn_param_update_res c =
-    rw c.in-19.is (ap from_conn_param_update_res (sym c.in-Is-read_conn_param_update_res.is ∙ c.read_conn_param_update_res.ensures))
-
-pub returns-in-Decode-read_le_credit_conn_req : goal.returns-in-Decode-read_le_credit_conn_req
-unfolding signal_of choose
-returns-in-Decode-read_le_credit_conn_req c =
-    rw c.in-20.is (ap from_le_credit_conn_req (sym c.in-Decode-read_le_credit_conn_req.is ∙ c.read_le_credit_conn_req.ensures))
-
-pub returns-in-Is-read_le_credit_conn_req : goal.returns-in-Is-read_le_credit_conn_req
-unfolding signal_of choose
-returns-in-Is-read_le_credit_conn_req c =
-    rw c.in-20.is (ap from_le_credit_conn_req (sym c.in-Is-read_le_credit_conn_req.is ∙ c.read_le_credit_conn_req.ensures))
-
-pub returns-in-Decode-read_le_credit_conn_res : goal.returns-in-Decode-read_le_credit_conn_res
-unfolding signal_of choose
-returns-in-Decode-read_le_credit_conn_res c =
-    rw c.in-21.is (ap from_le_credit_conn_res (sym c.in-Decode-read_le_credit_conn_res.is ∙ c.read_le_credit_conn_res.ensures))
-
-pub returns-in-Is-read_le_credit_conn_res : goal.returns-in-Is-read_le_credit_conn_res
-unfolding signal_of choose
-returns-in-Is-read_le_credit_conn_res c =
-    rw c.in-21.is (ap from_le_credit_conn_res (sym c.in-Is-read_le_credit_conn_res.is ∙ c.read_le_credit_conn_res.ensures))
-
-pub returns-in-Decode-read_le_credit_flow_ind : goal.returns-in-Decode-read_le_credit_flow_ind
-unfolding signal_of choose
-returns-in-Decode-read_le_credit_flow_ind c =
-    rw c.in-22.is (ap from_le_credit_flow_ind (sym c.in-Decode-read_le_credit_flow_ind.is ∙ c.read_le_credit_flow_ind.ensures))
-
-pub returns-in-Is-read_le_credit_flow_ind : goal.returns-in-Is-read_le_credit_flow_ind
-unfolding signal_of choose
-returns-in-Is-read_le_credit_flow_ind c =
-    rw c.in-22.is (ap from_le_credit_flow_ind (sym c.in-Is-read_le_credit_flow_ind.is ∙ c.read_le_credit_flow_ind.ensures))
+returns-in-22 c = rw c.in-22.is (c.ok_or-in-22.ensures.value ∙ under Signal.LeCreditFlowInd _ _ c.map-in-22.ensures.cases ∙ ap (from_body Signal.LeCreditFlowInd) c.read_le_credit_flow_ind.ensures)
 
 pub returns-in_default : goal.returns-in_default
 unfolding signal_of choose

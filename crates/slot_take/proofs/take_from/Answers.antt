@@ -20,9 +20,9 @@ returns-then-short c =
     rw (← c.closed.ensures, c.if-closed.false, ne_eqb _ _ c.if-q-eq0.false, ← c.short.ensures, c.if-short.true)
     (took_none _ _ _ _ _ _ _ c.became-then-short.ensures)
 
-pub returns-in-Nothing : goal.returns-in-Nothing
+pub returns-in-None : goal.returns-in-None
 unfolding take_of choose
-returns-in-Nothing c =
+returns-in-None c =
     let a = c.args in
     rw (
       ← c.closed.ensures,
@@ -31,12 +31,12 @@ returns-in-Nothing c =
       ← c.short.ensures,
       c.if-short.false,
       ← c.grant_in.ensures,
-      c.in-Nothing.is,
+      c.in-None.is,
     ) (took_still a.d a.m a.s a.id a.x a.signal.now c.hand.ensures)
 
-pub returns-in-Credits : goal.returns-in-Credits
+pub returns-in-Some : goal.returns-in-Some
 unfolding take_of choose
-returns-in-Credits c =
+returns-in-Some c =
     rw (
       ← c.closed.ensures,
       c.if-closed.false,
@@ -44,5 +44,5 @@ returns-in-Credits c =
       ← c.short.ensures,
       c.if-short.false,
       ← c.grant_in.ensures,
-      c.in-Credits.is,
+      c.in-Some.is,
     ) c.hand_and_grant.ensures

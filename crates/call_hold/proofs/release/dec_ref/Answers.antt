@@ -12,14 +12,14 @@ unfolding choose dec_ref
 returns-then-hold-eq0 c =
     rw (
       ← c.number-s.ensures,
-      on c.gate.ensures c.in-Pass.is,
+      on c.gate.ensures c.in-Ok.is,
       ← c.slot_at-x.ensures,
       eq-eqb _ _ c.if-hold-eq0.true,
     ) (ended c.refused-then-hold-eq0.ensures _ _)
 
 pub leave-requires : goal.leave-requires
 leave-requires c =
-    let p = behind c.gate.ensures c.in-Pass.is in
+    let p = behind c.gate.ensures c.in-Ok.is in
     (room_of p, p.slot_is)
 
 pub returns-then-is_connected-hold : goal.returns-then-is_connected-hold
@@ -27,19 +27,19 @@ unfolding choose dec_ref
 returns-then-is_connected-hold c =
     rw (
       ← c.number-s.ensures,
-      on c.gate.ensures c.in-Pass.is,
+      on c.gate.ensures c.in-Ok.is,
       ← c.slot_at-x.ensures,
       ne_eqb _ _ c.if-hold-eq0.false,
       ← c.is_connected.ensures,
       c.if-is_connected-hold.true,
     ) (rw c.with_hold-y.ensures at (c.leave.ensures [] []))
 
-pub returns-in-Stop : goal.returns-in-Stop
+pub returns-in-Err : goal.returns-in-Err
 unfolding dec_ref
-returns-in-Stop c =
+returns-in-Err c =
     rw (
       ← c.number-s.ensures,
-      stopped c.gate.ensures c.in-Stop.is,
+      stopped c.gate.ensures c.in-Err.is,
     ) (ended c.refused.ensures _ _)
 
 pub returns-else-is_connected-hold : goal.returns-else-is_connected-hold
@@ -47,7 +47,7 @@ unfolding choose dec_ref
 returns-else-is_connected-hold c =
     rw (
       ← c.number-s.ensures,
-      on c.gate.ensures c.in-Pass.is,
+      on c.gate.ensures c.in-Ok.is,
       ← c.slot_at-x.ensures,
       ne_eqb _ _ c.if-hold-eq0.false,
       ← c.is_connected.ensures,

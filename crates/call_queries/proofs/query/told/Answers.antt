@@ -4,19 +4,19 @@ use Rattle.definition.specs.Asking.{query}
 use Rattle.table_gate.specs.Behind.{on, stopped}
 use Rattle.call_queries.proofs.query.told.Goals as goal
 
-pub returns-in-Stop : goal.returns-in-Stop
+pub returns-in-Err : goal.returns-in-Err
 unfolding query
-returns-in-Stop c =
+returns-in-Err c =
     rw (
       ← c.number.ensures,
-      stopped c.gate.ensures c.in-Stop.is,
+      stopped c.gate.ensures c.in-Err.is,
     ) c.refused.ensures
 
-pub returns-in-Pass : goal.returns-in-Pass
+pub returns-in-Ok : goal.returns-in-Ok
 unfolding sizes query
-returns-in-Pass c =
+returns-in-Ok c =
     rw (
       ← c.number.ensures,
-      on c.gate.ensures c.in-Pass.is,
+      on c.gate.ensures c.in-Ok.is,
       c.still.ensures,
     )

@@ -12,7 +12,7 @@ unfolding choose reject_pending
 returns-then-not-is_peer_connecting c =
     rw (
       ← c.number-s.ensures,
-      on c.gate.ensures c.in-Pass.is,
+      on c.gate.ensures c.in-Ok.is,
       ← c.slot_at-x.ensures,
       ← c.is_peer_connecting.ensures,
       c.if-not-is_peer_connecting.true-raw,
@@ -23,7 +23,7 @@ unfolding choose reject_pending
 returns-then-hold-eq0 c =
     rw (
       ← c.number-s.ensures,
-      on c.gate.ensures c.in-Pass.is,
+      on c.gate.ensures c.in-Ok.is,
       ← c.slot_at-x.ensures,
       ← c.is_peer_connecting.ensures,
       c.if-not-is_peer_connecting.false-raw,
@@ -32,15 +32,15 @@ returns-then-hold-eq0 c =
 
 pub free_and_tell-requires : goal.free_and_tell-requires
 free_and_tell-requires c =
-    let p = behind c.gate.ensures c.in-Pass.is in
+    let p = behind c.gate.ensures c.in-Ok.is in
     (room_of p, p.slot_is, p.signal-is)
 
-pub returns-in-Stop : goal.returns-in-Stop
+pub returns-in-Err : goal.returns-in-Err
 unfolding reject_pending
-returns-in-Stop c =
+returns-in-Err c =
     rw (
       ← c.number-s.ensures,
-      stopped c.gate.ensures c.in-Stop.is,
+      stopped c.gate.ensures c.in-Err.is,
     ) (ended c.refused.ensures _ _)
 
 pub returns-else-hold-eq0 : goal.returns-else-hold-eq0
@@ -48,7 +48,7 @@ unfolding choose reject_pending
 returns-else-hold-eq0 c =
     rw (
       ← c.number-s.ensures,
-      on c.gate.ensures c.in-Pass.is,
+      on c.gate.ensures c.in-Ok.is,
       ← c.slot_at-x.ensures,
       ← c.is_peer_connecting.ensures,
       c.if-not-is_peer_connecting.false-raw,

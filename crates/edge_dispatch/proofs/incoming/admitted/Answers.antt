@@ -1,4 +1,5 @@
 -- `edge_dispatch::incoming::admitted` meets its contract: the first refusals told from line 0, and else the work on one slot, put into its row (frame_placed).
+use Rattle.std.specs.Prelude.{None, Some}
 use mathlib.Core.Path.{◌≡◌, sym, ap, ◌∙◌}
 use mathlib.Core.Bool.{true, false}
 use native.Mathlib.Omega.{arith}
@@ -7,7 +8,6 @@ use lib.ListN.{length, get_or}
 use Rattle.octets.specs.Octets.{u16_at}
 use Rattle.codes.specs.declared.Refusal.TheVariants.{BadRoom, BadHandle}
 use Rattle.channel.specs.declared.ChannelIndex.{ChannelIndex}
-use Rattle.channel.specs.declared.Given.TheVariants.{Nothing, Is}
 use Rattle.definition.specs.Table.{room_width, is_cid}
 use Rattle.edge_layout.specs.Layout.{read}
 use Rattle.edge_row.proofs.Gate.{valid_long, refused_2}
@@ -20,7 +20,7 @@ returns-then-not-room_fits c =
     let o = g.table.now in
     let e : eqb (length g.room.now) (room_width (get_or o 1 0) (get_or o 2 0) (u16_at o 3)) ≡ false = sym c.room_fits.ensures ∙ c.if-not-room_fits.true in
     let told = c.put_answer.ensures in
-    rw (told.value, told.out_after) (frame_stopped o g.answer.now g.room.now g.payload.now g.link g.cid BadRoom (refused_2 o c.requires (length g.room.now) Nothing (Is g.link) Nothing e))
+    rw (told.value, told.out_after) (frame_stopped o g.answer.now g.room.now g.payload.now g.link g.cid BadRoom (refused_2 o c.requires (length g.room.now) None (Some g.link) None e))
 
 pub returns-then-beyond : goal.returns-then-beyond
 returns-then-beyond c =

@@ -1,4 +1,5 @@
 -- `edge_receive::taking::admitted` meets its contract: the first refusals told from line 0, and else the work on one slot, put into its row (take_placed).
+use Rattle.std.specs.Prelude.{None, Some}
 use mathlib.Core.Path.{◌≡◌, ◌∙◌}
 use mathlib.Core.Bool.{true, false}
 use native.Mathlib.Omega.{arith}
@@ -8,7 +9,6 @@ use borrow.Author.Tests.{not-true, not-false, le-leb, lt-leb, ltb-false}
 use Rattle.octets.specs.Octets.{u16_at}
 use Rattle.codes.specs.declared.Refusal.TheVariants.{BadRoom}
 use Rattle.channel.specs.Limits.{signal_most}
-use Rattle.channel.specs.declared.Given.TheVariants.{Nothing, Is}
 use Rattle.definition.specs.Table.{room_width}
 use Rattle.edge_row.proofs.Gate.{valid_long, refused_2}
 use Rattle.edge_placed.specs.Incoming.{sized-told}
@@ -25,7 +25,7 @@ returns-then-other c =
     let o = g.table.now in
     let told = c.put_answer.ensures in
     let e : eqb (length g.room.now) (room_width (get_or o 1 0) (get_or o 2 0) (u16_at o 3)) ≡ false = rw (c.room_size-size.ensures, c.octet-n.ensures, c.octet-d.ensures, c.number-m.ensures) at (not-true (eqb (length g.room.now) c.room_size-size.result) c.if-other.true-raw) in
-    rw (told.value, told.out_after) (take_stopped o g.answer.now g.room.now g.signal.now g.job.now g.slot BadRoom (refused_2 o c.requires (length g.room.now) (Is (length g.signal.now)) Nothing (Is g.slot) e))
+    rw (told.value, told.out_after) (take_stopped o g.answer.now g.room.now g.signal.now g.job.now g.slot BadRoom (refused_2 o c.requires (length g.room.now) (Some (length g.signal.now)) None (Some g.slot) e))
 
 pub returns-then-short : goal.returns-then-short
 returns-then-short c =

@@ -13,18 +13,18 @@ use Rattle.on_disconnection.proofs.response.on_disconnection_res.Goals as goal
 pub returns-then-not-is_cid : goal.returns-then-not-is_cid
 unfolding choose sizes on_disconnection_res
 returns-then-not-is_cid c =
-    rw (c.in-Is.is, ← c.is_cid.ensures, c.if-not-is_cid.true-raw, c.done.ensures) (sym (end-still _ _ _ _ _ _ _))
+    rw (c.in-Some.is, ← c.is_cid.ensures, c.if-not-is_cid.true-raw, c.done.ensures) (sym (end-still _ _ _ _ _ _ _))
 
 pub slot_of-requires : goal.slot_of-requires
 slot_of-requires c =
-    let h = cid_within c.args.t c.in-Is.res.scid (sym c.is_cid.ensures ∙ c.if-not-is_cid.false) in
+    let h = cid_within c.args.t c.in-Some.res.scid (sym c.is_cid.ensures ∙ c.if-not-is_cid.false) in
     omega (arith, h, c.requires.0.sizes.n-most)
 
 pub returns-then-not-is_disconnecting-x : goal.returns-then-not-is_disconnecting-x
 unfolding choose sizes on_disconnection_res
 returns-then-not-is_disconnecting-x c =
     rw (
-      c.in-Is.is,
+      c.in-Some.is,
       ← c.is_cid.ensures,
       c.if-not-is_cid.false-raw,
       ← (c.number-s.ensures ∙ ap (λ (i : ChannelIndex). i.0) c.slot_of.ensures),
@@ -36,19 +36,19 @@ returns-then-not-is_disconnecting-x c =
 
 pub free-requires : goal.free-requires
 free-requires c =
-    let h = cid_within c.args.t c.in-Is.res.scid (sym c.is_cid.ensures ∙ c.if-not-is_cid.false) in
+    let h = cid_within c.args.t c.in-Some.res.scid (sym c.is_cid.ensures ∙ c.if-not-is_cid.false) in
     (c.requires.0, rw (c.number-s.ensures ∙ ap (λ (i : ChannelIndex). i.0) c.slot_of.ensures) h)
 
-pub returns-in-Decode : goal.returns-in-Decode
+pub returns-in-None : goal.returns-in-None
 unfolding choose sizes on_disconnection_res
-returns-in-Decode c =
-    rw c.in-Decode.is (c.bad_body.ensures _ _ [])
+returns-in-None c =
+    rw c.in-None.is (c.bad_body.ensures _ _ [])
 
 pub returns-else-not-is_disconnecting-x : goal.returns-else-not-is_disconnecting-x
 unfolding choose sizes on_disconnection_res
 returns-else-not-is_disconnecting-x c =
     rw (
-      c.in-Is.is,
+      c.in-Some.is,
       ← c.is_cid.ensures,
       c.if-not-is_cid.false-raw,
       ← (c.number-s.ensures ∙ ap (λ (i : ChannelIndex). i.0) c.slot_of.ensures),

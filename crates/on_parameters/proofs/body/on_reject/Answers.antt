@@ -5,10 +5,10 @@ use Rattle.definition.proofs.Ending.{end-still}
 use Rattle.definition.specs.Signals.{on_reject}
 use Rattle.on_parameters.proofs.body.on_reject.Goals as goal
 
-pub returns-in-Decode : goal.returns-in-Decode
+pub returns-in-None : goal.returns-in-None
 unfolding sizes on_reject
-returns-in-Decode c t₀ room job = rw c.in-Decode.is (c.bad_body.ensures t₀ room job)
+returns-in-None c t₀ room job = rw c.in-None.is (c.bad_body.ensures t₀ room job)
 
-pub returns-in-Is : goal.returns-in-Is
+pub returns-in-Some : goal.returns-in-Some
 unfolding sizes on_reject
-returns-in-Is c t₀ room job = rw (c.in-Is.is, c.done.ensures) (sym (end-still _ _ _ _ _ _ _))
+returns-in-Some c t₀ room job = rw (c.in-Some.is, c.done.ensures) (sym (end-still _ _ _ _ _ _ _))

@@ -9,17 +9,17 @@ pub returns-then-body-ne10 : goal.returns-then-body-ne10
 unfolding le_credit_conn_res choose
 returns-then-body-ne10 c = rw (ne_eqb _ _ c.if-body-ne10.true)
 
-pub returns-in-Known : goal.returns-in-Known
+pub returns-in-Some : goal.returns-in-Some
 unfolding le_credit_conn_res choose
-returns-in-Known c =
+returns-in-Some c =
     let s = c.args.body.now in
-    let known = sym c.result_of.ensures ∙ c.in-Known.is in
+    let known = sym c.result_of.ensures ∙ c.in-Some.is in
     let read = rw c.number.ensures at known in
-    rw (eq-eqb _ _ c.if-body-ne10.false, read, c.number-in-Known.ensures, c.number-in-Known-2.ensures, c.number-in-Known-3.ensures, c.number-in-Known-4.ensures)
+    rw (eq-eqb _ _ c.if-body-ne10.false, read, c.number-in-Some.ensures, c.number-in-Some-2.ensures, c.number-in-Some-3.ensures, c.number-in-Some-4.ensures)
 
-pub returns-in-Unknown : goal.returns-in-Unknown
+pub returns-in-None : goal.returns-in-None
 unfolding le_credit_conn_res choose
-returns-in-Unknown c =
-    let unknown = sym c.result_of.ensures ∙ c.in-Unknown.is in
+returns-in-None c =
+    let unknown = sym c.result_of.ensures ∙ c.in-None.is in
     let read = rw c.number.ensures at unknown in
     rw (eq-eqb _ _ c.if-body-ne10.false, read)

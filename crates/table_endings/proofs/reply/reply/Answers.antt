@@ -2,10 +2,10 @@
 use Rattle.table_endings.specs.Reply.{replied, refused}
 use Rattle.table_endings.proofs.reply.reply.Goals as goal
 
-pub returns-in-NoRoom : goal.returns-in-NoRoom
-returns-in-NoRoom c =
-    absurd (refused c.requires c.write_signal.ensures c.in-NoRoom.is)
+pub returns-in-None : goal.returns-in-None
+returns-in-None c =
+    absurd (refused c.requires c.write_signal.ensures c.in-None.is)
 
-pub returns-in-Octets : goal.returns-in-Octets
-returns-in-Octets c =
-    replied c.requires c.write_signal.ensures c.in-Octets.is
+pub returns-in-Some : goal.returns-in-Some
+returns-in-Some c =
+    replied c.requires c.write_signal.ensures c.in-Some.is

@@ -10,7 +10,7 @@ ghost use Rattle.table_room.specs.Placed.{RoomOf};
 use channel::{Answer, Served, Table};
 use codes::Refusal;
 use octets::octet;
-use signal_headers::Checked;
+use signal_headers::BadHeader;
 
 // The first signal of a PDU behind the gate, by what the check of its headers finds.
 pub fn checked(
@@ -26,11 +26,11 @@ pub fn checked(
     ensures { end result room.new out.new [] ≡ end_of t [] room.old out.old [] (checked t link listening central pdu.now (headers_of pdu.now)) }
 {
     match signal_headers::check_headers(pdu) {
-        Checked::Cut => table::refused(t, Refusal::Decode),
-        Checked::Past(id) => {
+        Err(BadHeader::Cut) => table::refused(t, Refusal::Decode),
+        Err(BadHeader::Past(id)) => {
             on_rejects::reject(t, out, Answer::Refused(Refusal::InvalidValue), id, 0)
         }
-        Checked::Good => {
+        Ok(()) => {
             if pdu.len() == 0 {
                 return table::done(t);
             }

@@ -1,6 +1,6 @@
 -- A call that names a link touches that link's slots and free ones alone: a CID, an identifier or a peer CID is always matched together
 -- with its link. One lemma a call that names one, and `apart` for all of them.
-use Rattle.std.specs.Prelude.{◌≡◌, Bool, false, true, ◌&&◌, List, eqb, leb, None, Option, Some}
+use Rattle.std.specs.Prelude.{◌≡◌, Bool, false, true, ◌&&◌, List, eqb, leb, None, Option, Some, Result, Ok, Err}
 use Rattle.std.proofs.Math.Path.{refl, ap}
 use Rattle.std.proofs.Common.{◌∙◌, eqb-true}
 use Rattle.std.proofs.Math.Bool.{not}
@@ -9,8 +9,8 @@ use Rattle.std.proofs.lemmas.Bool.{not-false}
 use Rattle.lists.specs.Both.{and_left, and_right}
 use Rattle.sar_join.specs.declared.Joined.{Joined}
 use Rattle.sar_join.specs.declared.Joined.TheVariants as Joined
-use Rattle.signal_headers.specs.declared.Checked.{Checked}
-use Rattle.signal_headers.specs.declared.Checked.TheVariants.{Good, Cut, Past}
+use Rattle.signal_headers.specs.declared.BadHeader.{BadHeader}
+use Rattle.signal_headers.specs.declared.BadHeader.TheVariants.{Cut, Past}
 use Rattle.signal_forms.specs.declared.Signal.{Signal}
 use Rattle.channel.specs.declared.ChannelState.{ChannelState}
 use Rattle.channel.specs.declared.ChannelState.TheVariants.{Disconnected}
@@ -38,6 +38,7 @@ use Rattle.signal_forms.specs.declared.DisconnectionRes.{DisconnectionRes}
 use Rattle.signal_forms.specs.declared.LeCreditConnReq.{LeCreditConnReq}
 use Rattle.signal_forms.specs.declared.LeCreditConnRes.{LeCreditConnRes}
 use Rattle.signal_forms.specs.declared.LeCreditFlowInd.{LeCreditFlowInd}
+use Rattle.codes.specs.declared.Refusal.{Refusal}
 
 -- a slot found by the test q, in a state that is not Disconnected, with link k
 of : (q : ChannelState → Bool) → q Disconnected ≡ false → (x : Slot) (k : ℕ) → (q x.state && eqb x.link k) ≡ true → holder x ≡ by k
@@ -49,12 +50,12 @@ module _ (t : Table) (fit : Fit t) (link : ℕ) where
 
   -- ---- Frames.antt
 
-  joined-apart : (s count : ℕ) (x : Slot) → leb t.n s ≡ false → holder (slot_at t s) ≡ by link → (j : Joined) → Does (ApartSlot link) t (joined t s x count j)
+  joined-apart : (s count : ℕ) (x : Slot) → leb t.n s ≡ false → holder (slot_at t s) ≡ by link → (j : Result Joined Refusal) → Does (ApartSlot link) t (joined t s x count j)
   unfolding joined
-  joined-apart s count x a h (Joined.Refused r) = change_does on s itself a (its h)
-  joined-apart s count x a h (Joined.Assembling g) = change_does on s itself a (its h)
-  joined-apart s count x a h (Joined.Finished len) = change_does on s itself a (its h)
-  joined-apart s count x a h Joined.Dropped = change_does on s itself a (its h)
+  joined-apart s count x a h (Err r) = change_does on s itself a (its h)
+  joined-apart s count x a h (Ok (Joined.Assembling g)) = change_does on s itself a (its h)
+  joined-apart s count x a h (Ok (Joined.Finished len)) = change_does on s itself a (its h)
+  joined-apart s count x a h (Ok Joined.Dropped) = change_does on s itself a (its h)
 
   frame_apart : (room cid : ℕ) (head : List ℕ) (count : ℕ) → Does (ApartSlot link) t (dispatch t room link cid head count)
   unfolding dispatch
@@ -168,11 +169,11 @@ module _ (t : Table) (fit : Fit t) (link : ℕ) where
       if_does on (λ _. if_does on (λ _. parameters-apart id _) λ _. still_does on itself) λ _. if_does on (λ _. parameter_response_apart id _) λ _.
       if_does on (λ _. conn_req_apart listening id _) λ _. if_does on (λ _. conn_res_apart id _) λ _. if_does on (λ _. credits-apart id _) λ _. still_does on itself
 
-  checked-apart : (listening central : Bool) (pdu : List ℕ) (h : Checked) → Does (ApartSlot link) t (checked t link listening central pdu h)
+  checked-apart : (listening central : Bool) (pdu : List ℕ) (h : Result (Unit {0}) BadHeader) → Does (ApartSlot link) t (checked t link listening central pdu h)
   unfolding checked
-  checked-apart listening central pdu Cut = still_does on itself
-  checked-apart listening central pdu (Past id) = still_does on itself
-  checked-apart listening central pdu Good = else_does on _ _ _ itself λ _. handled-apart listening central _ _ _
+  checked-apart listening central pdu (Err Cut) = still_does on itself
+  checked-apart listening central pdu (Err (Past id)) = still_does on itself
+  checked-apart listening central pdu (Ok tt) = else_does on _ _ _ itself λ _. handled-apart listening central _ _ _
 
   signals_apart : (room signal : ℕ) (listening central : Bool) (pdu : List ℕ) → Does (ApartSlot link) t (signalled t room signal link listening central pdu)
   unfolding signalled

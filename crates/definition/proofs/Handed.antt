@@ -14,10 +14,9 @@ use Rattle.lists.specs.Both.{and_left, and_right}
 use Rattle.credit.specs.Account.{granted}
 use Rattle.sar_join.specs.declared.Joined.{Joined}
 use Rattle.sar_join.specs.declared.Joined.TheVariants as Joined
-use Rattle.sar_cut.specs.declared.Plan.{Plan}
-use Rattle.sar_cut.specs.declared.Plan.TheVariants as Plan
-use Rattle.signal_headers.specs.declared.Checked.{Checked}
-use Rattle.signal_headers.specs.declared.Checked.TheVariants.{Good, Cut, Past}
+use Rattle.sar_cut.specs.declared.Framed.{Framed}
+use Rattle.signal_headers.specs.declared.BadHeader.{BadHeader}
+use Rattle.signal_headers.specs.declared.BadHeader.TheVariants.{Cut, Past}
 use Rattle.signal_forms.specs.declared.Signal.{Signal}
 use Rattle.channel.specs.declared.Answer.{Answer}
 use Rattle.channel.specs.declared.L2capChannelConfig.{L2capChannelConfig}
@@ -177,11 +176,11 @@ module _ (t : Table) where
   unfolding handled
   handled-quiet link listening central code id body = either _ (reject-quiet id _) (either _ (disconnection_req-quiet link id _) (either _ (disconnection_res-quiet link id _) (either _ (either _ (parameters-quiet id _) (leaf refl refl)) (either _ (parameter_response_quiet id _) (either _ (conn_req_quiet link listening id _) (either _ (conn_res_quiet link id _) (either _ (credits-quiet link id _) (leaf refl refl))))))))
 
-  checked-quiet : (link : ℕ) (listening central : Bool) (pdu : List ℕ) (h : Checked) → Quiet (checked t link listening central pdu h)
+  checked-quiet : (link : ℕ) (listening central : Bool) (pdu : List ℕ) (h : Result (Unit {0}) BadHeader) → Quiet (checked t link listening central pdu h)
   unfolding checked
-  checked-quiet link listening central pdu Cut = leaf refl refl
-  checked-quiet link listening central pdu (Past id) = leaf refl refl
-  checked-quiet link listening central pdu Good = either _ (leaf refl refl) (handled-quiet link listening central _ _ _)
+  checked-quiet link listening central pdu (Err Cut) = leaf refl refl
+  checked-quiet link listening central pdu (Err (Past id)) = leaf refl refl
+  checked-quiet link listening central pdu (Ok tt) = either _ (leaf refl refl) (handled-quiet link listening central _ _ _)
 
   signals_quiet : (room signal link : ℕ) (listening central : Bool) (pdu : List ℕ) → Quiet (signalled t room signal link listening central pdu)
   unfolding signalled
@@ -189,12 +188,12 @@ module _ (t : Table) where
 
   -- ---- Frames.antt: a frame
 
-  joined-quiet : (s count : ℕ) (x : Slot) (j : Joined) → Quiet (joined t s x count j)
+  joined-quiet : (s count : ℕ) (x : Slot) (j : Result Joined Refusal) → Quiet (joined t s x count j)
   unfolding joined
-  joined-quiet s count x (Joined.Refused r) = leaf refl refl
-  joined-quiet s count x (Joined.Assembling g) = leaf refl refl
-  joined-quiet s count x (Joined.Finished len) = leaf refl refl
-  joined-quiet s count x Joined.Dropped = leaf refl refl
+  joined-quiet s count x (Err r) = leaf refl refl
+  joined-quiet s count x (Ok (Joined.Assembling g)) = leaf refl refl
+  joined-quiet s count x (Ok (Joined.Finished len)) = leaf refl refl
+  joined-quiet s count x (Ok Joined.Dropped) = leaf refl refl
 
   frame-quiet : (room link cid : ℕ) (head : List ℕ) (count : ℕ) → Quiet (dispatch t room link cid head count)
   unfolding dispatch
@@ -238,10 +237,10 @@ module _ (t : Table) where
   pass_hands (Ok tt) f = f refl
   pass_hands (Err r) f = record { out = none; tray = none }
 
-  started-quiet : (s l size : ℕ) (x : Slot) (p : Plan) → Quiet (start_planned t s x l size p)
+  started-quiet : (s l size : ℕ) (x : Slot) (p : Result Framed Refusal) → Quiet (start_planned t s x l size p)
   unfolding start_planned
-  started-quiet s l size x (Plan.Refused r) = either _ (leaf refl refl) (leaf refl refl)
-  started-quiet s l size x (Plan.Frames n octets) = either _ (leaf refl refl) (leaf refl refl)
+  started-quiet s l size x (Err r) = either _ (leaf refl refl) (leaf refl refl)
+  started-quiet s l size x (Ok framed) = either _ (leaf refl refl) (leaf refl refl)
 
   starts_quiet : (s l size : ℕ) → Quiet (start_job t s l size)
   unfolding start_job
@@ -262,10 +261,10 @@ module _ (t : Table) where
   unfolding frames
   frames_own cid mps l n = more worked (more (carried refl) (later_own cid mps l _ _))
 
-  planned-hands : {h : Holder} (s l : ℕ) (x : Slot) (p : Plan) → Hands t h h nobody (planned t s x l p)
+  planned-hands : {h : Holder} (s l : ℕ) (x : Slot) (p : Result Framed Refusal) → Hands t h h nobody (planned t s x l p)
   unfolding planned
-  planned-hands {h} s l x (Plan.Refused r) = if_cases (Hands t h h nobody) (blocks r) (λ _. record { out = none; tray = none }) (λ _. record { out = none; tray = none })
-  planned-hands s l x (Plan.Frames n octets) = record { out = frames_own _ _ l n; tray = none }
+  planned-hands {h} s l x (Err r) = if_cases (Hands t h h nobody) (blocks r) (λ _. record { out = none; tray = none }) (λ _. record { out = none; tray = none })
+  planned-hands s l x (Ok framed) = record { out = frames_own _ _ l framed.n; tray = none }
 
   sends_hands : {h : Holder} (s l out : ℕ) → Hands t h h nobody (send t s l out)
   unfolding send

@@ -7,8 +7,7 @@ use Rattle.std.proofs.lemmas.Bool.{false≢true}
 use mathlib.Core.List.{List, []}
 use Prim.Native.Nat.{ℕ, zero, suc, ◌-◌, min}
 use Rattle.lists.specs.Choose.{choose, if_cases}
-use Rattle.sar_cut.specs.declared.Plan.{Plan}
-use Rattle.sar_cut.specs.declared.Plan.TheVariants as Plan
+use Rattle.sar_cut.specs.declared.Framed.{Framed}
 use Rattle.signal_forms.specs.declared.Signal.{Signal}
 use Rattle.channel.specs.declared.L2capChannelConfig.{L2capChannelConfig}
 use Rattle.channel.specs.declared.OpenJob.{OpenJob}
@@ -84,19 +83,19 @@ module _ (t : Table) where
   later-unheld cid mps l zero from = refl
   later-unheld cid mps l (suc n) from = later-unheld cid mps l n _
 
-  planned-roomless : (s l : ℕ) (x : Slot) (p : Plan) → Roomless t (planned t s x l p)
+  planned-roomless : (s l : ℕ) (x : Slot) (p : Result Framed Refusal) → Roomless t (planned t s x l p)
   unfolding planned frames
-  planned-roomless s l x (Plan.Refused r) = of-both _ (at s refl refl refl) (none refl refl refl)
-  planned-roomless s l x (Plan.Frames n octets) = at s refl (later-unheld x.peer.cid x.peer.mps l (n - 1) (min l (x.peer.mps - 2))) refl
+  planned-roomless s l x (Err r) = of-both _ (at s refl refl refl) (none refl refl refl)
+  planned-roomless s l x (Ok framed) = at s refl (later-unheld x.peer.cid x.peer.mps l (framed.n - 1) (min l (x.peer.mps - 2))) refl
 
   sends_roomless : (s l out : ℕ) → Roomless t (send t s l out)
   unfolding send
   sends_roomless s l out = of-gate _ _ _ _ (of-both _ (none refl refl refl) (of-both _ (none refl refl refl) (planned-roomless s l _ _)))
 
-  started-roomless : (s l size : ℕ) (x : Slot) (p : Plan) → Roomless t (start_planned t s x l size p)
+  started-roomless : (s l size : ℕ) (x : Slot) (p : Result Framed Refusal) → Roomless t (start_planned t s x l size p)
   unfolding start_planned
-  started-roomless s l size x (Plan.Refused r) = of-both _ (at s refl refl refl) (none refl refl refl)
-  started-roomless s l size x (Plan.Frames n octets) = of-both _ (none refl refl refl) (at s refl refl refl)
+  started-roomless s l size x (Err r) = of-both _ (at s refl refl refl) (none refl refl refl)
+  started-roomless s l size x (Ok framed) = of-both _ (none refl refl refl) (at s refl refl refl)
 
   starts_roomless : (s l size : ℕ) → Roomless t (start_job t s l size)
   unfolding start_job

@@ -14,10 +14,9 @@ use Rattle.codes.specs.declared.Refusal.{Refusal}
 use Rattle.credit.specs.Account.{granted}
 use Rattle.sar_join.specs.declared.Joined.{Joined}
 use Rattle.sar_join.specs.declared.Joined.TheVariants as Joined
-use Rattle.sar_cut.specs.declared.Plan.{Plan}
-use Rattle.sar_cut.specs.declared.Plan.TheVariants as Plan
-use Rattle.signal_headers.specs.declared.Checked.{Checked}
-use Rattle.signal_headers.specs.declared.Checked.TheVariants.{Good, Cut, Past}
+use Rattle.sar_cut.specs.declared.Framed.{Framed}
+use Rattle.signal_headers.specs.declared.BadHeader.{BadHeader}
+use Rattle.signal_headers.specs.declared.BadHeader.TheVariants.{Cut, Past}
 use Rattle.signal_forms.specs.declared.Signal.{Signal}
 use Rattle.channel.specs.declared.Answer.TheVariants.{Done, Refused}
 use Rattle.channel.specs.declared.ChannelState.{ChannelState}
@@ -223,11 +222,11 @@ module _ (t : Table) (fit : Fit t) where
       if_does on (λ _. parameter_response_safe id _) λ _. if_does on (λ _. conn_req_safe link listening id _) λ _.
       if_does on (λ _. conn_res_safe link id _) λ _. if_does on (λ _. credits_safe link id _) λ _. still_does on itself
 
-  checked_safe : {l : Holder} (link : ℕ) (listening central : Bool) (pdu : List ℕ) (h : Checked) → Safe t l (checked t link listening central pdu h)
+  checked_safe : {l : Holder} (link : ℕ) (listening central : Bool) (pdu : List ℕ) (h : Result (Unit {0}) BadHeader) → Safe t l (checked t link listening central pdu h)
   unfolding checked
-  checked_safe link listening central pdu Cut = still_does on itself
-  checked_safe link listening central pdu (Past id) = still_does on itself
-  checked_safe link listening central pdu Good = else_does on _ _ _ itself λ _. handled_safe link listening central _ _ _
+  checked_safe link listening central pdu (Err Cut) = still_does on itself
+  checked_safe link listening central pdu (Err (Past id)) = still_does on itself
+  checked_safe link listening central pdu (Ok tt) = else_does on _ _ _ itself λ _. handled_safe link listening central _ _ _
 
   signals_safe : {l : Holder} (room signal link : ℕ) (listening central : Bool) (pdu : List ℕ) → Safe t l (signalled t room signal link listening central pdu)
   unfolding signalled
@@ -237,12 +236,12 @@ module _ (t : Table) (fit : Fit t) where
 
   -- x is slot s with its credit used, connected, of link k
   joined_safe : (k s count : ℕ) (x : Slot) → leb t.n s ≡ false → by x.link ≡ holder (slot_at t s) → holder x ≡ holder (slot_at t s) → holder (slot_at t s) ≡ by k
-      → (j : Joined) → Safe t (by k) (joined t s x count j)
+      → (j : Result Joined Refusal) → Safe t (by k) (joined t s x count j)
   unfolding joined
-  joined_safe k s count x a b c d (Joined.Refused r) = change_does on s itself a (kept b refl)
-  joined_safe k s count x a b c d (Joined.Assembling g) = change_does on s itself a (mine c d)
-  joined_safe k s count x a b c d (Joined.Finished len) = change_does on s itself a (mine c d)
-  joined_safe k s count x a b c d Joined.Dropped = change_does on s itself a (kept c refl)
+  joined_safe k s count x a b c d (Err r) = change_does on s itself a (kept b refl)
+  joined_safe k s count x a b c d (Ok (Joined.Assembling g)) = change_does on s itself a (mine c d)
+  joined_safe k s count x a b c d (Ok (Joined.Finished len)) = change_does on s itself a (mine c d)
+  joined_safe k s count x a b c d (Ok Joined.Dropped) = change_does on s itself a (kept c refl)
 
   frame_safe : (room link cid : ℕ) (head : List ℕ) (count : ℕ) → Safe t (by link) (dispatch t room link cid head count)
   unfolding dispatch
@@ -256,10 +255,10 @@ module _ (t : Table) (fit : Fit t) where
   unsent_safe : {l : Holder} (s : ℕ) (r : Refusal) → leb t.n s ≡ false → Safe t l (unsent t s (slot_at t s) r)
   unsent_safe s r a = if_does on (λ _. change_does on s itself a (kept refl refl)) (λ _. still_does on itself)
 
-  planned_safe : {l : Holder} (s count : ℕ) → leb t.n s ≡ false → (p : Plan) → Safe t l (planned t s (slot_at t s) count p)
+  planned_safe : {l : Holder} (s count : ℕ) → leb t.n s ≡ false → (p : Result Framed Refusal) → Safe t l (planned t s (slot_at t s) count p)
   unfolding planned
-  planned_safe s count a (Plan.Refused r) = unsent_safe s r a
-  planned_safe s count a (Plan.Frames n octets) = change_does on s itself a (kept refl refl)
+  planned_safe s count a (Err r) = unsent_safe s r a
+  planned_safe s count a (Ok framed) = change_does on s itself a (kept refl refl)
 
   sends_safe : {l : Holder} (s count out : ℕ) → Safe t l (send t s count out)
   unfolding send
@@ -283,10 +282,10 @@ module _ (t : Table) (fit : Fit t) where
 
   -- ---- Portions.antt
 
-  started_safe : {l : Holder} (s count size : ℕ) → leb t.n s ≡ false → (p : Plan) → Safe t l (start_planned t s (slot_at t s) count size p)
+  started_safe : {l : Holder} (s count size : ℕ) → leb t.n s ≡ false → (p : Result Framed Refusal) → Safe t l (start_planned t s (slot_at t s) count size p)
   unfolding start_planned
-  started_safe s count size a (Plan.Refused r) = unsent_safe s r a
-  started_safe s count size a (Plan.Frames n octets) = else_does on _ _ _ itself λ _. filling_does on s a (kept refl refl)
+  started_safe s count size a (Err r) = unsent_safe s r a
+  started_safe s count size a (Ok framed) = else_does on _ _ _ itself λ _. filling_does on s a (kept refl refl)
 
   starts_safe : {l : Holder} (s count size : ℕ) → Safe t l (start_job t s count size)
   unfolding start_job

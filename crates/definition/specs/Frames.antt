@@ -1,6 +1,6 @@
 -- Frames in, jobs out: frame in, send, take. Document 01, 'Cutting, joining, credits'. None of these sees a job octet: a frame comes
 -- as its length octets (`head`) and the number of its job octets, a send as the number of octets of its SDU.
-use Rattle.std.specs.Prelude.{Bool, false, ◌||◌, not, List, [], ◌∷◌, ◌++◌, ℕ, zero, suc, ◌+◌, ◌-◌, ◌*◌, min, eqb, ltb, length, get_or, set, drop, None, Option, Some}
+use Rattle.std.specs.Prelude.{Bool, false, ◌||◌, not, List, [], ◌∷◌, ◌++◌, ℕ, zero, suc, ◌+◌, ◌-◌, ◌*◌, min, eqb, ltb, length, get_or, set, drop, None, Option, Some, Result, Ok, Err}
 use Rattle.octets.specs.Octets.{le16, u16_at}
 use Rattle.codes.specs.declared.Refusal.{Refusal}
 use Rattle.codes.specs.declared.Refusal.TheVariants.{InvalidChannelId, NotFound, OutOfMemory, ChannelClosed, InsufficientSpace, QueueFull, JobOpen}
@@ -9,8 +9,7 @@ use Rattle.sar_join.specs.declared.Assembly.{Assembly}
 use Rattle.sar_join.specs.declared.Joined.{Joined}
 use Rattle.sar_join.specs.declared.Joined.TheVariants as Joined
 use Rattle.sar_join.specs.Joining.{is_idle, idle, assembled, place, queue_at, join_step}
-use Rattle.sar_cut.specs.declared.Plan.{Plan}
-use Rattle.sar_cut.specs.declared.Plan.TheVariants as Plan
+use Rattle.sar_cut.specs.declared.Framed.{Framed}
 use Rattle.sar_cut.specs.Cutting.{plan_send}
 use Rattle.signal_write.specs.Writer.{encode_of}
 use Rattle.signal_forms.specs.declared.LeCreditFlowInd.{LeCreditFlowInd}
@@ -41,24 +40,24 @@ finish_moves size a queued count =
     else put (queue_at size queued) (held 0 a.have) ∷ put (queue_at size queued + a.have) (job 0 count) ∷ unassembled size ∷ []
 
 -- What the join step (crate sar_join) moves there. (A refusal moves nothing by itself: the slot leaves Connected, which zeroes the assembly place.)
-abbrev pub join_moves : (size : ℕ) → Assembly → (queued count : ℕ) → Joined → List Move
-join_moves size a queued count (Joined.Refused r) = []
-join_moves size a queued count (Joined.Assembling b) = put (assembled a) (job 0 count) ∷ []
-join_moves size a queued count (Joined.Finished len) = finish_moves size a queued count
-join_moves size a queued count Joined.Dropped = unassembled size ∷ []
+abbrev pub join_moves : (size : ℕ) → Assembly → (queued count : ℕ) → Result Joined Refusal → List Move
+join_moves size a queued count (Err r) = []
+join_moves size a queued count (Ok (Joined.Assembling b)) = put (assembled a) (job 0 count) ∷ []
+join_moves size a queued count (Ok (Joined.Finished len)) = finish_moves size a queued count
+join_moves size a queued count (Ok Joined.Dropped) = unassembled size ∷ []
 
-abbrev pub moved : Table → Slot → (count : ℕ) → Joined → List Move
+abbrev pub moved : Table → Slot → (count : ℕ) → Result Joined Refusal → List Move
 moved t x count j = join_moves (place_of t) x.assembly x.queue.count count j
 
 abbrev pub finishing : Table → Slot → (count : ℕ) → List Move
 finishing t x count = finish_moves (place_of t) x.assembly x.queue.count count
 
 -- What the join step decided, for slot s as x, whose credit is used.
-unfoldable pub joined : Table → (slot : ℕ) → Slot → (count : ℕ) → Joined → Outcome
-joined t s x count (Joined.Refused r) = leaving t s x (Disconnecting false) (Refused r)
-joined t s x count (Joined.Assembling a) = change t s (with_assembly a x) (moved t x count (Joined.Assembling a)) Done []
-joined t s x count (Joined.Finished len) = change t s (with_queue (queued len x.queue) (with_assembly idle x)) (moved t x count (Joined.Finished len)) Done []
-joined t s x count Joined.Dropped = change t s (with_assembly idle x) (moved t x count Joined.Dropped) (Refused QueueFull) []
+unfoldable pub joined : Table → (slot : ℕ) → Slot → (count : ℕ) → Result Joined Refusal → Outcome
+joined t s x count (Err r) = leaving t s x (Disconnecting false) (Refused r)
+joined t s x count (Ok (Joined.Assembling a)) = change t s (with_assembly a x) (moved t x count (Ok (Joined.Assembling a))) Done []
+joined t s x count (Ok (Joined.Finished len)) = change t s (with_queue (queued len x.queue) (with_assembly idle x)) (moved t x count (Ok (Joined.Finished len))) Done []
+joined t s x count (Ok Joined.Dropped) = change t s (with_assembly idle x) (moved t x count (Ok Joined.Dropped)) (Refused QueueFull) []
 
 -- What the join step is told of a frame and of the slot that it comes to.
 pub record Arrival : Type 0 where
@@ -70,7 +69,7 @@ pub record Arrival : Type 0 where
   pub payload : ℕ  -- how many octets came
   pub said : ℕ  -- what the length octets say
 
-abbrev pub step_of : Arrival → Joined
+abbrev pub step_of : Arrival → Result Joined Refusal
 step_of a = join_step a.mtu a.mps a.depth a.assembly a.queued a.payload a.said
 
 abbrev pub arriving : Table → Slot → (head : List ℕ) (count : ℕ) → Arrival
@@ -123,9 +122,9 @@ unsent t s x r =
     else refuse t r
 
 -- "On success peer credits fall by n." "A send adds n when its credits are taken".
-unfoldable pub planned : Table → (slot : ℕ) → Slot → (l : ℕ) → Plan → Outcome
-planned t s x l (Plan.Refused r) = unsent t s x r
-planned t s x l (Plan.Frames n octets) = change t s (count_sent n (with_peer_credits (x.peer.credits - n) x)) [] (Frames x.link n) (frames x.peer.cid x.peer.mps l n)
+unfoldable pub planned : Table → (slot : ℕ) → Slot → (l : ℕ) → Result Framed Refusal → Outcome
+planned t s x l (Err r) = unsent t s x r
+planned t s x l (Ok framed) = change t s (count_sent framed.n (with_peer_credits (x.peer.credits - framed.n) x)) [] (Frames x.link framed.n) (frames x.peer.cid x.peer.mps l framed.n)
 
 -- "Send order: 11, 12, 23, 20, 14, 3", and 24, "for a second send while a job is open, comes after 11" (document 02). Of these 12 to 3 are the plan's (crate sar_cut). Behind the first refusals:
 abbrev pub sent_on : Table → (slot l out : ℕ) → Outcome

@@ -1,10 +1,9 @@
 -- Jobs handed over in portions: start, portion, cancel. Document 02 (i). "The sender states the SDU length first, gets n credits set aside, then gives
 -- octets in portions of its choosing and takes frames as they fill." The frame that is being filled stands in a buffer that the caller lends for the
 -- whole job; the table has the numbers alone. None of these sees a job octet: a portion comes as the number of its octets.
-use Rattle.std.specs.Prelude.{Bool, false, ◌&&◌, ◌||◌, not, List, [], ◌∷◌, ℕ, ◌+◌, ◌-◌, min, eqb, ltb, None, Some}
+use Rattle.std.specs.Prelude.{Bool, false, ◌&&◌, ◌||◌, not, List, [], ◌∷◌, ℕ, ◌+◌, ◌-◌, min, eqb, ltb, None, Some, Result, Ok, Err}
 use Rattle.codes.specs.declared.Refusal.TheVariants.{NoRoom, NotFound, ChannelClosed, JobOpen, WrongLength}
-use Rattle.sar_cut.specs.declared.Plan.{Plan}
-use Rattle.sar_cut.specs.declared.Plan.TheVariants as Plan
+use Rattle.sar_cut.specs.declared.Framed.{Framed}
 use Rattle.sar_cut.specs.Cutting.{frames_length, plan_send}
 use Rattle.channel.specs.Limits.{frame_head}
 use Rattle.channel.specs.declared.Answer.TheVariants.{Done, Frames, Portion}
@@ -18,6 +17,7 @@ use Rattle.definition.specs.Slots.{with_peer_credits, with_job, no_job, count_se
 use Rattle.definition.specs.Table.{when◌then◌else◌, slot_at, is_open}
 use Rattle.definition.specs.Outcome.{Outcome, change, filling, refuse, leaving, gate}
 use Rattle.definition.specs.Frames.{header, first_header, unsent}
+use Rattle.codes.specs.declared.Refusal.{Refusal}
 
 -- ---- an open job. Its stream is the two octets of its length, then its own, as sar_cut has it; its frames are that stream's stretches.
 
@@ -44,12 +44,12 @@ abbrev pub begun : (l n : ℕ) → OpenJob
 begun l n = record { length = l; taken = 0; filled = 2; aside = n }
 
 -- What the plan of a send comes to for a start. "3 also for that buffer too short, last at the start". Its frames are counted at once, and no portion or cancel counts again or takes back.
-unfoldable pub start_planned : Table → (slot : ℕ) → Slot → (l size : ℕ) → Plan → Outcome
-start_planned t s x l size (Plan.Refused r) = unsent t s x r
-start_planned t s x l size (Plan.Frames n octets) =
+unfoldable pub start_planned : Table → (slot : ℕ) → Slot → (l size : ℕ) → Result Framed Refusal → Outcome
+start_planned t s x l size (Err r) = unsent t s x r
+start_planned t s x l size (Ok framed) =
     let mps = x.peer.mps in
     when ltb size (buffer_size mps l) then refuse t NoRoom
-    else filling t s (with_job (begun l n) (count_sent n (with_peer_credits (x.peer.credits - n) x))) (Frames x.link n) 0 (given (first_header x.peer.cid (longest mps l) l) ∷ []) 0
+    else filling t s (with_job (begun l framed.n) (count_sent framed.n (with_peer_credits (x.peer.credits - framed.n) x))) (Frames x.link framed.n) 0 (given (first_header x.peer.cid (longest mps l) l) ∷ []) 0
 
 -- 11, 24, then a send's 12, 23, 20, 14: its plan, for an output that suffices. Behind the first refusals:
 abbrev pub start_on : Table → (slot l size : ℕ) → Outcome

@@ -4,7 +4,6 @@
 use Rattle.std.specs.Prelude.{◌≡◌, Bool, true, false, ◌&&◌, List, [], ◌∷◌}
 use Prim.Native.Nat.{ℕ}
 use Rattle.sar_join.specs.declared.Joined.TheVariants as Joined
-use Rattle.sar_cut.specs.declared.Plan.TheVariants as Plan
 use Rattle.channel.specs.declared.Slot.{Slot}
 use Rattle.channel.specs.declared.Table.{Table}
 use Rattle.definition.specs.Outcome.{Outcome}

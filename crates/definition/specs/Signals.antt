@@ -1,14 +1,14 @@
 -- One signal PDU: document 01, 'Signals'. Every header is checked, then the first signal is handled; the part after it is `rest_of`
 -- (crate signal_headers), which the next call is given, until nothing is left (Run.antt, `signal_calls`). Core Vol 3 Part A, 4.
-use Rattle.std.specs.Prelude.{Bool, false, ◌&&◌, not, List, [], ◌∷◌, ℕ, ◌+◌, eqb, leb, ltb, length, get_or, None, Option, Some}
+use Rattle.std.specs.Prelude.{Bool, false, ◌&&◌, not, List, [], ◌∷◌, ℕ, ◌+◌, eqb, leb, ltb, length, get_or, None, Option, Some, Result, Ok, Err}
 use Rattle.codes.specs.declared.LeCreditConnResultCode.TheVariants as Result
 use Rattle.codes.specs.Codes.{result_number}
 use Rattle.codes.specs.declared.Refusal.TheVariants.{NotFound, InvalidValue, Decode, NotSupported, ConnectError}
 use Rattle.signal_headers.specs.Headers.{headers_of, body_in}
 use Rattle.signal_parameter_rule.specs.Parameters.{parameters_valid}
 use Rattle.signal_write.specs.Writer.{encode_of}
-use Rattle.signal_headers.specs.declared.Checked.{Checked}
-use Rattle.signal_headers.specs.declared.Checked.TheVariants.{Good, Cut, Past}
+use Rattle.signal_headers.specs.declared.BadHeader.{BadHeader}
+use Rattle.signal_headers.specs.declared.BadHeader.TheVariants.{Cut, Past}
 use Rattle.signal_forms.specs.declared.LeCreditConnReq.{LeCreditConnReq}
 use Rattle.signal_forms.specs.declared.LeCreditConnRes.{LeCreditConnRes}
 use Rattle.signal_forms.specs.declared.Signal.TheVariants as Signal
@@ -175,10 +175,10 @@ handled t link listening central code id body =
 
 -- "One call first checks every header in the octets given, then handles the first signal .. Empty input does nothing."
 -- Row 15: "signal header under 4 octets: no reply"; row 9: "signal length past the PDU: reject reply", with that header's identifier.
-unfoldable pub checked : Table → (link : ℕ) (listening central : Bool) (pdu : List ℕ) → Checked → Outcome
-checked t link listening central pdu Cut = refuse t Decode
-checked t link listening central pdu (Past id) = still t (Refused InvalidValue) (reject_reply id 0)
-checked t link listening central pdu Good =
+unfoldable pub checked : Table → (link : ℕ) (listening central : Bool) (pdu : List ℕ) → Result (Unit {0}) BadHeader → Outcome
+checked t link listening central pdu (Err Cut) = refuse t Decode
+checked t link listening central pdu (Err (Past id)) = still t (Refused InvalidValue) (reject_reply id 0)
+checked t link listening central pdu (Ok tt) =
     when eqb (length pdu) 0 then done t
     else handled t link listening central (get_or pdu 0 0) (get_or pdu 1 0) (body_in pdu)
 

@@ -18,7 +18,7 @@ use edge_layout::cells::{number, octet};
 use edge_layout::{KIND, LINK, PEER_CID};
 use signal_bodies::le_credit::read_le_credit_flow_ind;
 use signal_forms::LeCreditFlowInd;
-use signal_headers::Checked;
+use signal_headers::BadHeader;
 
 // Code 0x16.
 const CREDITS: u8 = 0x16;
@@ -34,9 +34,8 @@ pub fn credits_in(pdu: &[u8]) -> Option<LeCreditFlowInd>
         return None;
     }
     match signal_headers::check_headers(pdu) {
-        Checked::Good => read_le_credit_flow_ind(signal_headers::body(pdu)),
-        Checked::Cut => None,
-        Checked::Past(_) => None,
+        Ok(()) => read_le_credit_flow_ind(signal_headers::body(pdu)),
+        Err(_) => None,
     }
 }
 

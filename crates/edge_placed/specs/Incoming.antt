@@ -82,12 +82,12 @@ module _ (o a room p : List ℕ) (d m s link : ℕ) where
 abbrev Same : Slot → Work → Type 0
 Same x w = (local_of w.slot ≡ local_of x) × ((peer_of w.slot ≡ peer_of x) × (is_connected w.slot.state ≡ true → middle_of w.slot ≡ middle_of x))
 
-joined_local : (place : ℕ) (x : Slot) (k : CreditFlowControl) (count : ℕ) (j : Joined) → Same x (joined_to place (count_received (with_account k x)) count j)
+joined_local : (place : ℕ) (x : Slot) (k : CreditFlowControl) (count : ℕ) (j : Result Joined Refusal) → Same x (joined_to place (count_received (with_account k x)) count j)
 unfolding joined_to
-joined_local place x k count (Joined.Refused r) = (refl, (refl, λ e. absurd (false≢true e)))
-joined_local place x k count (Joined.Assembling a) = (refl, (refl, λ _. refl))
-joined_local place x k count (Joined.Finished len) = (refl, (refl, λ _. refl))
-joined_local place x k count Joined.Dropped = (refl, (refl, λ _. refl))
+joined_local place x k count (Err r) = (refl, (refl, λ e. absurd (false≢true e)))
+joined_local place x k count (Ok (Joined.Assembling a)) = (refl, (refl, λ _. refl))
+joined_local place x k count (Ok (Joined.Finished len)) = (refl, (refl, λ _. refl))
+joined_local place x k count (Ok Joined.Dropped) = (refl, (refl, λ _. refl))
 
 frame_local : (d place : ℕ) (x : Slot) (link : ℕ) (p : List ℕ) → Same x (frame_of d place x link p)
 unfolding frame_of

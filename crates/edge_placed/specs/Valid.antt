@@ -1,5 +1,5 @@
 -- A frame in and a send leave a valid table's octets valid, whatever they answer: so a run of them tests its table once.
-use Rattle.std.specs.Prelude.{◌≡◌, refl, Bool, true, false, not, List, ℕ, ◌+◌, ◌-◌, ◌≤◌, ◌<◌, eqb, leb, ltb, get_or, None, Some}
+use Rattle.std.specs.Prelude.{◌≡◌, refl, Bool, true, false, not, List, ℕ, ◌+◌, ◌-◌, ◌≤◌, ◌<◌, eqb, leb, ltb, get_or, None, Some, Result, Ok, Err}
 use Rattle.std.proofs.Common.{sym, ap, ◌∙◌, subst, add-one, arith, length-take, get_or-take}
 use Rattle.std.proofs.Math.ListN.{length, length-set}
 use borrow.Author.Tests.{eqb-false, le-leb, leb-true, leb-false, ltb-true, ltb-false}
@@ -10,8 +10,7 @@ use Rattle.octets.specs.Octets.{u16_at}
 use Rattle.codes.specs.declared.Refusal.TheVariants.{BadRoom, BadHandle, BadSlot}
 use Rattle.credit.specs.Account.{credit_sum, received}
 use Rattle.credit_laws.specs.AccountLaws.{received-sum}
-use Rattle.sar_cut.specs.declared.Plan.{Plan}
-use Rattle.sar_cut.specs.declared.Plan.TheVariants as Plan
+use Rattle.sar_cut.specs.declared.Framed.{Framed}
 use Rattle.sar_join.specs.declared.Joined.{Joined}
 use Rattle.sar_join.specs.declared.Joined.TheVariants as Joined
 use Rattle.sar_join.specs.Joining.{reached, first_step, join_step}
@@ -38,6 +37,7 @@ use Rattle.edge_row.proofs.Stays.{valid_put}
 use Rattle.edge_placed.specs.Frames.{dispatch_edge, send_edge}
 use Rattle.edge_placed.specs.Sent.{slot-within, send_stopped, sent-table}
 use Rattle.edge_placed.specs.Incoming.{refused_4, frame_stopped, refused_7, row_low, frame-table}
+use Rattle.codes.specs.declared.Refusal.{Refusal}
 
 -- ---- what refusal 1 asks of a slot
 
@@ -78,11 +78,11 @@ fits d place x h =
 
 -- ---- what the join step comes to fits
 
-abbrev Fitting : (d place queued : ℕ) → Joined → Type 0
-Fitting d place q (Joined.Refused r) = Unit {0}
-Fitting d place q (Joined.Assembling a) = (a.have ≤ place) × (a.want ≤ place)
-Fitting d place q (Joined.Finished len) = (len ≤ place) × (q < d)
-Fitting d place q Joined.Dropped = Unit {0}
+abbrev Fitting : (d place queued : ℕ) → Result Joined Refusal → Type 0
+Fitting d place q (Err r) = Unit {0}
+Fitting d place q (Ok (Joined.Assembling a)) = (a.have ≤ place) × (a.want ≤ place)
+Fitting d place q (Ok (Joined.Finished len)) = (len ≤ place) × (q < d)
+Fitting d place q (Ok Joined.Dropped) = Unit {0}
 
 module _ (d place q : ℕ) where
   reached-fits : (want have : ℕ) → want ≤ place → Fitting d place q (reached d q want have)
@@ -102,11 +102,11 @@ module _ (d place q : ℕ) where
 
 -- ---- a frame
 
-joined-fits : (d place : ℕ) (x : Slot) (count : ℕ) (j : Joined) → Fit d place x → Fitting d place x.queue.count j → Fit d place (joined_to place x count j).slot
+joined-fits : (d place : ℕ) (x : Slot) (count : ℕ) (j : Result Joined Refusal) → Fit d place x → Fitting d place x.queue.count j → Fit d place (joined_to place x count j).slot
 unfolding joined_to
-joined-fits d place x count (Joined.Refused r) h k = record { count = h.count; lens = h.lens; have = omega arith; want = omega arith; mtu = h.mtu; sum = h.sum; job = refl; aside = omega (arith, h.aside) }
-joined-fits d place x count (Joined.Assembling a) h k = record { count = h.count; lens = h.lens; have = k.0; want = k.1; mtu = h.mtu; sum = h.sum; job = h.job; aside = h.aside }
-joined-fits d place x count (Joined.Finished len) h k =
+joined-fits d place x count (Err r) h k = record { count = h.count; lens = h.lens; have = omega arith; want = omega arith; mtu = h.mtu; sum = h.sum; job = refl; aside = omega (arith, h.aside) }
+joined-fits d place x count (Ok (Joined.Assembling a)) h k = record { count = h.count; lens = h.lens; have = k.0; want = k.1; mtu = h.mtu; sum = h.sum; job = h.job; aside = h.aside }
+joined-fits d place x count (Ok (Joined.Finished len)) h k =
     record {
       count = omega (arith, k.1);
       lens = rw (add-one x.queue.count) (every_set (λ n. leb n place) x.queue.lens x.queue.count len h.lens (le-leb len place k.0));
@@ -117,7 +117,7 @@ joined-fits d place x count (Joined.Finished len) h k =
       job = h.job;
       aside = h.aside;
     }
-joined-fits d place x count Joined.Dropped h k = record { count = h.count; lens = h.lens; have = omega arith; want = omega arith; mtu = h.mtu; sum = h.sum; job = h.job; aside = h.aside }
+joined-fits d place x count (Ok Joined.Dropped) h k = record { count = h.count; lens = h.lens; have = omega arith; want = omega arith; mtu = h.mtu; sum = h.sum; job = h.job; aside = h.aside }
 
 used-fits : (d place : ℕ) (x : Slot) → eqb x.account.credits 0 ≡ false → Fit d place x → Fit d place (count_received (with_account (received x.account 1) x))
 used-fits d place x e h =
@@ -136,12 +136,12 @@ module _ (d place : ℕ) (x : Slot) (link : ℕ) (p : List ℕ) where
   pub frame-fits : slot_fits d place x ≡ true → slot_fits d place (frame_of d place x link p).slot ≡ true
   frame-fits e = fits d place _ (frame_fit (fit d place x e))
 
-  joined-long : (y : Slot) (count : ℕ) (j : Joined) → length y.queue.lens ≡ depth_most → length (joined_to place y count j).slot.queue.lens ≡ depth_most
+  joined-long : (y : Slot) (count : ℕ) (j : Result Joined Refusal) → length y.queue.lens ≡ depth_most → length (joined_to place y count j).slot.queue.lens ≡ depth_most
   unfolding joined_to
-  joined-long y count (Joined.Refused r) h = h
-  joined-long y count (Joined.Assembling a) h = h
-  joined-long y count (Joined.Finished len) h = length-set y.queue.lens y.queue.count len ∙ h
-  joined-long y count Joined.Dropped h = h
+  joined-long y count (Err r) h = h
+  joined-long y count (Ok (Joined.Assembling a)) h = h
+  joined-long y count (Ok (Joined.Finished len)) h = length-set y.queue.lens y.queue.count len ∙ h
+  joined-long y count (Ok Joined.Dropped) h = h
 
   frame-long : length x.queue.lens ≡ depth_most → length (frame_of d place x link p).slot.queue.lens ≡ depth_most
   unfolding frame_of
@@ -157,10 +157,10 @@ credits_fit d place x n y l e =
     let h = fit d place x e in
     fits d place (with_sends y (with_peer_credits n x)) (record { count = h.count; lens = h.lens; have = h.have; want = h.want; mtu = h.mtu; sum = h.sum; job = h.job; aside = omega (arith, h.aside) })
 
-planned_less : (x : Slot) (sdu out : List ℕ) (p : Plan) → (planned_from x sdu out p).gave.slot.peer.credits ≤ x.peer.credits
+planned_less : (x : Slot) (sdu out : List ℕ) (p : Result Framed Refusal) → (planned_from x sdu out p).gave.slot.peer.credits ≤ x.peer.credits
 unfolding planned_from
-planned_less x sdu out (Plan.Refused r) = if_cases (λ (y : Slot). y.peer.credits ≤ x.peer.credits) (blocks r) (λ _. omega arith) (λ _. omega arith)
-planned_less x sdu out (Plan.Frames n octets) = omega arith
+planned_less x sdu out (Err r) = if_cases (λ (y : Slot). y.peer.credits ≤ x.peer.credits) (blocks r) (λ _. omega arith) (λ _. omega arith)
+planned_less x sdu out (Ok framed) = omega arith
 
 sent_less : (x : Slot) (sdu out : List ℕ) → (sent_from x sdu out).gave.slot.peer.credits ≤ x.peer.credits
 unfolding sent_from

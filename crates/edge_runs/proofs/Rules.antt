@@ -1,13 +1,12 @@
 -- The rules of every run, at the octets: what a run of entries from a making that returns 0 reaches is a state that a run of the definition reaches, spelled
 -- (`reached`); so the room rule, the fresh-slot rule, exact rejoining and the law of a take hold of its octets. `state_of` reads the table from its octets.
-use Rattle.std.specs.Prelude.{◌≡◌, refl, true, false, List, ℕ, suc, ◌+◌, ◌-◌, ◌*◌, ◌≤◌, ◌<◌, length, take, get_or}
+use Rattle.std.specs.Prelude.{◌≡◌, refl, true, false, List, ℕ, suc, ◌+◌, ◌-◌, ◌*◌, ◌≤◌, ◌<◌, length, take, get_or, Result, Ok, Err}
 use Rattle.std.proofs.Common.{sym, ap, ◌∙◌, subst, inl, arith, take_all}
 use Rattle.std.proofs.lemmas.List.Edits.{sets}
 use Rattle.std.proofs.lemmas.Bool.{eqb-false}
 use Rattle.lists.specs.Choose.{if_cases}
 use Rattle.codes.specs.declared.Refusal.{Refusal}
-use Rattle.sar_cut.specs.declared.Plan.{Plan}
-use Rattle.sar_cut.specs.declared.Plan.TheVariants as Plan
+use Rattle.sar_cut.specs.declared.Framed.{Framed}
 use Rattle.sar_cut.specs.Cutting.{payloads, AllWithin, frames_of}
 use Rattle.credit.specs.Account.{credit_sum}
 use Rattle.channel.specs.Limits.{handle_most, signal_most, identifier_most, credits_most, size_least}
@@ -131,13 +130,13 @@ module _ {s : EdgeState} (r : ReachedAt s) (a : Asked) (apart : Apart (out_windo
   connection_begins_at e =
       subst (λ (x : State). begun (slot_at x.table i).state ≡ true → Empty x i) (sym (entered-state r a apart o)) (connection_begins (reached r) (call_in a) (entry_fits a.entry o) i h e)
 
-plans : (t : Table) (j : ℕ) (x : Slot) (l : ℕ) (p : Plan) → answer_number (planned t j x l p).answer ≡ 0 → Answered (planned t j x l p)
+plans : (t : Table) (j : ℕ) (x : Slot) (l : ℕ) (p : Result Framed Refusal) → answer_number (planned t j x l p).answer ≡ 0 → Answered (planned t j x l p)
 unfolding planned
-plans t j x l (Plan.Refused r) e = if_cases (λ (o : Outcome). answer_number o.answer ≡ 0 → Answered o) (blocks r) (λ _ q. none q) (λ _ q. none q) e
+plans t j x l (Err r) e = if_cases (λ (o : Outcome). answer_number o.answer ≡ 0 → Answered o) (blocks r) (λ _ q. none q) (λ _ q. none q) e
   where
     none : {o : Outcome} → answer_number (Refused r) ≡ 0 → Answered o
     none q = absurd (eqb-false _ 0 (refused_not_0 r) q)
-plans t j x l (Plan.Frames n octets) e = record { link = x.link; count = n; is = refl; first = refl }
+plans t j x l (Ok framed) e = record { link = x.link; count = framed.n; is = refl; first = refl }
 
 pub send-answered : (s : State) (j : ℕ) (sdu : List ℕ) (w : Window) → answer_number (outcome s (sends j sdu w)).answer ≡ 0 → Answered (outcome s (sends j sdu w))
 unfolding decide bare jobs send

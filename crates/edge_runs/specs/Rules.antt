@@ -1,7 +1,6 @@
 -- The rules of every run, at the octets: what a run of entries from a making that returns 0 reaches is a state that a run of the definition reaches, spelled
 -- (`reached`); so the room rule, the fresh-slot rule, exact rejoining and the law of a take hold of its octets. `state_of` reads the table from its octets.
 use Rattle.std.specs.Prelude.{◌≡◌, List, [], ◌∷◌, ℕ, suc, ◌≤◌}
-use Rattle.sar_cut.specs.declared.Plan.TheVariants as Plan
 use Rattle.channel.specs.declared.Answer.TheVariants.{Frames}
 use Rattle.channel.specs.declared.Slot.{Slot}
 use Rattle.definition.specs.Table.{slot_at, cid_of}

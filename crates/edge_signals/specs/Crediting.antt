@@ -1,5 +1,5 @@
 -- The call handles a PDU that begins with a good credit signal as `edge_credits` does: what it then leaves stands in `edge_placed`.
-use Rattle.std.specs.Prelude.{◌≡◌, Bool, List, [], ◌∷◌, ℕ, length, get_or, None, Option, Some}
+use Rattle.std.specs.Prelude.{◌≡◌, Bool, List, [], ◌∷◌, ℕ, length, get_or, None, Option, Some, Result, Ok, Err}
 use Rattle.std.proofs.Math.Path.{refl}
 use Rattle.std.proofs.Common.{ap, arith, eqb-true, ne_eqb}
 use Rattle.std.proofs.Math.Bool.{true, false}
@@ -7,8 +7,8 @@ use Rattle.std.proofs.lemmas.Bool.{false≢true}
 use Rattle.std.proofs.Math.Dec.{eqb}
 use Rattle.lists.specs.Choose.{choose}
 use Rattle.signal_headers.specs.Headers.{headers_of, body_in}
-use Rattle.signal_headers.specs.declared.Checked.{Checked}
-use Rattle.signal_headers.specs.declared.Checked.TheVariants.{Good, Cut, Past}
+use Rattle.signal_headers.specs.declared.BadHeader.{BadHeader}
+use Rattle.signal_headers.specs.declared.BadHeader.TheVariants.{Cut, Past}
 use Rattle.signal_forms.specs.declared.LeCreditFlowInd.{LeCreditFlowInd}
 use Rattle.signal_bodies.specs.LeCreditBodies.{le_credit_flow_ind}
 use Rattle.channel.specs.declared.Table.{Table}
@@ -36,11 +36,11 @@ module _ (t : Table) (link : ℕ) (listening central : Bool) (pdu : List ℕ) (i
   unfolding handled on_credits choose
   handled-credits c b = rw (c, b)
 
-  checked-credits : (h : Checked) → get_or pdu 0 0 ≡ 0x16 → behind_headers pdu h ≡ Some ind → checked t link listening central pdu h ≡ on_credits t link 0 (Some ind)
+  checked-credits : (h : Result (Unit {0}) BadHeader) → get_or pdu 0 0 ≡ 0x16 → behind_headers pdu h ≡ Some ind → checked t link listening central pdu h ≡ on_credits t link 0 (Some ind)
   unfolding checked choose
-  checked-credits Good c b = rw (some_octets pdu c) (handled-credits c b)
-  checked-credits Cut c b = absurd (none_read ind b)
-  checked-credits (Past id) c b = absurd (none_read ind b)
+  checked-credits (Ok tt) c b = rw (some_octets pdu c) (handled-credits c b)
+  checked-credits (Err Cut) c b = absurd (none_read ind b)
+  checked-credits (Err (Past id)) c b = absurd (none_read ind b)
 
   credits-checked : credits_in pdu ≡ Some ind → checked t link listening central pdu (headers_of pdu) ≡ on_credits t link 0 (Some ind)
   unfolding credits_in choose

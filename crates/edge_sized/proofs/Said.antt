@@ -7,10 +7,10 @@ use Rattle.std.proofs.lemmas.Bool.{false≢true}
 use native.Mathlib.Omega.{arith}
 use Rattle.lists.specs.Choose.{choose, if_cases}
 use Rattle.lists.specs.Both.{and_left, and_right}
-use Rattle.sar_cut.specs.declared.Plan.{Plan}
+use Rattle.sar_cut.specs.declared.Framed.{Framed}
 use Rattle.sar_join.specs.declared.Joined.{Joined}
-use Rattle.signal_headers.specs.declared.Checked.{Checked}
-use Rattle.signal_headers.specs.declared.Checked.TheVariants.{Good, Cut, Past}
+use Rattle.signal_headers.specs.declared.BadHeader.{BadHeader}
+use Rattle.signal_headers.specs.declared.BadHeader.TheVariants.{Cut, Past}
 use Rattle.signal_forms.specs.declared.Signal.{Signal}
 use Rattle.channel.specs.declared.L2capChannelConfig.{L2capChannelConfig}
 use Rattle.channel.specs.declared.Slot.{Slot}
@@ -163,11 +163,11 @@ module _ (t : Table) where
   unfolding handled
   handled-worked link listening central code id body = either _ (reject-worked id _) (either _ (disconnection_req-worked link id _) (either _ (disconnection_res-worked link id _) (either _ (either _ (parameters-worked id _) (leaf refl refl refl)) (either _ (parameter_response_worked id _) (either _ (conn_req_worked link listening id _) (either _ (conn_res_worked link id _) (either _ (credits-worked link id _) (leaf refl refl refl))))))))
 
-  checked-worked : (link : ℕ) (listening central : Bool) (pdu : List ℕ) (h : Checked) → Worked (checked t link listening central pdu h)
+  checked-worked : (link : ℕ) (listening central : Bool) (pdu : List ℕ) (h : Result (Unit {0}) BadHeader) → Worked (checked t link listening central pdu h)
   unfolding checked
-  checked-worked link listening central pdu Cut = leaf refl refl refl
-  checked-worked link listening central pdu (Past id) = leaf refl refl refl
-  checked-worked link listening central pdu Good = either _ (leaf refl refl refl) (handled-worked link listening central _ _ _)
+  checked-worked link listening central pdu (Err Cut) = leaf refl refl refl
+  checked-worked link listening central pdu (Err (Past id)) = leaf refl refl refl
+  checked-worked link listening central pdu (Ok tt) = either _ (leaf refl refl refl) (handled-worked link listening central _ _ _)
 
   signals_worked : (room signal link : ℕ) (listening central : Bool) (pdu : List ℕ) → Worked (signalled t room signal link listening central pdu)
   unfolding signalled
@@ -175,7 +175,7 @@ module _ (t : Table) where
 
   -- ---- Frames.antt: a frame
 
-  joined-worked : (s count : ℕ) (x : Slot) (j : Joined) → Worked (joined t s x count j)
+  joined-worked : (s count : ℕ) (x : Slot) (j : Result Joined Refusal) → Worked (joined t s x count j)
   unfolding joined
   joined-worked s count x (Joined.Refused r) = leaf refl refl refl
   joined-worked s count x (Joined.Assembling g) = leaf refl refl refl
@@ -218,10 +218,10 @@ module _ (t : Table) where
 
   -- ---- Portions.antt: a start, a cancel
 
-  start_planned-worked : (s l size : ℕ) (x : Slot) (p : Plan) → Worked (start_planned t s x l size p)
+  start_planned-worked : (s l size : ℕ) (x : Slot) (p : Result Framed Refusal) → Worked (start_planned t s x l size p)
   unfolding start_planned
-  start_planned-worked s l size x (Plan.Refused r) = either _ (leaf refl refl refl) (leaf refl refl refl)
-  start_planned-worked s l size x (Plan.Frames n octets) = either _ (leaf refl refl refl) (record { out = refl; at = refl; tells = omega arith })
+  start_planned-worked s l size x (Err r) = either _ (leaf refl refl refl) (leaf refl refl refl)
+  start_planned-worked s l size x (Ok framed) = either _ (leaf refl refl refl) (record { out = refl; at = refl; tells = omega arith })
 
   starts_worked : (s l out : ℕ) → Worked (start_job t s l out)
   unfolding start_job

@@ -1,6 +1,6 @@
 -- Every call keeps a table one that its octets give back, and leaves the slots past N alone: one lemma a call, `keeps` for all of them. A made table
 -- is such a table, so every table of a run is (`made-sized`, `run-sized`).
-use Rattle.std.specs.Prelude.{◌≡◌, Bool, true, false, not, List, [], ◌∷◌, eqb, leb, length, get_or, drop, replicate, None, Option, Some}
+use Rattle.std.specs.Prelude.{◌≡◌, Bool, true, false, not, List, [], ◌∷◌, eqb, leb, length, get_or, drop, replicate, None, Option, Some, Result, Ok, Err}
 use Rattle.std.proofs.Math.Path.{refl}
 use Rattle.std.proofs.Common.{◌∙◌, subst, arith, leb-true}
 use Prim.Native.Nat.{ℕ, zero, suc}
@@ -10,9 +10,9 @@ use Rattle.lists.specs.Both.{and_left, and_right}
 use Rattle.channel.specs.Limits.{slots_most, depth_most, packet_least, packet_most}
 use Rattle.credit.specs.Account.{granted}
 use Rattle.sar_join.specs.declared.Joined.{Joined}
-use Rattle.sar_cut.specs.declared.Plan.{Plan}
-use Rattle.signal_headers.specs.declared.Checked.{Checked}
-use Rattle.signal_headers.specs.declared.Checked.TheVariants.{Good, Cut, Past}
+use Rattle.sar_cut.specs.declared.Framed.{Framed}
+use Rattle.signal_headers.specs.declared.BadHeader.{BadHeader}
+use Rattle.signal_headers.specs.declared.BadHeader.TheVariants.{Cut, Past}
 use Rattle.signal_forms.specs.declared.Signal.{Signal}
 use Rattle.channel.specs.declared.Answer.TheVariants.{Done}
 use Rattle.channel.specs.declared.L2capChannelConfig.{L2capChannelConfig}
@@ -43,6 +43,7 @@ use Rattle.signal_forms.specs.declared.DisconnectionRes.{DisconnectionRes}
 use Rattle.signal_forms.specs.declared.LeCreditConnReq.{LeCreditConnReq}
 use Rattle.signal_forms.specs.declared.LeCreditConnRes.{LeCreditConnRes}
 use Rattle.signal_forms.specs.declared.LeCreditFlowInd.{LeCreditFlowInd}
+use Rattle.codes.specs.declared.Refusal.{Refusal}
 
 module _ (t : Table) (w : Sized t) where
   old : (s : ℕ) → Long (slot_at t s)
@@ -205,11 +206,11 @@ module _ (t : Table) (w : Sized t) where
       if_keeps w (λ _. parameter_response_keeps id _) λ _. if_keeps w (λ _. conn_req_keeps link listening id _) λ _.
       if_keeps w (λ _. conn_res_keeps link id _) λ _. if_keeps w (λ _. credits-keeps link id _) λ _. still-keeps w itself
 
-  checked-keeps : (link : ℕ) (listening central : Bool) (pdu : List ℕ) (h : Checked) → Kept t (checked t link listening central pdu h)
+  checked-keeps : (link : ℕ) (listening central : Bool) (pdu : List ℕ) (h : Result (Unit {0}) BadHeader) → Kept t (checked t link listening central pdu h)
   unfolding checked
-  checked-keeps link listening central pdu Cut = still-keeps w itself
-  checked-keeps link listening central pdu (Past id) = still-keeps w itself
-  checked-keeps link listening central pdu Good = else_keeps w _ _ _ itself λ _. handled-keeps link listening central _ _ _
+  checked-keeps link listening central pdu (Err Cut) = still-keeps w itself
+  checked-keeps link listening central pdu (Err (Past id)) = still-keeps w itself
+  checked-keeps link listening central pdu (Ok tt) = else_keeps w _ _ _ itself λ _. handled-keeps link listening central _ _ _
 
   signals_keeps : (room signal link : ℕ) (listening central : Bool) (pdu : List ℕ) → Kept t (signalled t room signal link listening central pdu)
   unfolding signalled
@@ -218,7 +219,7 @@ module _ (t : Table) (w : Sized t) where
   -- ---- Frames.antt
 
   -- x is slot s with its credit used
-  joined_keeps : (s count : ℕ) (x : Slot) → leb t.n s ≡ false → Long x → (j : Joined) → Kept t (joined t s x count j)
+  joined_keeps : (s count : ℕ) (x : Slot) → leb t.n s ≡ false → Long x → (j : Result Joined Refusal) → Kept t (joined t s x count j)
   unfolding joined
   joined_keeps s count x a h (Joined.Refused r) = change-keeps w _ _ s itself a h
   joined_keeps s count x a h (Joined.Assembling g) = change-keeps w _ _ s itself a h
@@ -232,10 +233,10 @@ module _ (t : Table) (w : Sized t) where
       (else_keeps w _ _ _ itself λ a. else_keeps w _ _ _ itself λ _. else_keeps w _ _ _ itself λ _. if_keeps w (λ _. change-keeps w _ _ _ itself (cid_slot t cid (not-false _ a)) (old (slot_of cid))) λ _.
       joined_keeps (slot_of cid) count _ (cid_slot t cid (not-false _ a)) (old (slot_of cid)) _)
 
-  planned-keeps : (s count : ℕ) → leb t.n s ≡ false → (p : Plan) → Kept t (planned t s (slot_at t s) count p)
+  planned-keeps : (s count : ℕ) → leb t.n s ≡ false → (p : Result Framed Refusal) → Kept t (planned t s (slot_at t s) count p)
   unfolding planned
-  planned-keeps s count a (Plan.Refused r) = if_keeps w (λ _. change-keeps w _ _ s itself a (old s)) (λ _. still-keeps w itself)
-  planned-keeps s count a (Plan.Frames n octets) = change-keeps w _ _ s itself a (old s)
+  planned-keeps s count a (Err r) = if_keeps w (λ _. change-keeps w _ _ s itself a (old s)) (λ _. still-keeps w itself)
+  planned-keeps s count a (Ok framed) = change-keeps w _ _ s itself a (old s)
 
   sends_keeps : (s count out : ℕ) → Kept t (send t s count out)
   unfolding send
@@ -259,10 +260,10 @@ module _ (t : Table) (w : Sized t) where
 
   -- ---- Portions.antt
 
-  start_planned-keeps : (s l size : ℕ) → leb t.n s ≡ false → (p : Plan) → Kept t (start_planned t s (slot_at t s) l size p)
+  start_planned-keeps : (s l size : ℕ) → leb t.n s ≡ false → (p : Result Framed Refusal) → Kept t (start_planned t s (slot_at t s) l size p)
   unfolding start_planned
-  start_planned-keeps s l size a (Plan.Refused r) = if_keeps w (λ _. change-keeps w _ _ s itself a (old s)) (λ _. still-keeps w itself)
-  start_planned-keeps s l size a (Plan.Frames n octets) = else_keeps w _ _ _ itself λ _. filling-keeps w _ s a (old s)
+  start_planned-keeps s l size a (Err r) = if_keeps w (λ _. change-keeps w _ _ s itself a (old s)) (λ _. still-keeps w itself)
+  start_planned-keeps s l size a (Ok framed) = else_keeps w _ _ _ itself λ _. filling-keeps w _ s a (old s)
 
   starts_keeps : (s l out : ℕ) → Kept t (start_job t s l out)
   unfolding start_job

@@ -1,5 +1,5 @@
 -- Every call makes only steps of the few kinds (Step.antt): one lemma a call, its tests in the definition's order.
-use Rattle.std.specs.Prelude.{◌≡◌, Bool, true, false, ◌&&◌, not, ℕ, ◌+◌, ◌-◌, ◌≤◌, ◌<◌, min, eqb, ltb, length, get_or, take, drop, None, Option, Some}
+use Rattle.std.specs.Prelude.{◌≡◌, Bool, true, false, ◌&&◌, not, ℕ, ◌+◌, ◌-◌, ◌≤◌, ◌<◌, min, eqb, ltb, length, get_or, take, drop, None, Option, Some, Result, Ok, Err}
 use Rattle.std.proofs.Math.Path.{refl}
 use Rattle.std.proofs.Common.{sym, ap, ◌∙◌, arith, length-take, length-drop, get_or-take, get_or-drop}
 use Rattle.std.proofs.lemmas.Bool.{false≢true}
@@ -12,8 +12,8 @@ use Rattle.octets.specs.Octets.{u16_at}
 use Rattle.codes.specs.Codes.{result_of}
 use Rattle.credit.specs.Account.{grant_of}
 use Rattle.signal_headers.specs.Headers.{body_in}
-use Rattle.signal_headers.specs.declared.Checked.{Checked}
-use Rattle.signal_headers.specs.declared.Checked.TheVariants.{Good, Cut, Past}
+use Rattle.signal_headers.specs.declared.BadHeader.{BadHeader}
+use Rattle.signal_headers.specs.declared.BadHeader.TheVariants.{Cut, Past}
 use Rattle.signal_bodies.specs.LeCreditBodies.{le_credit_conn_req, res_if, le_credit_conn_res}
 use Rattle.signal_forms.specs.declared.Signal.{Signal}
 use Rattle.signal_forms.specs.declared.Signal.TheVariants as Signal
@@ -369,11 +369,11 @@ module _ (t : Table) (k room : ℕ) (l : t.n ≤ length t.slots) (well : well_fo
       (λ _. if_cases P _ (λ _. on_conn_res_lem link id _ (response-gives body octets))
       (λ _. if_cases P _ (λ _. on_credits_lem link id _) (λ _. stays refl))))))))
 
-  checked-steps : (link : ℕ) (listening central : Bool) (pdu : List ℕ) → Octets pdu → (c : Checked) → Stepped t k (checked t link listening central pdu c)
+  checked-steps : (link : ℕ) (listening central : Bool) (pdu : List ℕ) → Octets pdu → (c : Result (Unit {0}) BadHeader) → Stepped t k (checked t link listening central pdu c)
   unfolding checked
-  checked-steps link listening central pdu octets Cut = stays refl
-  checked-steps link listening central pdu octets (Past id) = stays refl
-  checked-steps link listening central pdu octets Good = if_cases P _ (λ _. stays refl) (λ _. handled-steps link listening central _ _ _ (body_octets pdu octets))
+  checked-steps link listening central pdu octets (Err Cut) = stays refl
+  checked-steps link listening central pdu octets (Err (Past id)) = stays refl
+  checked-steps link listening central pdu octets (Ok tt) = if_cases P _ (λ _. stays refl) (λ _. handled-steps link listening central _ _ _ (body_octets pdu octets))
 
   signalled-steps : (signal link : ℕ) (listening central : Bool) (pdu : List ℕ) → Octets pdu → Stepped t k (signalled t room signal link listening central pdu)
   unfolding signalled

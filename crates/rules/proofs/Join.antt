@@ -1,6 +1,6 @@
 -- All that the rules need to know of crates sar_join and sar_cut: what the join step and the plan of a send may come to. The only file that names the
 -- variants of their answers; it rests on `join_step` and `plan_send` alone.
-use Rattle.std.specs.Prelude.{◌≡◌, true, false, ℕ, ◌+◌, ◌-◌, ◌≤◌, ◌<◌, length}
+use Rattle.std.specs.Prelude.{◌≡◌, true, false, ℕ, ◌+◌, ◌-◌, ◌≤◌, ◌<◌, length, Result, Ok, Err}
 use Rattle.std.proofs.Math.Path.{refl, ap}
 use Rattle.std.proofs.Common.{sym, ◌∙◌, arith}
 use mathlib.Core.List.{List, [], ◌∷◌}
@@ -13,8 +13,7 @@ use Rattle.sar_join.specs.declared.Assembly.{Assembly}
 use Rattle.sar_join.specs.declared.Joined.{Joined}
 use Rattle.sar_join.specs.declared.Joined.TheVariants as Joined
 use Rattle.sar_join.specs.Joining.{idle, assembled, reached, first_step, join_step}
-use Rattle.sar_cut.specs.declared.Plan.{Plan}
-use Rattle.sar_cut.specs.declared.Plan.TheVariants as Plan
+use Rattle.sar_cut.specs.declared.Framed.{Framed}
 use Rattle.sar_cut.specs.Cutting.{frames_length, plan_send}
 use Rattle.sar_cut.proofs.CutLaws.{plan_allowed}
 use Rattle.channel.specs.declared.Answer.TheVariants.{Done, Refused, Frames}
@@ -78,39 +77,39 @@ module _ (t : Table) (k s : ℕ) (h : s < t.n) (l : t.n ≤ length t.slots) (on 
   was_live : is_disconnected (slot_at t s).state ≡ false
   was_live = begun-live (slot_at t s).state has-begun
 
-  pub stepped_joined : ((slot_at t s).account.credits ≡ 0 → ⊥) → (j : Joined) → Joins (slot_at t s).mtu t.d (slot_at t s).assembly (slot_at t s).queue.count k j
+  pub stepped_joined : ((slot_at t s).account.credits ≡ 0 → ⊥) → (j : Result Joined Refusal) → Joins (slot_at t s).mtu t.d (slot_at t s).assembly (slot_at t s).queue.count k j
       → Stepped t k (joined t s (count_received (with_account (received (slot_at t s).account 1) (slot_at t s))) k j)
   unfolding joined
-  stepped_joined some (Joined.Refused r) f = stepped_change t k s _ _ h l (go (goes_on was_live refl refl ended (reset _)) (use_one some) leave shut) _ _ f
-  stepped_joined some (Joined.Assembling a) f =
+  stepped_joined some (Err r) f = stepped_change t k s _ _ h l (go (goes_on was_live refl refl ended (reset _)) (use_one some) leave shut) _ _ f
+  stepped_joined some (Ok (Joined.Assembling a)) f =
       rw f.3 (stepped_change t k s _ _ h l (go (goes_on was_live has-begun refl (λ f. f) (arrived on)) (use_one some) (grow has-begun f.0 f.1 f.2) stay) _ _ refl)
-  stepped_joined some (Joined.Finished len) f =
+  stepped_joined some (Ok (Joined.Finished len)) f =
       stepped_change t k s _ _ h l (go (goes_on was_live has-begun refl (λ f. f) (arrived on)) (use_one some) (finish has-begun f.0 f.1 f.2) stay) _ _ refl
-  stepped_joined some Joined.Dropped f = stepped_change t k s _ _ h l (go (goes_on was_live has-begun refl (λ f. f) (arrived on)) (use_one some) leave stay) _ _ refl
+  stepped_joined some (Ok Joined.Dropped) f = stepped_change t k s _ _ h l (go (goes_on was_live has-begun refl (λ f. f) (arrived on)) (use_one some) leave stay) _ _ refl
 
   -- what a plan refuses: 14 is counted
   stepped_unsent : (r : Refusal) → passes (Refused r) ≡ true → Stepped t k (unsent t s (slot_at t s) r)
   stepped_unsent r f =
       if_cases (Stepped t k) (blocks r) (λ _. stepped_change t k s _ _ h l (go (goes_on was_live has-begun refl (λ f. f) (blocked_send on)) same keep stay) _ _ f) (λ _. stepped_still t k _ _ f)
 
-  pub stepped_planned : (size : ℕ) (p : Plan) → Plans p → Stepped t k (planned t s (slot_at t s) size p)
+  pub stepped_planned : (size : ℕ) (p : Result Framed Refusal) → Plans p → Stepped t k (planned t s (slot_at t s) size p)
   unfolding planned
-  stepped_planned size (Plan.Refused r) f = stepped_unsent r f
-  stepped_planned size (Plan.Frames n octets) f = stepped_change t k s _ _ h l (go (goes_on was_live has-begun refl (λ f. f) (sent n on)) same keep (pay n)) _ _ refl
+  stepped_planned size (Err r) f = stepped_unsent r f
+  stepped_planned size (Ok framed) f = stepped_change t k s _ _ h l (go (goes_on was_live has-begun refl (λ f. f) (sent framed.n on)) same keep (pay framed.n)) _ _ refl
 
   -- a start sets aside what the plan counts
-  pub stepped_started : (size room : ℕ) (p : Plan) → Plans p
+  pub stepped_started : (size room : ℕ) (p : Result Framed Refusal) → Plans p
       → plan_send size (slot_at t s).peer.mtu (slot_at t s).peer.mps (slot_at t s).peer.credits (frames_length size (slot_at t s).peer.mps) ≡ p
       → Stepped t k (start_planned t s (slot_at t s) size room p)
   unfolding start_planned
-  stepped_started size room (Plan.Refused r) f e = stepped_unsent r f
-  stepped_started size room (Plan.Frames n octets) f e =
-      let a = plan_allowed size (slot_at t s).peer.mtu (slot_at t s).peer.mps (slot_at t s).peer.credits (frames_length size (slot_at t s).peer.mps) n octets e in
+  stepped_started size room (Err r) f e = stepped_unsent r f
+  stepped_started size room (Ok framed) f e =
+      let a = plan_allowed size (slot_at t s).peer.mtu (slot_at t s).peer.mps (slot_at t s).peer.credits (frames_length size (slot_at t s).peer.mps) framed.n framed.octets e in
       let q = a.frames in
       let w = a.wide in
       let p = a.paid in
       if_cases (Stepped t k) _ (λ _. stepped_still t k _ _ refl)
-      (λ _. stepped_filling t k s _ [] h l (go (goes_on was_live has-begun refl (λ f. f) (sent n on)) same keep (begin size n on (omega arith) q (omega arith))) _ _ _ _ refl refl)
+      (λ _. stepped_filling t k s _ [] h l (go (goes_on was_live has-begun refl (λ f. f) (sent framed.n on)) same keep (begin size framed.n on (omega arith) q (omega arith))) _ _ _ _ refl refl)
 
 pub reaches_first : (mtu mps d : ℕ) (a : Assembly) (q k stated : ℕ) → 2 + k ≤ mps → a.want ≡ 0 → stated ≤ mtu → Reaches d q (join_step mtu mps d a q (2 + k) stated) k stated
 unfolding join_step first_step
@@ -123,7 +122,7 @@ unfolding join_step
 reaches_next mtu mps d a q k stated w some = choose_false _ _ _ (le-ltb mps k w) ∙ choose_false _ _ _ (ne_eqb a.want 0 some)
 
 -- An assembly grows; or the job is whole, and a place is free for it.
-module _ (t : Table) (s : ℕ) (x : Slot) (k d q have want : ℕ) (j : Joined) (r : Reaches d q j have want) where
+module _ (t : Table) (s : ℕ) (x : Slot) (k d q have want : ℕ) (j : Result Joined Refusal) (r : Reaches d q j have want) where
   pub joined-part : (x.assembly.want ≡ 0 → x.assembly.have ≡ 0) → have < want
       → joined t s x k j ≡ change t s (with_assembly (record { have = have; want = want }) x) (put x.assembly.have (job 0 k) ∷ []) Done []
   unfolding joined reached
@@ -146,9 +145,9 @@ pub planned-frames : (t : Table) (s : ℕ) (x : Slot) (l out link n : ℕ) → (
 unfolding planned
 planned-frames t s x l out link n = by (plan_send l x.peer.mtu x.peer.mps x.peer.credits out) refl
   where
-    by : (p : Plan) → plan_send l x.peer.mtu x.peer.mps x.peer.credits out ≡ p → (planned t s x l p).answer ≡ Frames link n → Sent t s x l out n (planned t s x l p)
-    by (Plan.Refused r) e f = let g = unsent-answers t s x r in let z : ◌≡◌ {A = ℕ} 0 1 = cc in absurd (omega arith)
-    by (Plan.Frames k octets) e f =
-        let a = plan_allowed l x.peer.mtu x.peer.mps x.peer.credits out k octets e in
-        let q : k ≡ n = cc in
+    by : (p : Result Framed Refusal) → plan_send l x.peer.mtu x.peer.mps x.peer.credits out ≡ p → (planned t s x l p).answer ≡ Frames link n → Sent t s x l out n (planned t s x l p)
+    by (Err r) e f = let g = unsent-answers t s x r in let z : ◌≡◌ {A = ℕ} 0 1 = cc in absurd (omega arith)
+    by (Ok framed) e f =
+        let a = plan_allowed l x.peer.mtu x.peer.mps x.peer.credits out framed.n framed.octets e in
+        let q : framed.n ≡ n = cc in
         record { wide = a.wide; holds = a.holds; count = sym q ∙ a.frames; out = ap (λ (m : ℕ). frames x.peer.cid x.peer.mps l m) q }

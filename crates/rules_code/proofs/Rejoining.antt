@@ -1,14 +1,13 @@
 -- Exact rejoining of runs of the code, from the frames that a send leaves in the caller's memory to the SDU that a take leaves there, whole. Rests on
 -- exact rejoining over the definition's runs (crate rules_jobs) and on the law for one call (Called.antt).
-use Rattle.std.specs.Prelude.{◌≡◌, refl, true, List, [], ℕ, suc, ◌-◌, ◌≤◌, ◌<◌, length, take}
+use Rattle.std.specs.Prelude.{◌≡◌, refl, true, List, [], ℕ, suc, ◌-◌, ◌≤◌, ◌<◌, length, take, Result, Ok, Err}
 use Rattle.std.proofs.Common.{sym, ap, ◌∙◌, subst, arith}
 use Rattle.std.proofs.lemmas.List.Edits.{sets}
 use Rattle.lists.specs.Choose.{if_cases}
 use Rattle.lists.specs.Sets.{part_length, part_same}
 use Rattle.codes.specs.declared.Refusal.TheVariants.{InsufficientSpace}
 use Rattle.sar_cut.specs.Cutting.{payloads, AllWithin, frames_of}
-use Rattle.sar_cut.specs.declared.Plan.{Plan}
-use Rattle.sar_cut.specs.declared.Plan.TheVariants as Plan
+use Rattle.sar_cut.specs.declared.Framed.{Framed}
 use Rattle.channel.specs.Limits.{handle_most, signal_most}
 use Rattle.channel.specs.declared.Answer.{Answer}
 use Rattle.channel.specs.declared.Answer.TheVariants.{Refused, Frames, Job}
@@ -38,6 +37,7 @@ use Rattle.rules_code.proofs.Called.{called-after, called_served, called-out, ca
 use Rattle.rules_code.specs.Rules.{CodeReached}
 use Rattle.rules_code.proofs.Rules.{code-reached}
 use Rattle.rules_code.specs.Rejoining.{CodeArrives, CodeHandsOut, all, between, comes, handed}
+use Rattle.codes.specs.declared.Refusal.{Refusal}
 
 -- a buffer in memory has the size of its window
 window-size : (w : Window) (s : State) → Within w s.memory → sized w s ≡ w.size
@@ -52,10 +52,10 @@ answered : {s s' : State} {c : Call} {r : Served} {a : Answer} → Called s c r 
 answered p e = ap (λ (x : Served). x.answer) (sym (called_served p)) ∙ e
 
 -- a send writes from its output's start on
-planned-at : (t : Table) (j : ℕ) (x : Slot) (l : ℕ) (q : Plan) → (planned t j x l q).at ≡ 0
+planned-at : (t : Table) (j : ℕ) (x : Slot) (l : ℕ) (q : Result Framed Refusal) → (planned t j x l q).at ≡ 0
 unfolding planned
-planned-at t j x l (Plan.Refused r) = if_cases (λ (o : Outcome). o.at ≡ 0) (blocks r) (λ _. refl) (λ _. refl)
-planned-at t j x l (Plan.Frames n octets) = refl
+planned-at t j x l (Err r) = if_cases (λ (o : Outcome). o.at ≡ 0) (blocks r) (λ _. refl) (λ _. refl)
+planned-at t j x l (Ok framed) = refl
 
 sends_at : (s : State) (j : ℕ) (sdu : List ℕ) (w : Window) → (outcome s (sends j sdu w)).at ≡ 0
 unfolding decide bare jobs send

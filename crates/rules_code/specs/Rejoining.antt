@@ -1,7 +1,6 @@
 -- Exact rejoining of runs of the code, from the frames that a send leaves in the caller's memory to the SDU that a take leaves there, whole. Rests on
 -- exact rejoining over the definition's runs (crate rules_jobs) and on the law for one call (Called.antt).
 use Rattle.std.specs.Prelude.{◌≡◌, List, [], ◌∷◌, ℕ, suc, ◌≤◌}
-use Rattle.sar_cut.specs.declared.Plan.TheVariants as Plan
 use Rattle.channel.specs.declared.Served.{Served}
 use Rattle.definition.specs.Table.{slot_at}
 use Rattle.definition.specs.Calls.{Window, Call}

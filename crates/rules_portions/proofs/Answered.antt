@@ -9,8 +9,7 @@ use Rattle.lists.specs.Choose.{choose_false, if_cases}
 use Rattle.codes.specs.declared.Refusal.{Refusal}
 use Rattle.codes.specs.declared.Refusal.TheVariants.{NoRoom, ChannelClosed, JobOpen}
 use Rattle.octets.specs.Sets.{part_same, take_least}
-use Rattle.sar_cut.specs.declared.Plan.{Plan}
-use Rattle.sar_cut.specs.declared.Plan.TheVariants as Plan
+use Rattle.sar_cut.specs.declared.Framed.{Framed}
 use Rattle.sar_cut.specs.Cutting.{frames_length, plan_send}
 use Rattle.sar_cut.specs.CutLaws.{Allowed}
 use Rattle.sar_cut.proofs.CutLaws.{split}
@@ -127,13 +126,13 @@ start_starts t i l size link n =
     x : Slot
     x = slot_at t i
 
-    plan : Admits t i → is_open x.job ≡ false → (p : Plan) → plan_send l x.peer.mtu x.peer.mps x.peer.credits (frames_length l x.peer.mps) ≡ p → P (start_planned t i x l size p)
-    plan a shut (Plan.Refused r) e = λ f. not-sent t i x r link n f
-    plan a shut (Plan.Frames m octets) e =
+    plan : Admits t i → is_open x.job ≡ false → (p : Result Framed Refusal) → plan_send l x.peer.mtu x.peer.mps x.peer.credits (frames_length l x.peer.mps) ≡ p → P (start_planned t i x l size p)
+    plan a shut (Err r) e = λ f. not-sent t i x r link n f
+    plan a shut (Ok framed) e =
         if_cases P _ (λ _. never)
         (λ big f.
-        let q = plan_allowed l x.peer.mtu x.peer.mps x.peer.credits (frames_length l x.peer.mps) m octets e in
-        let same : m ≡ n = cc in
+        let q = plan_allowed l x.peer.mtu x.peer.mps x.peer.credits (frames_length l x.peer.mps) framed.n framed.octets e in
+        let same : framed.n ≡ n = cc in
         record {
           admits = a;
           shut = shut;
@@ -172,11 +171,11 @@ send_sends t i l size link n =
     x : Slot
     x = slot_at t i
 
-    plan : Admits t i → is_open x.job ≡ false → (p : Plan) → plan_send l x.peer.mtu x.peer.mps x.peer.credits size ≡ p → P (planned t i x l p)
-    plan a shut (Plan.Refused r) e f = not-sent t i x r link n f
-    plan a shut (Plan.Frames m octets) e f =
-        let q = plan_allowed l x.peer.mtu x.peer.mps x.peer.credits size m octets e in
-        let same : m ≡ n = cc in
+    plan : Admits t i → is_open x.job ≡ false → (p : Result Framed Refusal) → plan_send l x.peer.mtu x.peer.mps x.peer.credits size ≡ p → P (planned t i x l p)
+    plan a shut (Err r) e f = not-sent t i x r link n f
+    plan a shut (Ok framed) e f =
+        let q = plan_allowed l x.peer.mtu x.peer.mps x.peer.credits size framed.n framed.octets e in
+        let same : framed.n ≡ n = cc in
         record {
           admits = a;
           shut = shut;

@@ -2,7 +2,6 @@
 use Rattle.std.specs.Prelude.{◌≡◌, Bool, true, false, List, [], ◌∷◌, ℕ, ◌-◌, ◌≤◌, eqb}
 use Rattle.std.proofs.lemmas.List.Edits.{sets}
 use Rattle.lists.specs.Choose.{choose}
-use Rattle.sar_cut.specs.declared.Plan.TheVariants as Plan
 use Rattle.sar_cut.specs.Cutting.{frames_length}
 use Rattle.sar_cut.specs.CutLaws.{Allowed}
 use Rattle.channel.specs.declared.Answer.TheVariants.{Done, Frames}

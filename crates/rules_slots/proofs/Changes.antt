@@ -1,5 +1,5 @@
 -- Which slots a call changes, proved: one lemma a call, from the forms in Kept.antt; a search finds the slot that the law names (States.antt).
-use Rattle.std.specs.Prelude.{◌≡◌, refl, Bool, false, ℕ, ◌+◌, ◌-◌, ◌<◌, leb, get_or, None, Option, Some}
+use Rattle.std.specs.Prelude.{◌≡◌, refl, Bool, false, ℕ, ◌+◌, ◌-◌, ◌<◌, leb, get_or, None, Option, Some, Result, Ok, Err}
 use Rattle.std.proofs.Common.{sym, arith}
 use Rattle.std.proofs.Math.Path.{subst}
 use Rattle.std.proofs.Math.Bool.{true}
@@ -9,11 +9,10 @@ use Rattle.lists.specs.Both.{and_left}
 use Rattle.credit.specs.Account.{granted}
 use Rattle.sar_join.specs.declared.Joined.{Joined}
 use Rattle.sar_join.specs.declared.Joined.TheVariants as Joined
-use Rattle.sar_cut.specs.declared.Plan.{Plan}
-use Rattle.sar_cut.specs.declared.Plan.TheVariants as Plan
+use Rattle.sar_cut.specs.declared.Framed.{Framed}
 use Rattle.signal_headers.specs.Headers.{body_in}
-use Rattle.signal_headers.specs.declared.Checked.{Checked}
-use Rattle.signal_headers.specs.declared.Checked.TheVariants.{Good, Cut, Past}
+use Rattle.signal_headers.specs.declared.BadHeader.{BadHeader}
+use Rattle.signal_headers.specs.declared.BadHeader.TheVariants.{Cut, Past}
 use Rattle.signal_bodies.specs.Bodies.{disconnection_req, disconnection_res}
 use Rattle.signal_bodies.specs.LeCreditBodies.{le_credit_flow_ind}
 use Rattle.signal_forms.specs.declared.Signal.{Signal}
@@ -49,6 +48,7 @@ use Rattle.signal_forms.specs.declared.DisconnectionRes.{DisconnectionRes}
 use Rattle.signal_forms.specs.declared.LeCreditConnReq.{LeCreditConnReq}
 use Rattle.signal_forms.specs.declared.LeCreditConnRes.{LeCreditConnRes}
 use Rattle.signal_forms.specs.declared.LeCreditFlowInd.{LeCreditFlowInd}
+use Rattle.codes.specs.declared.Refusal.{Refusal}
 
 cid_names : (t : Table) (cid : ℕ) → is_cid t cid ≡ true → cid ≡ cid_base + slot_of cid
 cid_names t cid e = omega (arith, leb-true cid_base cid (and_left (leb cid_base cid) _ e))
@@ -97,19 +97,19 @@ module _ (t : Table) (fit : Fit t) (Reg : Type 0) where
     unfolding disconnect disconnecting
     leaves-alone room = gate-at (Some room) None None s λ h. if_keeps (λ _. change-keeps s _ _ as_is (h, refl)) λ _. still-keeps as_is
 
-    planned-alone : (sdu : List ℕ) (w : Window) (x : Slot) (l : ℕ) → s < t.n → (p : Plan) → Alone (MayChange t (sends s sdu w)) (planned t s x l p)
+    planned-alone : (sdu : List ℕ) (w : Window) (x : Slot) (l : ℕ) → s < t.n → (p : Result Framed Refusal) → Alone (MayChange t (sends s sdu w)) (planned t s x l p)
     unfolding planned
-    planned-alone sdu w x l h (Plan.Refused r) = if_keeps (λ _. change-keeps s _ _ as_is (h, refl)) λ _. still-keeps as_is
-    planned-alone sdu w x l h (Plan.Frames n octets) = change-keeps s _ _ as_is (h, refl)
+    planned-alone sdu w x l h (Err r) = if_keeps (λ _. change-keeps s _ _ as_is (h, refl)) λ _. still-keeps as_is
+    planned-alone sdu w x l h (Ok framed) = change-keeps s _ _ as_is (h, refl)
 
     sends_alone : (sdu : List ℕ) (w : Window) (l out : ℕ) → Alone (MayChange t (sends s sdu w)) (send t s l out)
     unfolding send
     sends_alone sdu w l out = gate-at None None None s λ h. else_keeps _ _ _ as_is λ _. else_keeps _ _ _ as_is λ _. planned-alone sdu w _ l h _
 
-    started-alone : (x : Slot) (l size : ℕ) → s < t.n → (p : Plan) → Alone (Asking t (starts s l)) (start_planned t s x l size p)
+    started-alone : (x : Slot) (l size : ℕ) → s < t.n → (p : Result Framed Refusal) → Alone (Asking t (starts s l)) (start_planned t s x l size p)
     unfolding start_planned
-    started-alone x l size h (Plan.Refused r) = if_keeps (λ _. change-keeps s _ _ as_is (h, refl)) λ _. still-keeps as_is
-    started-alone x l size h (Plan.Frames n octets) = else_keeps _ _ _ as_is λ _. filling-keeps s _ (h, refl)
+    started-alone x l size h (Err r) = if_keeps (λ _. change-keeps s _ _ as_is (h, refl)) λ _. still-keeps as_is
+    started-alone x l size h (Ok framed) = else_keeps _ _ _ as_is λ _. filling-keeps s _ (h, refl)
 
     starts_alone : (l size : ℕ) → Alone (Asking t (starts s l)) (start_job t s l size)
     unfolding start_job
@@ -159,12 +159,12 @@ module _ (t : Table) (fit : Fit t) (Reg : Type 0) where
       gate-keeps (Some room) None None None
       (if_keeps (λ e. if_keeps (λ _. change-keeps (slot_of cid) _ _ as_is (cid_within t cid e, cid_names t cid e)) λ _. still-keeps as_is) λ _. still-keeps as_is)
 
-  joined-alone : (P : ℕ → Type 0) (s : ℕ) (x : Slot) (count : ℕ) → (s < t.n) × P s → (j : Joined) → Alone P (joined t s x count j)
+  joined-alone : (P : ℕ → Type 0) (s : ℕ) (x : Slot) (count : ℕ) → (s < t.n) × P s → (j : Result Joined Refusal) → Alone P (joined t s x count j)
   unfolding joined
-  joined-alone P s x count q (Joined.Refused r) = change-keeps s _ _ as_is q
-  joined-alone P s x count q (Joined.Assembling a) = change-keeps s _ _ as_is q
-  joined-alone P s x count q (Joined.Finished len) = change-keeps s _ _ as_is q
-  joined-alone P s x count q Joined.Dropped = change-keeps s _ _ as_is q
+  joined-alone P s x count q (Err r) = change-keeps s _ _ as_is q
+  joined-alone P s x count q (Ok (Joined.Assembling a)) = change-keeps s _ _ as_is q
+  joined-alone P s x count q (Ok (Joined.Finished len)) = change-keeps s _ _ as_is q
+  joined-alone P s x count q (Ok Joined.Dropped) = change-keeps s _ _ as_is q
 
   frame-alone : (room l cid : ℕ) (payload head : List ℕ) (count : ℕ) → Alone (MayChange t (frame l cid payload)) (dispatch t room l cid head count)
   unfolding dispatch
@@ -293,11 +293,11 @@ module _ (t : Table) (fit : Fit t) (Reg : Type 0) where
         if_keeps (λ c. conn_req_alone (eqb-true code _ c) listening _) λ _. if_keeps (λ c. conn_res_alone (eqb-true code _ c) _) λ _.
         if_keeps (λ c. credits-alone (eqb-true code _ c) _ refl) λ _. still-keeps as_is
 
-    checked-alone : (listening central : Bool) (h : Checked) → Signalled (checked t l listening central pdu h)
+    checked-alone : (listening central : Bool) (h : Result (Unit {0}) BadHeader) → Signalled (checked t l listening central pdu h)
     unfolding checked
-    checked-alone listening central Cut = still-keeps as_is
-    checked-alone listening central (Past at) = still-keeps as_is
-    checked-alone listening central Good = else_keeps _ _ _ as_is λ _. handled-alone listening central
+    checked-alone listening central (Err Cut) = still-keeps as_is
+    checked-alone listening central (Err (Past at)) = still-keeps as_is
+    checked-alone listening central (Ok tt) = else_keeps _ _ _ as_is λ _. handled-alone listening central
 
     signals_alone : (room signal : ℕ) (listening central : Bool) → Signalled (signalled t room signal l listening central pdu)
     unfolding signalled

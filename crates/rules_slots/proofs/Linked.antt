@@ -1,7 +1,7 @@
 -- What a call that names a link answers and does hangs on that link's own slots and the free ones alone, proved: a test that such a slot alone
 -- can pass is passed by the same slots in both tables (`same_test`), so every search finds the same slot (`found-same`), and that slot is
 -- equal in both (`slot-found`). One lemma a call, from the forms in Named.antt.
-use Rattle.std.specs.Prelude.{◌≡◌, refl, false, ◌&&◌, List, [], ◌∷◌, map, ℕ, zero, suc, ◌+◌, ◌≤◌, ◌<◌, leb, length, take, None, Option, Some}
+use Rattle.std.specs.Prelude.{◌≡◌, refl, false, ◌&&◌, List, [], ◌∷◌, map, ℕ, zero, suc, ◌+◌, ◌≤◌, ◌<◌, leb, length, take, None, Option, Some, Result, Ok, Err}
 use Rattle.std.proofs.Common.{sym, ap, ap₂, subst, ◌∙◌, not-suc-le-zero, le_of_suc-le-suc, arith}
 use Rattle.std.proofs.Math.Bool.{Bool, true}
 use Rattle.std.proofs.lemmas.Bool.{false≢true}
@@ -11,8 +11,8 @@ use borrow.Author.Tests.{eqb-true, not-false, leb-true, leb-false}
 use Rattle.lists.specs.Choose.{choose, choose_false}
 use Rattle.lists.specs.Each.{map_first}
 use Rattle.lists.specs.Both.{and_left}
-use Rattle.signal_headers.specs.declared.Checked.{Checked}
-use Rattle.signal_headers.specs.declared.Checked.TheVariants.{Good, Cut, Past}
+use Rattle.signal_headers.specs.declared.BadHeader.{BadHeader}
+use Rattle.signal_headers.specs.declared.BadHeader.TheVariants.{Cut, Past}
 use Rattle.signal_forms.specs.declared.Signal.{Signal}
 use Rattle.channel.specs.Limits.{cid_base}
 use Rattle.channel.specs.declared.Answer.{Answer}
@@ -283,11 +283,11 @@ module _ (l : ℕ) {t : Table} {ys : List Slot} (on : See l t ys) where
         if_both (λ _. if_both (λ _. parameters-both _) λ _. still_both on) λ _. if_both (λ _. parameter_response_both _) λ _.
         if_both (λ _. conn_req_both listening _) λ _. if_both (λ _. conn_res_both _) λ _. if_both (λ _. credits-both _) λ _. still_both on
 
-  checked-both : (listening central : Bool) (pdu : List ℕ) (h : Checked) → Agree (checked t l listening central pdu h) (checked u l listening central pdu h)
+  checked-both : (listening central : Bool) (pdu : List ℕ) (h : Result (Unit {0}) BadHeader) → Agree (checked t l listening central pdu h) (checked u l listening central pdu h)
   unfolding checked
-  checked-both listening central pdu Cut = still_both on
-  checked-both listening central pdu (Past id) = still_both on
-  checked-both listening central pdu Good = if_both (λ _. still_both on) λ _. handled-both _ listening central _ _
+  checked-both listening central pdu (Err Cut) = still_both on
+  checked-both listening central pdu (Err (Past id)) = still_both on
+  checked-both listening central pdu (Ok tt) = if_both (λ _. still_both on) λ _. handled-both _ listening central _ _
 
   signals_both : (room signal : ℕ) (listening central : Bool) (pdu : List ℕ) → Agree (signalled t room signal l listening central pdu) (signalled u room signal l listening central pdu)
   unfolding signalled

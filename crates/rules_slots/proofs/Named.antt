@@ -7,8 +7,7 @@ use Rattle.std.proofs.lemmas.Bool.{eqb-false, not-false}
 use Rattle.lists.specs.Choose.{choose}
 use Rattle.sar_join.specs.declared.Joined.{Joined}
 use Rattle.sar_join.specs.declared.Joined.TheVariants as Joined
-use Rattle.sar_cut.specs.declared.Plan.{Plan}
-use Rattle.sar_cut.specs.declared.Plan.TheVariants as Plan
+use Rattle.sar_cut.specs.declared.Framed.{Framed}
 use Rattle.channel.specs.declared.Answer.{Answer}
 use Rattle.channel.specs.declared.L2capChannelConfig.{L2capChannelConfig}
 use Rattle.channel.specs.declared.Slot.{Slot}
@@ -140,19 +139,19 @@ module _ {R : ℕ → Slot → Slot → Type 0} {t : Table} {ys : List Slot} {qs
     unfolding query
     asks_both of = gate-at None None None s λ _. rw e still_both
 
-    planned-both : (x : Slot) (l : ℕ) → s < t.n → (p : Plan) → Both R t.n (planned t s x l p) (planned u s x l p)
+    planned-both : (x : Slot) (l : ℕ) → s < t.n → (p : Result Framed Refusal) → Both R t.n (planned t s x l p) (planned u s x l p)
     unfolding planned
-    planned-both x l h (Plan.Refused r) = if_both (λ _. change-both s _ _ h) λ _. still_both
-    planned-both x l h (Plan.Frames n octets) = change-both s _ _ h
+    planned-both x l h (Err r) = if_both (λ _. change-both s _ _ h) λ _. still_both
+    planned-both x l h (Ok framed) = change-both s _ _ h
 
     sends_both : (l out : ℕ) → Both R t.n (send t s l out) (send u s l out)
     unfolding send
     sends_both l out = gate-at None None None s λ h. rw e (if_both (λ _. still_both) λ _. if_both (λ _. still_both) λ _. planned-both (slot_at t s) l h _)
 
-    started-both : (x : Slot) (l size : ℕ) → s < t.n → (p : Plan) → Both R t.n (start_planned t s x l size p) (start_planned u s x l size p)
+    started-both : (x : Slot) (l size : ℕ) → s < t.n → (p : Result Framed Refusal) → Both R t.n (start_planned t s x l size p) (start_planned u s x l size p)
     unfolding start_planned
-    started-both x l size h (Plan.Refused r) = if_both (λ _. change-both s _ _ h) λ _. still_both
-    started-both x l size h (Plan.Frames n octets) = if_both (λ _. still_both) λ _. filling-both s _ h
+    started-both x l size h (Err r) = if_both (λ _. change-both s _ _ h) λ _. still_both
+    started-both x l size h (Ok framed) = if_both (λ _. still_both) λ _. filling-both s _ h
 
     starts_both : (l size : ℕ) → Both R t.n (start_job t s l size) (start_job u s l size)
     unfolding start_job
@@ -180,12 +179,12 @@ module _ {R : ℕ → Slot → Slot → Type 0} {t : Table} {ys : List Slot} {qs
     takes_both room signal size =
         gate-at (Some room) (Some signal) None s λ h. rw e (if_both (λ _. still_both) λ _. if_both (λ _. still_both) λ _. if_both (λ _. still_both) λ _. taken-both (slot_at t s) h _)
 
-    joined-both : (x : Slot) (count : ℕ) → s < t.n → (j : Joined) → Both R t.n (joined t s x count j) (joined u s x count j)
+    joined-both : (x : Slot) (count : ℕ) → s < t.n → (j : Result Joined Refusal) → Both R t.n (joined t s x count j) (joined u s x count j)
     unfolding joined
-    joined-both x count h (Joined.Refused r) = change-both s _ _ h
-    joined-both x count h (Joined.Assembling a) = change-both s _ _ h
-    joined-both x count h (Joined.Finished len) = change-both s _ _ h
-    joined-both x count h Joined.Dropped = change-both s _ _ h
+    joined-both x count h (Err r) = change-both s _ _ h
+    joined-both x count h (Ok (Joined.Assembling a)) = change-both s _ _ h
+    joined-both x count h (Ok (Joined.Finished len)) = change-both s _ _ h
+    joined-both x count h (Ok Joined.Dropped) = change-both s _ _ h
 
     dispatch-both : (room l cid : ℕ) (head : List ℕ) (count : ℕ) → slot_of cid ≡ s → Both R t.n (dispatch t room l cid head count) (dispatch u room l cid head count)
     unfolding dispatch

@@ -2,7 +2,6 @@
 -- identifier are one table with other slots and SPSMs (`beside`), so that only what reads the slot is rewritten.
 use Rattle.std.specs.Prelude.{◌≡◌, List, ℕ, ◌≤◌, ◌<◌, length}
 use Rattle.sar_join.specs.declared.Joined.TheVariants as Joined
-use Rattle.sar_cut.specs.declared.Plan.TheVariants as Plan
 use Rattle.channel.specs.declared.Slot.{Slot}
 use Rattle.channel.specs.declared.Table.{Table}
 use Rattle.definition.specs.Table.{slot_at, well_formed}

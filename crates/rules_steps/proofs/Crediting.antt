@@ -1,15 +1,14 @@
 -- A send lowers the peer's credits by the frames that it writes, a start by those that it sets aside, which a cancel in time returns, and a take books the grant that it
 -- tells (Credits.antt). Carried by the plan (crate sar_cut) and
 -- by the account's own rule (crate credit).
-use Rattle.std.specs.Prelude.{◌≡◌, refl, false, ℕ, zero, suc, ◌+◌, ◌-◌, ◌≤◌, min, None, Option, Some}
+use Rattle.std.specs.Prelude.{◌≡◌, refl, false, ℕ, zero, suc, ◌+◌, ◌-◌, ◌≤◌, min, None, Option, Some, Result, Ok, Err}
 use Rattle.std.proofs.Common.{sym, ap, ◌∙◌, subst, arith}
 use Rattle.std.proofs.lemmas.Bool.{false≢true}
 use borrow.Author.Tests.{ltb-true, ltb-false, eqb-true, eqb-false, not-false}
 use Rattle.lists.specs.Choose.{choose, if_cases}
 use Rattle.credit.specs.declared.CreditFlowControl.{CreditFlowControl}
 use Rattle.credit.specs.Account.{grant_of}
-use Rattle.sar_cut.specs.declared.Plan.{Plan}
-use Rattle.sar_cut.specs.declared.Plan.TheVariants as Plan
+use Rattle.sar_cut.specs.declared.Framed.{Framed}
 use Rattle.sar_cut.specs.Cutting.{frame_count, frames_length, plan_send}
 use Rattle.sar_cut.proofs.CutLaws.{count-holds, plan_allowed}
 use Rattle.sar_join.specs.Joining.{idle}
@@ -26,6 +25,7 @@ use Rattle.definition.proofs.Tells.{connected-is}
 use Rattle.rules.proofs.Forms.{gate_refusals}
 use Rattle.rules_steps.specs.Credits.{LaterFrames, none, more, AllFrames, first, sent, SendsAs, EverySend, started, StartsAs, EveryStart, returns, leaves, CancelsAs, EveryCancel, grants, grants_none, none_waits, short, TakesAs, EveryTake}
 use Rattle.rules_steps.specs.Credits as Credits
+use Rattle.codes.specs.declared.Refusal.{Refusal}
 
 -- ---- what is written is n frames
 
@@ -54,13 +54,13 @@ module _ (t : Table) (s l out : ℕ) where
   abbrev N : Outcome → Type 0
   N o = SendsAs t s l o
 
-  planned_sends : x.state ≡ Connected → is_open x.job ≡ false → (p : Plan) → plan_send l x.peer.mtu x.peer.mps x.peer.credits out ≡ p → N (planned t s x l p)
+  planned_sends : x.state ≡ Connected → is_open x.job ≡ false → (p : Result Framed Refusal) → plan_send l x.peer.mtu x.peer.mps x.peer.credits out ≡ p → N (planned t s x l p)
   unfolding planned
-  planned_sends on shut (Plan.Refused r) e = if_cases N (blocks r) (λ b. Credits.Sends.blocked on (eqb-true _ 14 b)) (λ b. Credits.Sends.refused (eqb-false _ 14 b))
-  planned_sends on shut (Plan.Frames n octets) e =
-      let a = plan_allowed l x.peer.mtu x.peer.mps x.peer.credits out n octets e in
+  planned_sends on shut (Err r) e = if_cases N (blocks r) (λ b. Credits.Sends.blocked on (eqb-true _ 14 b)) (λ b. Credits.Sends.refused (eqb-false _ 14 b))
+  planned_sends on shut (Ok framed) e =
+      let a = plan_allowed l x.peer.mtu x.peer.mps x.peer.credits out framed.n framed.octets e in
       let some : 1 ≤ frame_count l x.peer.mps = (count-holds l x.peer.mps (let w = a.wide in omega arith)).some in
-      sent on shut a.frames (some_frames x.peer.cid x.peer.mps l n (let f = a.frames in omega arith)) (let f = a.frames in let c = a.paid in omega arith)
+      sent on shut a.frames (some_frames x.peer.cid x.peer.mps l framed.n (let f = a.frames in omega arith)) (let f = a.frames in let c = a.paid in omega arith)
 
   send_sends : N (send t s l out)
   unfolding send
@@ -81,12 +81,12 @@ module _ (t : Table) (s : ℕ) where
     abbrev B : Outcome → Type 0
     B o = StartsAs t s l o
 
-    planned_starts : z.state ≡ Connected → is_open z.job ≡ false → (p : Plan) → plan_send l z.peer.mtu z.peer.mps z.peer.credits (frames_length l z.peer.mps) ≡ p
+    planned_starts : z.state ≡ Connected → is_open z.job ≡ false → (p : Result Framed Refusal) → plan_send l z.peer.mtu z.peer.mps z.peer.credits (frames_length l z.peer.mps) ≡ p
         → B (start_planned t s z l size p)
     unfolding start_planned
-    planned_starts on shut (Plan.Refused r) e = if_cases B (blocks r) (λ b. Credits.Starts.blocked on (eqb-true _ 14 b)) (λ b. Credits.Starts.refused (eqb-false _ 14 b))
-    planned_starts on shut (Plan.Frames n octets) e =
-        let a = plan_allowed l z.peer.mtu z.peer.mps z.peer.credits (frames_length l z.peer.mps) n octets e in
+    planned_starts on shut (Err r) e = if_cases B (blocks r) (λ b. Credits.Starts.blocked on (eqb-true _ 14 b)) (λ b. Credits.Starts.refused (eqb-false _ 14 b))
+    planned_starts on shut (Ok framed) e =
+        let a = plan_allowed l z.peer.mtu z.peer.mps z.peer.credits (frames_length l z.peer.mps) framed.n framed.octets e in
         if_cases B _ (λ _. Credits.Starts.refused (λ e. omega arith)) (λ _. started on shut a.frames (let f = a.frames in let c = a.paid in omega arith))
 
     start_starts : B (start_job t s l size)

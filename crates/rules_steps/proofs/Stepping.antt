@@ -1,5 +1,5 @@
 -- Every call makes only the steps of the table (Steps.antt): one lemma a call, its tests in the definition's order.
-use Rattle.std.specs.Prelude.{◌≡◌, ◌&&◌, ◌||◌, List, [], ◌∷◌, length, get_or, set, None, Option, Some}
+use Rattle.std.specs.Prelude.{◌≡◌, ◌&&◌, ◌||◌, List, [], ◌∷◌, length, get_or, set, None, Option, Some, Result, Ok, Err}
 use Rattle.std.proofs.Math.Path.{refl, sym, ap, subst}
 use Rattle.std.proofs.Common.{◌∙◌, not-suc-le-zero, le_of_suc-le-suc, arith, get_or-set_same, get_or-set_other}
 use Rattle.std.proofs.Math.Bool.{Bool, true, false, not}
@@ -15,8 +15,8 @@ use Rattle.codes.specs.declared.Refusal.{Refusal}
 use Rattle.codes.specs.declared.Refusal.TheVariants as Refusal
 use Rattle.credit.specs.Account.{received}
 use Rattle.signal_headers.specs.Headers.{headers_of, body_in}
-use Rattle.signal_headers.specs.declared.Checked.{Checked}
-use Rattle.signal_headers.specs.declared.Checked.TheVariants.{Good, Cut, Past}
+use Rattle.signal_headers.specs.declared.BadHeader.{BadHeader}
+use Rattle.signal_headers.specs.declared.BadHeader.TheVariants.{Cut, Past}
 use Rattle.signal_bodies.specs.Bodies.{disconnection_req, disconnection_res}
 use Rattle.signal_bodies.specs.LeCreditBodies.{le_credit_conn_req, le_credit_conn_res, le_credit_flow_ind}
 use Rattle.signal_forms.specs.declared.Signal.{Signal}
@@ -25,8 +25,7 @@ use Rattle.sar_join.specs.declared.Assembly.{Assembly}
 use Rattle.sar_join.specs.declared.Joined.{Joined}
 use Rattle.sar_join.specs.declared.Joined.TheVariants as Joined
 use Rattle.sar_join.specs.Joining.{reached, first_step, join_step}
-use Rattle.sar_cut.specs.declared.Plan.{Plan}
-use Rattle.sar_cut.specs.declared.Plan.TheVariants as Plan
+use Rattle.sar_cut.specs.declared.Framed.{Framed}
 use Rattle.sar_cut.specs.Cutting.{frame_count, frames_length, plan_send}
 use Rattle.sar_cut.proofs.CutLaws.{count-holds, plan_allowed}
 use Rattle.channel.specs.Limits.{cid_base, size_least}
@@ -596,11 +595,11 @@ module _ (t : Table) (fit : Fit t) (v w : Window) where
         (λ m. if_cases (S G) _ (λ e. on_conn_res_lem (eqb-true _ _ e) _ refl)
         (λ c. if_cases (S G) _ (λ e. on_credits_lem (eqb-true _ _ e) _ refl) (λ d. rests (λ i x. code_else code _ _ _ _ _ a b m c d)))))))))
 
-    checked-steps : (h : Checked) → headers_of pdu ≡ h → S G (checked t link listening central pdu h)
+    checked-steps : (h : Result (Unit {0}) BadHeader) → headers_of pdu ≡ h → S G (checked t link listening central pdu h)
     unfolding checked
-    checked-steps Cut e = bad_body_lem
-    checked-steps (Past n) e = rests (not-handled (Refused Refusal.InvalidValue) refl refl refl (ap is_good e))
-    checked-steps Good e =
+    checked-steps (Err Cut) e = bad_body_lem
+    checked-steps (Err (Past n)) e = rests (not-handled (Refused Refusal.InvalidValue) refl refl refl (ap is_good e))
+    checked-steps (Ok tt) e =
         if_cases (S G) _
         (λ z. let c = no_code pdu (eqb-true _ _ z) in rests (λ i x. code_else code _ _ _ _ _ (rw c) (rw c) (rw c) (rw c) (rw c)))
         (λ _. handled-steps)
@@ -627,21 +626,21 @@ module _ (t : Table) (fit : Fit t) (v w : Window) where
 
   -- ---- jobs handed over in portions
 
-  started-steps : (s len size : ℕ) → s < t.n → (slot_at t s).state ≡ Connected → is_open (slot_at t s).job ≡ false → (p : Plan)
+  started-steps : (s len size : ℕ) → s < t.n → (slot_at t s).state ≡ Connected → is_open (slot_at t s).job ≡ false → (p : Result Framed Refusal)
       → plan_send len (slot_at t s).peer.mtu (slot_at t s).peer.mps (slot_at t s).peer.credits (frames_length len (slot_at t s).peer.mps) ≡ p
       → S (starts s len) (start_planned t s (slot_at t s) len size p)
   unfolding start_planned
-  started-steps s len size h on shut (Plan.Refused r) e =
+  started-steps s len size h on shut (Err r) e =
       if_cases (S (starts s len)) (blocks r)
       (λ _. one t fit (plain (starts s len) v w) (Refused r) s _ h (stay (and_off _ (refused_not_0 r))) (λ i _. stay (and_off _ (refused_not_0 r))))
       (λ _ i u. stay (and_off _ (refused_not_0 r)))
-  started-steps s len size h on shut (Plan.Frames n octets) e =
+  started-steps s len size h on shut (Ok framed) e =
       let x = slot_at t s in
-      let a = plan_allowed len x.peer.mtu x.peer.mps x.peer.credits (frames_length len x.peer.mps) n octets e in
+      let a = plan_allowed len x.peer.mtu x.peer.mps x.peer.credits (frames_length len x.peer.mps) framed.n framed.octets e in
       let some : 1 ≤ frame_count len x.peer.mps = (count-holds len x.peer.mps (let w = a.wide in omega arith)).some in
       if_cases (S (starts s len)) _ (λ _ i u. stay refl)
       (λ _. steps-one (starts s len) _ s _ h
-      (seen_as (λ k z u. Row t s (starts s len) (Frames u n) (is k z u x.peer.credits x.job) (is k z u (x.peer.credits - n) (begun len n))) x on refl refl
+      (seen_as (λ k z u. Row t s (starts s len) (Frames u framed.n) (is k z u x.peer.credits x.job) (is k z u (x.peer.credits - framed.n) (begun len framed.n))) x on refl refl
       (Steps.begin shut (let f = a.frames in omega arith) (let f = a.frames in let c = a.paid in omega arith)))
       (λ i z. z))
 
@@ -737,15 +736,15 @@ module _ (t : Table) (fit : Fit t) (link : ℕ) (payload : List ℕ) where
     abbrev C : Call
     C = frame link (cid_of s) payload
 
-    joined-steps : (count : ℕ) (j : Joined) → Overruns j → Steps t C (joined t s used count j)
+    joined-steps : (count : ℕ) (j : Result Joined Refusal) → Overruns j → Steps t C (joined t s used count j)
     unfolding joined
-    joined-steps count (Joined.Refused r) o =
+    joined-steps count (Err r) o =
         one t fit C (Refused r) s _ h
         (seen_as (λ k n l. Step t s C (Refused r) (is k n l x.peer.credits x.job) (is (Disconnecting false) n l x.peer.credits no_job)) x on refl its (overrun o))
         (λ i e. stay-frame (and_off_right (is_number 9 (Refused r) || is_number 19 (Refused r)) (cid_eqb i s ∙ e)))
-    joined-steps count (Joined.Assembling a) o = one t fit C Done s _ h (stay-frame refl) (λ i e. stay-frame refl)
-    joined-steps count (Joined.Finished len) o = one t fit C Done s _ h (stay-frame refl) (λ i e. stay-frame refl)
-    joined-steps count Joined.Dropped o = one t fit C (Refused Refusal.QueueFull) s _ h (stay-frame refl) (λ i e. stay-frame refl)
+    joined-steps count (Ok (Joined.Assembling a)) o = one t fit C Done s _ h (stay-frame refl) (λ i e. stay-frame refl)
+    joined-steps count (Ok (Joined.Finished len)) o = one t fit C Done s _ h (stay-frame refl) (λ i e. stay-frame refl)
+    joined-steps count (Ok Joined.Dropped) o = one t fit C (Refused Refusal.QueueFull) s _ h (stay-frame refl) (λ i e. stay-frame refl)
 
   dispatch-steps : (room cid : ℕ) (head : List ℕ) (count : ℕ) → Steps t (frame link cid payload) (dispatch t room link cid head count)
   unfolding dispatch
@@ -759,7 +758,7 @@ module _ (t : Table) (fit : Fit t) (link : ℕ) (payload : List ℕ) where
       (λ f. if_cases P _ (λ _ i l. stay-frame refl)
       (λ g. if_cases P _ (λ _. one t fit (frame link cid payload) (Refused Refusal.OutOfMemory) s _ (cid_within t cid (not-false _ e)) (stay-frame refl) (λ i _. stay-frame refl))
       (λ _.
-      let j : Joined = join_step y.mtu y.mps t.d y.assembly y.queue.count (length head + count) (u16_at head 0) in
+      let j : Result Joined Refusal = join_step y.mtu y.mps t.d y.assembly y.queue.count (length head + count) (u16_at head 0) in
       subst (λ (c : ℕ). Steps t (frame link c payload) (joined t s (count_received (with_account (received y.account 1) y)) count j)) (cid_back t cid (not-false _ e))
       (joined-steps s (cid_within t cid (not-false _ e)) (connected-is y.state (not-false _ f)) (eqb-true _ _ (not-false _ g)) count j
       (step_overruns y.mtu y.mps t.d y.assembly y.queue.count (length head + count) (u16_at head 0))))))))
@@ -770,18 +769,18 @@ module _ (t : Table) (fit : Fit t) (s : ℕ) (sdu : List ℕ) (w : Window) where
   abbrev D : Call
   D = sends s sdu w
 
-  planned-steps : (l out : ℕ) → s < t.n → (slot_at t s).state ≡ Connected → (p : Plan) → plan_send l (slot_at t s).peer.mtu (slot_at t s).peer.mps (slot_at t s).peer.credits out ≡ p
+  planned-steps : (l out : ℕ) → s < t.n → (slot_at t s).state ≡ Connected → (p : Result Framed Refusal) → plan_send l (slot_at t s).peer.mtu (slot_at t s).peer.mps (slot_at t s).peer.credits out ≡ p
       → Steps t D (planned t s (slot_at t s) l p)
   unfolding planned
-  planned-steps l out h on (Plan.Refused r) e =
+  planned-steps l out h on (Err r) e =
       if_cases (Steps t D) (blocks r)
       (λ _. one t fit D (Refused r) s _ h (stay-send (and_off _ (refused_not_0 r))) (λ i _. stay-send (and_off _ (refused_not_0 r))))
       (λ _ i u. stay-send (and_off _ (refused_not_0 r)))
-  planned-steps l out h on (Plan.Frames n octets) e =
+  planned-steps l out h on (Ok framed) e =
       let x = slot_at t s in
-      let a = plan_allowed l x.peer.mtu x.peer.mps x.peer.credits out n octets e in
-      one t fit D (Frames x.link n) s _ h
-      (seen_as (λ k z u. Step t s D (Frames u n) (is k z u x.peer.credits x.job) (is k z u (x.peer.credits - n) x.job)) x on refl refl
+      let a = plan_allowed l x.peer.mtu x.peer.mps x.peer.credits out framed.n framed.octets e in
+      one t fit D (Frames x.link framed.n) s _ h
+      (seen_as (λ k z u. Step t s D (Frames u framed.n) (is k z u x.peer.credits x.job) (is k z u (x.peer.credits - framed.n) x.job)) x on refl refl
       (Steps.send (let f = a.frames in let c = a.paid in omega arith)))
       (λ i z. stay-send z)
 

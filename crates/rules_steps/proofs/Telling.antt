@@ -1,5 +1,5 @@
 -- Every call tells what the table says (Told.antt): one lemma a call, its tests in the definition's order.
-use Rattle.std.specs.Prelude.{◌≡◌, refl, Bool, false, ◌||◌, List, [], ◌∷◌, ℕ, ◌≤◌, eqb, get_or, None, Option, Some}
+use Rattle.std.specs.Prelude.{◌≡◌, refl, Bool, false, ◌||◌, List, [], ◌∷◌, ℕ, ◌≤◌, eqb, get_or, None, Option, Some, Result, Ok, Err}
 use Rattle.std.proofs.Common.{sym, ap, ◌∙◌, subst, arith, eqb-true, ne_eqb}
 use Rattle.std.proofs.Math.Bool.{true}
 use Rattle.std.proofs.lemmas.Bool.{not-false}
@@ -9,14 +9,13 @@ use Rattle.codes.specs.Codes.{refusal_number}
 use Rattle.codes.specs.declared.Refusal.{Refusal}
 use Rattle.credit.specs.Account.{grant_of}
 use Rattle.signal_headers.specs.Headers.{headers_of}
-use Rattle.signal_headers.specs.declared.Checked.{Checked}
-use Rattle.signal_headers.specs.declared.Checked.TheVariants.{Good, Cut, Past}
+use Rattle.signal_headers.specs.declared.BadHeader.{BadHeader}
+use Rattle.signal_headers.specs.declared.BadHeader.TheVariants.{Cut, Past}
 use Rattle.signal_forms.specs.declared.Signal.{Signal}
 use Rattle.signal_write.specs.Writer.{encode_of}
 use Rattle.sar_join.specs.declared.Joined.{Joined}
 use Rattle.sar_join.specs.declared.Joined.TheVariants as Joined
-use Rattle.sar_cut.specs.declared.Plan.{Plan}
-use Rattle.sar_cut.specs.declared.Plan.TheVariants as Plan
+use Rattle.sar_cut.specs.declared.Framed.{Framed}
 use Rattle.channel.specs.declared.Answer.{Answer}
 use Rattle.channel.specs.declared.ChannelState.{ChannelState}
 use Rattle.channel.specs.declared.L2capChannelConfig.{L2capChannelConfig}
@@ -246,11 +245,11 @@ module _ (t : Table) (fit : Fit t) (v w : Window) where
         (λ _. if_cases S _ (λ e. on_conn_req_lem (eqb-true _ _ e) _)
         (λ _. if_cases S _ (λ _. on_conn_res_lem _) (λ _. if_cases S _ (λ _. on_credits_lem _) (λ _. replies not_understood))))))))
 
-  checked-tells : (link : ℕ) (listening central : Bool) (pdu : List ℕ) (h : Checked) → headers_of pdu ≡ h → P (signals link listening central pdu) (checked t link listening central pdu h)
+  checked-tells : (link : ℕ) (listening central : Bool) (pdu : List ℕ) (h : Result (Unit {0}) BadHeader) → headers_of pdu ≡ h → P (signals link listening central pdu) (checked t link listening central pdu h)
   unfolding checked
-  checked-tells link listening central pdu Cut e = keeps (silent refl)
-  checked-tells link listening central pdu (Past id) e = replies link listening central pdu id (ap (replied_to pdu) e) not_understood
-  checked-tells link listening central pdu Good e =
+  checked-tells link listening central pdu (Err Cut) e = keeps (silent refl)
+  checked-tells link listening central pdu (Err (Past id)) e = replies link listening central pdu id (ap (replied_to pdu) e) not_understood
+  checked-tells link listening central pdu (Ok tt) e =
       if_cases (P (signals link listening central pdu)) _ (λ _. keeps (silent refl)) (λ _. handled-tells link listening central pdu (get_or pdu 1 0) (ap (replied_to pdu) e) _)
 
   signalled-tells : (room signal link : ℕ) (listening central : Bool) (pdu : List ℕ) → P (signals link listening central pdu) (signalled t room signal link listening central pdu)
@@ -273,10 +272,10 @@ module _ (t : Table) (fit : Fit t) (v w : Window) where
 
   -- ---- jobs handed over in portions: of the first frame its header is written
 
-  started-tells : (s l size : ℕ) (p : Plan) → P (starts s l) (start_planned t s (slot_at t s) l size p)
+  started-tells : (s l size : ℕ) (p : Result Framed Refusal) → P (starts s l) (start_planned t s (slot_at t s) l size p)
   unfolding start_planned
-  started-tells s l size (Plan.Refused r) = if_cases (P (starts s l)) (blocks r) (λ _. keeps (silent refl)) (λ _. keeps (silent refl))
-  started-tells s l size (Plan.Frames n octets) = if_cases (P (starts s l)) _ (λ _. keeps (silent refl)) (λ _. keeps begin-out)
+  started-tells s l size (Err r) = if_cases (P (starts s l)) (blocks r) (λ _. keeps (silent refl)) (λ _. keeps (silent refl))
+  started-tells s l size (Ok framed) = if_cases (P (starts s l)) _ (λ _. keeps (silent refl)) (λ _. keeps begin-out)
 
   start-tells : (s l size : ℕ) → P (starts s l) (start_job t s l size)
   unfolding start_job
@@ -342,12 +341,12 @@ module _ (t : Table) (link cid : ℕ) (payload : List ℕ) where
   abbrev F : Outcome → Type 0
   F o = Tells t (frame link cid payload) o
 
-  joined-tells : (s : ℕ) (x : Slot) (count : ℕ) (j : Joined) → F (joined t s x count j)
+  joined-tells : (s : ℕ) (x : Slot) (count : ℕ) (j : Result Joined Refusal) → F (joined t s x count j)
   unfolding joined
-  joined-tells s x count (Joined.Refused r) = keeps frame_in_lem
-  joined-tells s x count (Joined.Assembling a) = keeps frame_in_lem
-  joined-tells s x count (Joined.Finished len) = keeps frame_in_lem
-  joined-tells s x count Joined.Dropped = keeps frame_in_lem
+  joined-tells s x count (Err r) = keeps frame_in_lem
+  joined-tells s x count (Ok (Joined.Assembling a)) = keeps frame_in_lem
+  joined-tells s x count (Ok (Joined.Finished len)) = keeps frame_in_lem
+  joined-tells s x count (Ok Joined.Dropped) = keeps frame_in_lem
 
   dispatch-tells : (room : ℕ) (head : List ℕ) (count : ℕ) → F (dispatch t room link cid head count)
   unfolding dispatch
@@ -360,10 +359,10 @@ module _ (t : Table) (s : ℕ) (sdu : List ℕ) (w : Window) where
   abbrev N : Outcome → Type 0
   N o = Tells t (sends s sdu w) o
 
-  planned-tells : (x : Slot) (l : ℕ) (p : Plan) → N (planned t s x l p)
+  planned-tells : (x : Slot) (l : ℕ) (p : Result Framed Refusal) → N (planned t s x l p)
   unfolding planned
-  planned-tells x l (Plan.Refused r) = if_cases N (blocks r) (λ _. keeps frames-out) (λ _. keeps frames-out)
-  planned-tells x l (Plan.Frames n octets) = keeps frames-out
+  planned-tells x l (Err r) = if_cases N (blocks r) (λ _. keeps frames-out) (λ _. keeps frames-out)
+  planned-tells x l (Ok framed) = keeps frames-out
 
   send-tells : (l out : ℕ) → N (send t s l out)
   unfolding send

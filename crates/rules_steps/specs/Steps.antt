@@ -1,13 +1,13 @@
 -- Which steps a slot can make, as one table: by call and answer the slot before and the slot after, with its holds, its identifiers, its link, the peer's credits and the
 -- job that is handed over in portions. Document 01, 'Slots', 'Signals' and 'Cutting, joining, credits'; document 02 (i), (ii). Proved in Stepping.antt; what it comes to call by call is in Consequences.antt.
-use Rattle.std.specs.Prelude.{◌≡◌, Bool, true, false, ◌&&◌, ◌||◌, not, List, ℕ, suc, ◌+◌, ◌-◌, ◌≤◌, ◌<◌, min, eqb, leb, ltb, get_or, None, Option, Some}
+use Rattle.std.specs.Prelude.{◌≡◌, Bool, true, false, ◌&&◌, ◌||◌, not, List, ℕ, suc, ◌+◌, ◌-◌, ◌≤◌, ◌<◌, min, eqb, leb, ltb, get_or, None, Option, Some, Result, Ok, Err}
 use Rattle.codes.specs.declared.LeCreditConnResultCode.{LeCreditConnResultCode}
 use Rattle.codes.specs.Codes.{result_number}
 use Rattle.codes.specs.declared.Refusal.{Refusal}
 use Rattle.codes.specs.declared.Refusal.TheVariants as Refusal
 use Rattle.signal_headers.specs.Headers.{headers_of, body_in}
-use Rattle.signal_headers.specs.declared.Checked.{Checked}
-use Rattle.signal_headers.specs.declared.Checked.TheVariants.{Good, Cut, Past}
+use Rattle.signal_headers.specs.declared.BadHeader.{BadHeader}
+use Rattle.signal_headers.specs.declared.BadHeader.TheVariants.{Cut, Past}
 use Rattle.signal_bodies.specs.Bodies.{disconnection_req, disconnection_res}
 use Rattle.signal_bodies.specs.LeCreditBodies.{le_credit_conn_req, le_credit_conn_res, le_credit_flow_ind}
 use Rattle.signal_forms.specs.declared.DisconnectionReq.{DisconnectionReq}
@@ -165,10 +165,10 @@ abbrev pub grants_to : Table → (i link : ℕ) → Option LeCreditFlowInd → B
 grants_to t i l None = false
 grants_to t i l (Some ind) = eqb i (found (connected_to l ind.cid) t)
 
-abbrev pub is_good : Checked → Bool
-is_good Good = true
-is_good Cut = false
-is_good (Past id) = false
+abbrev pub is_good : Result (Unit {0}) BadHeader → Bool
+is_good (Ok tt) = true
+is_good (Err Cut) = false
+is_good (Err (Past id)) = false
 
 abbrev pub signal_steps : Table → (i link : ℕ) (listening : Bool) (pdu : List ℕ) → Answer → Seen → Bool
 signal_steps t i l listening pdu a x =

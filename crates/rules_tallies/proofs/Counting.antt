@@ -1,5 +1,5 @@
 -- The calls that add: a send and a start, by their plan; a frame, by its credit. What each adds is told by its answer, and of no other slot anything changes.
-use Rattle.std.specs.Prelude.{◌≡◌, Bool, true, false, ◌&&◌, List, [], ℕ, zero, suc, ◌≤◌, ◌<◌, eqb, ltb, leb, get_or, set}
+use Rattle.std.specs.Prelude.{◌≡◌, Bool, true, false, ◌&&◌, List, [], ℕ, zero, suc, ◌≤◌, ◌<◌, eqb, ltb, leb, get_or, set, Result, Ok, Err}
 use Rattle.std.proofs.Math.Path.{refl}
 use Rattle.std.proofs.Common.{sym, ap, ap₂, ◌∙◌, subst, arith, get_or-set_same, get_or-set_other}
 use Rattle.std.proofs.Math.Bool.{not}
@@ -14,8 +14,7 @@ use Rattle.codes.specs.declared.Refusal.TheVariants.{NoRoom, InvalidChannelId, N
 use Rattle.credit.specs.Account.{received}
 use Rattle.sar_join.specs.declared.Joined.{Joined}
 use Rattle.sar_join.specs.declared.Joined.TheVariants as Joined
-use Rattle.sar_cut.specs.declared.Plan.{Plan}
-use Rattle.sar_cut.specs.declared.Plan.TheVariants as Plan
+use Rattle.sar_cut.specs.declared.Framed.{Framed}
 use Rattle.sar_cut.specs.Cutting.{frame_count, frames_length, plan_send}
 use Rattle.sar_cut.proofs.CutLaws.{count-holds, plan_allowed}
 use Rattle.channel.specs.Limits.{cid_base}
@@ -120,18 +119,18 @@ module _ (t : Table) (fit : Fit t) where
         ∙ ap (λ (k : ℕ). record { sends = record { frames = k; blocked = x.tallies.sends.blocked }; receives = x.tallies.receives }) (plus_some x.tallies.sends.frames n h)
 
     -- a plan has frames
-    planned_some : (l out n octets : ℕ) → plan_send l x.peer.mtu x.peer.mps x.peer.credits out ≡ Plan.Frames n octets → 1 ≤ n
+    planned_some : (l out n octets : ℕ) → plan_send l x.peer.mtu x.peer.mps x.peer.credits out ≡ Ok (record { n = n; octets = octets }) → 1 ≤ n
     planned_some l out n octets e =
         let a = plan_allowed l x.peer.mtu x.peer.mps x.peer.credits out n octets e in
         let some : 1 ≤ frame_count l x.peer.mps = (count-holds l x.peer.mps (let w = a.wide in omega arith)).some in
         let f = a.frames in
         omega arith
 
-    planned_sends : (l out : ℕ) → s < t.n → (p : Plan) → plan_send l x.peer.mtu x.peer.mps x.peer.credits out ≡ p → Sends (planned t s x l p)
+    planned_sends : (l out : ℕ) → s < t.n → (p : Result Framed Refusal) → plan_send l x.peer.mtu x.peer.mps x.peer.credits out ≡ p → Sends (planned t s x l p)
     unfolding planned
-    planned_sends l out h (Plan.Refused r) e = unsent_sends h r
-    planned_sends l out h (Plan.Frames n octets) e =
-        one s _ (λ i. of_send (eqb i s) (Frames x.link n)) h (counts refl (frames_add n x.link (planned_some l out n octets e))) (others_none (Frames x.link n))
+    planned_sends l out h (Err r) e = unsent_sends h r
+    planned_sends l out h (Ok framed) e =
+        one s _ (λ i. of_send (eqb i s) (Frames x.link framed.n)) h (counts refl (frames_add framed.n x.link (planned_some l out framed.n framed.octets e))) (others_none (Frames x.link framed.n))
 
     pub send_sends : (l out : ℕ) → Sends (send t s l out)
     unfolding send
@@ -139,12 +138,12 @@ module _ (t : Table) (fit : Fit t) where
         gate_refusals Sends t _ _ _ _ (λ r h. refused_sends r (ne_eqb (refusal_number r) 14 (λ e. omega arith)))
         (λ h. if_cases Sends _ (λ _. refused_sends ChannelClosed refl) (λ _. if_cases Sends _ (λ _. refused_sends JobOpen refl) (λ _. planned_sends l out h _ refl)))
 
-    started_sends : (l size : ℕ) → s < t.n → (p : Plan) → plan_send l x.peer.mtu x.peer.mps x.peer.credits (frames_length l x.peer.mps) ≡ p → Sends (start_planned t s x l size p)
+    started_sends : (l size : ℕ) → s < t.n → (p : Result Framed Refusal) → plan_send l x.peer.mtu x.peer.mps x.peer.credits (frames_length l x.peer.mps) ≡ p → Sends (start_planned t s x l size p)
     unfolding start_planned
-    started_sends l size h (Plan.Refused r) e = unsent_sends h r
-    started_sends l size h (Plan.Frames n octets) e =
+    started_sends l size h (Err r) e = unsent_sends h r
+    started_sends l size h (Ok framed) e =
         if_cases Sends _ (λ _. refused_sends NoRoom refl)
-        (λ _. one s _ (λ i. of_send (eqb i s) (Frames x.link n)) h (counts refl (frames_add n x.link (planned_some l _ n octets e))) (others_none (Frames x.link n)))
+        (λ _. one s _ (λ i. of_send (eqb i s) (Frames x.link framed.n)) h (counts refl (frames_add framed.n x.link (planned_some l _ framed.n framed.octets e))) (others_none (Frames x.link framed.n)))
 
     pub start_sends : (l size : ℕ) → Sends (start_job t s l size)
     unfolding start_job
@@ -215,15 +214,15 @@ module _ (t : Table) (fit : Fit t) where
       refused_comes c =
           one s _ (λ i. of_frame (eqb cid (cid_of i)) link (Refused OutOfMemory) (slot_at t i)) (cid_within t cid on) (counts refl (blocked_comes c)) (others_come (Refused OutOfMemory) on)
 
-      joined_comes : has_credit z ≡ true → (count : ℕ) (j : Joined) → Comes (joined t s (count_received (with_account (received z.account 1) z)) count j)
+      joined_comes : has_credit z ≡ true → (count : ℕ) (j : Result Joined Refusal) → Comes (joined t s (count_received (with_account (received z.account 1) z)) count j)
       unfolding joined
-      joined_comes c count (Joined.Refused r) =
+      joined_comes c count (Err r) =
           one s _ (λ i. of_frame (eqb cid (cid_of i)) link (Refused r) (slot_at t i)) (cid_within t cid on) (left-tallied (count_received (with_account (received z.account 1) z)) opened) (others_come (Refused r) on)
-      joined_comes c count (Joined.Assembling a) =
+      joined_comes c count (Ok (Joined.Assembling a)) =
           one s _ (λ i. of_frame (eqb cid (cid_of i)) link Done (slot_at t i)) (cid_within t cid on) (counts refl (used_comes c Done refl refl)) (others_come Done on)
-      joined_comes c count (Joined.Finished len) =
+      joined_comes c count (Ok (Joined.Finished len)) =
           one s _ (λ i. of_frame (eqb cid (cid_of i)) link Done (slot_at t i)) (cid_within t cid on) (counts refl (used_comes c Done refl refl)) (others_come Done on)
-      joined_comes c count Joined.Dropped =
+      joined_comes c count (Ok Joined.Dropped) =
           one s _ (λ i. of_frame (eqb cid (cid_of i)) link (Refused QueueFull) (slot_at t i)) (cid_within t cid on) (counts refl (used_comes c (Refused QueueFull) refl refl)) (others_come (Refused QueueFull) on)
 
     pub frame_comes : (room : ℕ) (head : List ℕ) (count : ℕ) → Comes (dispatch t room link cid head count)

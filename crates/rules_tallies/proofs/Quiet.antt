@@ -1,14 +1,14 @@
 -- The calls that add nothing: each leaves every slot's tallies as they were, or resets them where the law says so. One lemma a call, from the forms of an outcome (crate definition,
 -- Forms.antt) and the changes of a state (Kept.antt).
-use Rattle.std.specs.Prelude.{◌≡◌, Bool, true, false, ◌&&◌, ◌||◌, not, List, leb, None, Option, Some}
+use Rattle.std.specs.Prelude.{◌≡◌, Bool, true, false, ◌&&◌, ◌||◌, not, List, leb, None, Option, Some, Result, Ok, Err}
 use Rattle.std.proofs.Math.Path.{refl}
 use Prim.Native.Nat.{ℕ}
 use Rattle.std.proofs.Math.Dec.{eqb}
 use Rattle.std.proofs.lemmas.Bool.{not-false, not-true}
 use Rattle.lists.specs.Both.{and_left}
 use Rattle.credit.specs.Account.{granted}
-use Rattle.signal_headers.specs.declared.Checked.{Checked}
-use Rattle.signal_headers.specs.declared.Checked.TheVariants.{Good, Cut, Past}
+use Rattle.signal_headers.specs.declared.BadHeader.{BadHeader}
+use Rattle.signal_headers.specs.declared.BadHeader.TheVariants.{Cut, Past}
 use Rattle.signal_forms.specs.declared.Signal.{Signal}
 use Rattle.channel.specs.declared.Answer.TheVariants.{Done}
 use Rattle.channel.specs.declared.L2capChannelConfig.{L2capChannelConfig}
@@ -225,11 +225,11 @@ module _ (t : Table) (fit : Fit t) where
       if_does on (λ _. parameter_response_quiet id _) λ _. if_does on (λ _. conn_req_quiet link listening id _) λ _.
       if_does on (λ _. conn_res_quiet link id _) λ _. if_does on (λ _. credits-quiet link id _) λ _. still_does on itself
 
-  checked-quiet : (link : ℕ) (listening central : Bool) (pdu : List ℕ) (h : Checked) → Quiet (checked t link listening central pdu h)
+  checked-quiet : (link : ℕ) (listening central : Bool) (pdu : List ℕ) (h : Result (Unit {0}) BadHeader) → Quiet (checked t link listening central pdu h)
   unfolding checked
-  checked-quiet link listening central pdu Cut = still_does on itself
-  checked-quiet link listening central pdu (Past id) = still_does on itself
-  checked-quiet link listening central pdu Good = else_does on _ _ _ itself λ _. handled-quiet link listening central _ _ _
+  checked-quiet link listening central pdu (Err Cut) = still_does on itself
+  checked-quiet link listening central pdu (Err (Past id)) = still_does on itself
+  checked-quiet link listening central pdu (Ok tt) = else_does on _ _ _ itself λ _. handled-quiet link listening central _ _ _
 
   pub signals_quiet : (room signal link : ℕ) (listening central : Bool) (pdu : List ℕ) → Quiet (signalled t room signal link listening central pdu)
   unfolding signalled

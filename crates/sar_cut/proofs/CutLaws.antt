@@ -1,5 +1,5 @@
 -- Laws of cutting: the count of frames, and the cases of the plan. They rest on the definitions of Cutting.antt and on division.
-use Rattle.std.specs.Prelude.{◌≡◌, refl, List, ℕ, zero, suc, ◌+◌, ◌-◌, ◌*◌, ◌≤◌, ◌<◌, length, drop}
+use Rattle.std.specs.Prelude.{◌≡◌, refl, List, ℕ, zero, suc, ◌+◌, ◌-◌, ◌*◌, ◌≤◌, ◌<◌, length, drop, Ok, Err}
 use Rattle.std.proofs.Common.{◌∙◌, lt_of_not-le, div-mul-le_self, div-le_self, suc-mul, zero-mul, arith, length-take}
 use Rattle.std.proofs.Math.Nat.{div-eq_of_lt, div-eq-sub-div, div-zero, lt-div-mul-add}
 use Rattle.std.proofs.Math.Decide.{dec_le}
@@ -8,7 +8,6 @@ use Rattle.lists.specs.Choose.{choose}
 use Rattle.codes.specs.declared.Refusal.{Refusal}
 use Rattle.codes.specs.Limits.{size_least}
 use Rattle.codes.specs.declared.Refusal.TheVariants as Refusal
-use Rattle.sar_cut.specs.declared.Plan.TheVariants.{Refused, Frames}
 use Rattle.sar_cut.specs.Cutting.{ceil, frame_count, frames_length, stream, piece_at, pieces_from, pieces, payloads, AllWithin, longest_job, plan_send}
 use Rattle.sar_cut.specs.CutLaws.{Allowed, Counted, Holds}
 
@@ -78,37 +77,37 @@ payloads-within m mps sdu h = go (stream sdu) 0 (ceil (length (stream sdu)) m)
 
 -- ---- the plan, case by case
 module _ (l mtu mps credits room : ℕ) where
-  pub plan_above_mtu : mtu < l → Refused Refusal.InsufficientSpace ≡ plan_send l mtu mps credits room
+  pub plan_above_mtu : mtu < l → Err Refusal.InsufficientSpace ≡ plan_send l mtu mps credits room
   unfolding plan_send choose
   plan_above_mtu h = rw (lt-ltb mtu l h)
 
   module _ (fits : l ≤ mtu) where
-    pub plan_too_long : longest_job < l → Refused Refusal.TooLong ≡ plan_send l mtu mps credits room
+    pub plan_too_long : longest_job < l → Err Refusal.TooLong ≡ plan_send l mtu mps credits room
     unfolding plan_send choose
     plan_too_long h = rw (le-ltb mtu l fits, lt-ltb longest_job l h)
 
     module _ (short : l ≤ longest_job) where
-      pub plan_bad_mps : mps < size_least → Refused Refusal.BadMps ≡ plan_send l mtu mps credits room
+      pub plan_bad_mps : mps < size_least → Err Refusal.BadMps ≡ plan_send l mtu mps credits room
       unfolding plan_send choose
       plan_bad_mps h = rw (le-ltb mtu l fits, le-ltb longest_job l short, lt-ltb mps size_least h)
 
       module _ (wide : size_least ≤ mps) where
-        pub plan_busy : credits < frame_count l mps → Refused Refusal.Busy ≡ plan_send l mtu mps credits room
+        pub plan_busy : credits < frame_count l mps → Err Refusal.Busy ≡ plan_send l mtu mps credits room
         unfolding plan_send choose
         plan_busy h = rw (le-ltb mtu l fits, le-ltb longest_job l short, le-ltb mps size_least wide, lt-ltb credits (frame_count l mps) h)
 
         module _ (paid : frame_count l mps ≤ credits) where
-          pub plan_no_room : room < frames_length l mps → Refused Refusal.NoRoom ≡ plan_send l mtu mps credits room
+          pub plan_no_room : room < frames_length l mps → Err Refusal.NoRoom ≡ plan_send l mtu mps credits room
           unfolding plan_send choose
           plan_no_room h =
               rw (le-ltb mtu l fits, le-ltb longest_job l short, le-ltb mps size_least wide, le-ltb credits (frame_count l mps) paid, lt-ltb room (frames_length l mps) h)
 
-          pub plan_frames : frames_length l mps ≤ room → Frames (frame_count l mps) (frames_length l mps) ≡ plan_send l mtu mps credits room
+          pub plan_frames : frames_length l mps ≤ room → Ok (record { n = frame_count l mps; octets = frames_length l mps }) ≡ plan_send l mtu mps credits room
           unfolding plan_send choose
           plan_frames h =
               rw (le-ltb mtu l fits, le-ltb longest_job l short, le-ltb mps size_least wide, le-ltb credits (frame_count l mps) paid, le-ltb room (frames_length l mps) h)
 
-pub plan_allowed : (l mtu mps credits room n octets : ℕ) → plan_send l mtu mps credits room ≡ Frames n octets → Allowed l mtu mps credits room n octets
+pub plan_allowed : (l mtu mps credits room n octets : ℕ) → plan_send l mtu mps credits room ≡ Ok (record { n = n; octets = octets }) → Allowed l mtu mps credits room n octets
 plan_allowed l mtu mps credits room n octets e =
     split l mtu
     (λ fits. split l longest_job
@@ -124,5 +123,5 @@ plan_allowed l mtu mps credits room n octets e =
     (λ h. never (plan_too_long l mtu mps credits room fits h)))
     (λ h. never (plan_above_mtu l mtu mps credits room h))
   where
-    never : {r : Refusal} → Refused r ≡ plan_send l mtu mps credits room → Allowed l mtu mps credits room n octets
+    never : {r : Refusal} → Err r ≡ plan_send l mtu mps credits room → Allowed l mtu mps credits room n octets
     never q = let z : ◌≡◌ {A = ℕ} 0 1 = cc in absurd (omega arith)

@@ -1,13 +1,13 @@
 -- How a job (an SDU) is cut into K-frames (Core Vol 3 Part A 3.4), and what is planned for a send (document 01, 'Cutting, joining, credits').
 -- The stream of a job is its length and then its octets; frame k carries the stream's k-th stretch of MPS octets, the last what is left.
-use Rattle.std.specs.Prelude.{List, [], ◌∷◌, ◌++◌, map, ℕ, zero, suc, ◌+◌, ◌-◌, ◌*◌, ◌/◌, ◌≤◌, length, ltb}
+use Rattle.std.specs.Prelude.{List, [], ◌∷◌, ◌++◌, map, ℕ, zero, suc, ◌+◌, ◌-◌, ◌*◌, ◌/◌, ◌≤◌, length, ltb, Result, Ok, Err}
 use Rattle.std.proofs.lemmas.List.Edits.{sets}
 use Rattle.lists.specs.Choose.{choose}
 use Rattle.octets.specs.Octets.{part, le16}
 use Rattle.codes.specs.Limits.{size_least}
 use Rattle.codes.specs.declared.Refusal.TheVariants as Refusal
-use Rattle.sar_cut.specs.declared.Plan.{Plan}
-use Rattle.sar_cut.specs.declared.Plan.TheVariants.{Refused, Frames}
+use Rattle.sar_cut.specs.declared.Framed.{Framed}
+use Rattle.codes.specs.declared.Refusal.{Refusal}
 
 -- ---- how many frames
 
@@ -75,16 +75,16 @@ abbrev pub longest_job : ℕ
 longest_job = 65533
 
 -- "Send order: 11, 12, 23, 20, 14, 3", from 12 on: a job of l octets, the peer's MTU, MPS and credits, and the octets of the output
-unfoldable pub plan_send : ℕ → ℕ → ℕ → ℕ → ℕ → Plan
+unfoldable pub plan_send : ℕ → ℕ → ℕ → ℕ → ℕ → Result Framed Refusal
 plan_send l mtu mps credits room =
-    choose (ltb mtu l) (Refused Refusal.InsufficientSpace)
-    (choose (ltb longest_job l) (Refused Refusal.TooLong)
-    (choose (ltb mps size_least) (Refused Refusal.BadMps)
-    (choose (ltb credits (frame_count l mps)) (Refused Refusal.Busy)
-    (choose (ltb room (frames_length l mps)) (Refused Refusal.NoRoom)
-    (Frames (frame_count l mps) (frames_length l mps))))))
+    choose (ltb mtu l) (Err Refusal.InsufficientSpace)
+    (choose (ltb longest_job l) (Err Refusal.TooLong)
+    (choose (ltb mps size_least) (Err Refusal.BadMps)
+    (choose (ltb credits (frame_count l mps)) (Err Refusal.Busy)
+    (choose (ltb room (frames_length l mps)) (Err Refusal.NoRoom)
+    (Ok (record { n = frame_count l mps; octets = frames_length l mps }))))))
 
 -- the output after a plan: the frames at its start, and the rest as it was
-unfoldable pub output_after : Plan → ℕ → ℕ → List ℕ → List ℕ → List ℕ
-output_after (Refused r) cid mps out sdu = out
-output_after (Frames n octets) cid mps out sdu = sets out 0 (frames_of cid mps sdu)
+unfoldable pub output_after : Result Framed Refusal → ℕ → ℕ → List ℕ → List ℕ → List ℕ
+output_after (Err r) cid mps out sdu = out
+output_after (Ok framed) cid mps out sdu = sets out 0 (frames_of cid mps sdu)

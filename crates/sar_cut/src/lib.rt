@@ -10,11 +10,11 @@ use codes::{Refusal, SIZE_LEAST};
 // The longest job whose frame of one payload has a length of two octets.
 pub const LONGEST_JOB: usize = 65533;
 
-// What a send comes to: a refusal, or so many frames of so many octets in all.
+// What a send comes to where nothing refuses it: so many frames, of so many octets in all.
 #[derive(Clone, Copy)]
-pub enum Plan {
-    Refused(Refusal),
-    Frames { n: usize, octets: usize },
+pub struct Framed {
+    pub n: usize,
+    pub octets: usize,
 }
 
 // How many frames of `mps` octets a job of `l` octets takes; none where mps is 0.
@@ -54,25 +54,25 @@ fn quotient(x: u32, m: u16) -> u32
 }
 
 // What a send of a job of `l` octets comes to, from the peer's MTU, MPS and credits and the octets of the output.
-pub fn plan_send(l: usize, mtu: u16, mps: u16, credits: u16, room: usize) -> Plan
+pub fn plan_send(l: usize, mtu: u16, mps: u16, credits: u16, room: usize) -> Result<Framed, Refusal>
     ensures { result ≡ plan_send l mtu mps credits room }
 {
     if (mtu as usize) < l {
-        return Plan::Refused(Refusal::InsufficientSpace);
+        return Err(Refusal::InsufficientSpace);
     }
     if LONGEST_JOB < l {
-        return Plan::Refused(Refusal::TooLong);
+        return Err(Refusal::TooLong);
     }
     if mps < SIZE_LEAST {
-        return Plan::Refused(Refusal::BadMps);
+        return Err(Refusal::BadMps);
     }
     let n = frame_count(l as u16, mps);
     if (credits as usize) < n {
-        return Plan::Refused(Refusal::Busy);
+        return Err(Refusal::Busy);
     }
     let octets = l + 2 + 4 * n;
     if room < octets {
-        return Plan::Refused(Refusal::NoRoom);
+        return Err(Refusal::NoRoom);
     }
-    Plan::Frames { n, octets }
+    Ok(Framed { n, octets })
 }

@@ -7,7 +7,7 @@ ghost use Rattle.std.proofs.lemmas.List.Edits.{sets};
 ghost use Rattle.octets.specs.Octets.{part, le16};
 ghost use Rattle.sar_cut.specs.Cutting.{plan_send, frame, frames_of, output_after};
 
-use sar_cut::Plan;
+use sar_cut::Framed;
 
 // Writes at `at` a K-frame whose payload is the `n` octets of the job from `from` on.
 fn put_frame(out: &mut [u8], at: usize, cid: u16, sdu: &[u8], from: usize, n: usize)
@@ -50,16 +50,23 @@ pub fn cut_job(out: &mut [u8], cid: u16, mps: u16, sdu: &[u8])
 }
 
 // Plans a send and, where nothing is refused, writes the frames.
-pub fn send_job(out: &mut [u8], cid: u16, mtu: u16, mps: u16, credits: u16, sdu: &[u8]) -> Plan
+pub fn send_job(
+    out: &mut [u8],
+    cid: u16,
+    mtu: u16,
+    mps: u16,
+    credits: u16,
+    sdu: &[u8],
+) -> Result<Framed, Refusal>
     ensures { (result ≡ plan_send (length sdu.now) mtu mps credits (length out.old))
         × (out.new ≡ output_after result cid mps out.old sdu.now) }
 {
     let plan = sar_cut::plan_send(sdu.len(), mtu, mps, credits, out.len());
     match plan {
-        Plan::Refused(r) => Plan::Refused(r),
-        Plan::Frames { n, octets } => {
+        Err(r) => Err(r),
+        Ok(Framed { n, octets }) => {
             cut_job(out, cid, mps, sdu);
-            Plan::Frames { n, octets }
+            Ok(Framed { n, octets })
         }
     }
 }

@@ -14,33 +14,32 @@ pub struct Assembly {
     pub want: u16,
 }
 
-// What a payload comes to: a refusal by which the channel is left, a whole job for which no place is free, a whole job of
-// so many octets, or the assembly that is open now.
+// What a good payload comes to: a whole job for which no place is free, a whole job of so many octets, or the assembly that is open now. A refusal in its
+// place leaves the channel.
 #[derive(Clone, Copy)]
 pub enum Joined {
-    Refused(Refusal),
     Dropped,
     Finished(u16),
     Assembling(Assembly),
 }
 
 // `have` octets of a job of `want` are there, and `queued` of `d` places are taken.
-fn reach(d: usize, queued: usize, want: u16, have: usize) -> Joined
+fn reach(d: usize, queued: usize, want: u16, have: usize) -> Result<Joined, Refusal>
     ensures { result ≡ reached d queued want have }
 {
     if (want as usize) < have {
-        return Joined::Refused(Refusal::InvalidValue);
+        return Err(Refusal::InvalidValue);
     }
     if have < want as usize {
-        return Joined::Assembling(Assembly {
+        return Ok(Joined::Assembling(Assembly {
             have: have as u16,
             want,
-        });
+        }));
     }
     if d <= queued {
-        return Joined::Dropped;
+        return Ok(Joined::Dropped);
     }
-    Joined::Finished(want)
+    Ok(Joined::Finished(want))
 }
 
 // The step that a payload of `n` octets makes, whose first two octets say `said`. No other octet decides anything. A payload longer than our MPS is
@@ -53,19 +52,19 @@ pub fn join_step(
     queued: usize,
     n: usize,
     said: u16,
-) -> Joined
+) -> Result<Joined, Refusal>
     ensures { result ≡ join_step mtu mps d a queued n said }
 {
     if (mps as usize) < n {
-        return Joined::Refused(Refusal::InvalidValue);
+        return Err(Refusal::InvalidValue);
     }
     let want = a.want;
     if want == 0 {
         if n < 2 {
-            return Joined::Refused(Refusal::ShortFrame);
+            return Err(Refusal::ShortFrame);
         }
         if mtu < said {
-            return Joined::Refused(Refusal::InvalidValue);
+            return Err(Refusal::InvalidValue);
         }
         return reach(d, queued, said, n - 2);
     }

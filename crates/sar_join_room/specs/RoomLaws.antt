@@ -1,5 +1,5 @@
 -- Laws of joining in the room: what a step says, from its cases, and where a finished job lies.
-use Rattle.std.specs.Prelude.{◌≡◌, ℕ, suc, ◌+◌, ◌-◌, ◌*◌, ◌≤◌, ◌<◌, List, length, ltb, leb}
+use Rattle.std.specs.Prelude.{◌≡◌, ℕ, suc, ◌+◌, ◌-◌, ◌*◌, ◌≤◌, ◌<◌, List, length, ltb, leb, Result, Ok, Err}
 use Rattle.std.proofs.Common.{add-one, suc-mul, mul-le-mul_right, arith}
 use Rattle.std.proofs.Math.ListN.{length-drop}
 use Rattle.octets.specs.Octets.{u16_at}
@@ -8,15 +8,16 @@ use Rattle.lists.specs.Choose.{choose, if_cases}
 use Rattle.codes.specs.declared.Refusal.TheVariants as Refusal
 use Rattle.sar_join.specs.declared.Assembly.{Assembly}
 use Rattle.sar_join.specs.declared.Joined.{Joined}
-use Rattle.sar_join.specs.declared.Joined.TheVariants.{Refused, Dropped, Finished, Assembling}
+use Rattle.sar_join.specs.declared.Joined.TheVariants.{Dropped, Finished, Assembling}
 use Rattle.sar_join.specs.Joining.{is_idle, reached, first_step, join_step, assembled, job_octets}
+use Rattle.codes.specs.declared.Refusal.{Refusal}
 
 -- ---- what a step says
 
 -- what holds of each case holds of what is reached
 module _ (d queued want have : ℕ) where
-  pub reached_cases : (P : Joined → Type 0) → (want < have → P (Refused Refusal.InvalidValue)) → (have < want → P (Assembling (record { have = have; want = want })))
-      → (have ≡ want → d ≤ queued → P Dropped) → (have ≡ want → queued < d → P (Finished want)) → P (reached d queued want have)
+  pub reached_cases : (P : Result Joined Refusal → Type 0) → (want < have → P (Err Refusal.InvalidValue)) → (have < want → P (Ok (Assembling (record { have = have; want = want }))))
+      → (have ≡ want → d ≤ queued → P (Ok Dropped)) → (have ≡ want → queued < d → P (Ok (Finished want))) → P (reached d queued want have)
   unfolding reached
   reached_cases P over part full whole =
       if_cases P (ltb want have) (λ t. over (ltb-true want have t)) (λ t. if_cases P (ltb have want) (λ u. part (ltb-true have want u))
@@ -52,9 +53,9 @@ module _ (mtu mps d : ℕ) (a : Assembly) (queued : ℕ) (p : List ℕ) where
   abbrev pub Admitted : Type 0
   Admitted = a.want ≡ 0 → wanted a p ≤ mtu
 
-  pub step_cases : (P : Joined → Type 0) → (a.want ≡ 0 → length p < 2 → P (Refused Refusal.ShortFrame)) → P (Refused Refusal.InvalidValue)
-      → (Admitted → total a p < wanted a p → P (Assembling (record { have = total a p; want = wanted a p })))
-      → (total a p ≡ wanted a p → d ≤ queued → P Dropped) → (Admitted → total a p ≡ wanted a p → queued < d → P (Finished (wanted a p)))
+  pub step_cases : (P : Result Joined Refusal → Type 0) → (a.want ≡ 0 → length p < 2 → P (Err Refusal.ShortFrame)) → P (Err Refusal.InvalidValue)
+      → (Admitted → total a p < wanted a p → P (Ok (Assembling (record { have = total a p; want = wanted a p }))))
+      → (total a p ≡ wanted a p → d ≤ queued → P (Ok Dropped)) → (Admitted → total a p ≡ wanted a p → queued < d → P (Ok (Finished (wanted a p))))
       → P (join_step mtu mps d a queued (length p) (u16_at p 0))
   unfolding join_step first_step
   step_cases P short bad part full whole =
@@ -72,9 +73,9 @@ module _ (mtu mps d : ℕ) (a : Assembly) (queued : ℕ) (p : List ℕ) where
       reaches m = reached_cases d queued (wanted a p) (total a p) P (λ h. bad) (part m) full (whole m)
 
   -- a job is finished only where a place is free
-  pub finished-free : (n : ℕ) → join_step mtu mps d a queued (length p) (u16_at p 0) ≡ Finished n → queued < d
+  pub finished-free : (n : ℕ) → join_step mtu mps d a queued (length p) (u16_at p 0) ≡ Ok (Finished n) → queued < d
   finished-free n =
-      step_cases (λ r. r ≡ Finished n → queued < d) (λ z s e. let f : ◌≡◌ {A = ℕ} 0 1 = cc in absurd (omega arith)) (λ e. let f : ◌≡◌ {A = ℕ} 0 1 = cc in absurd (omega arith))
+      step_cases (λ r. r ≡ Ok (Finished n) → queued < d) (λ z s e. let f : ◌≡◌ {A = ℕ} 0 1 = cc in absurd (omega arith)) (λ e. let f : ◌≡◌ {A = ℕ} 0 1 = cc in absurd (omega arith))
       (λ m s e. let f : ◌≡◌ {A = ℕ} 0 1 = cc in absurd (omega arith)) (λ x f e. let f : ◌≡◌ {A = ℕ} 0 1 = cc in absurd (omega arith)) (λ m x f e. f)
 
 -- its place lies behind the place for assembly, and within the slot's part

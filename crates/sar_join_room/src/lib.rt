@@ -9,6 +9,7 @@ ghost use Rattle.octets.specs.Octets.{u16_at};
 ghost use Rattle.sar_join.specs.Joining.{join_step};
 ghost use Rattle.sar_join_room.specs.SarRoom.{join_part};
 
+use codes::Refusal;
 use places::{grow, put_job};
 use sar_join::{Assembly, Joined};
 
@@ -23,27 +24,25 @@ pub fn join_frame(
     a: Assembly,
     queued: usize,
     payload: &[u8],
-) -> Joined
+) -> Result<Joined, Refusal>
     requires { ((d + 1) * place ≤ length places.old) × (a.have ≤ place) }
     ensures { (result ≡ join_step mtu mps d a queued (length payload.now) (u16_at payload.now 0))
         × (places.new ≡ join_part place a queued result places.old payload.now) }
 {
     let said = octets::number(payload, 0);
-    let step = sar_join::join_step(mtu, mps, d, a, queued, payload.len(), said);
-    match step {
-        Joined::Refused(r) => Joined::Refused(r),
+    match sar_join::join_step(mtu, mps, d, a, queued, payload.len(), said)? {
         Joined::Dropped => {
             octets::zero(places, 0, place);
-            Joined::Dropped
+            Ok(Joined::Dropped)
         }
         Joined::Finished(n) => {
             let at = (queued + 1) * place;
             put_job(places, place, a, at, payload);
-            Joined::Finished(n)
+            Ok(Joined::Finished(n))
         }
         Joined::Assembling(b) => {
             grow(places, a, payload);
-            Joined::Assembling(b)
+            Ok(Joined::Assembling(b))
         }
     }
 }

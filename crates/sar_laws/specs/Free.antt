@@ -1,6 +1,6 @@
 -- WHAT A JOIN STEP LEAVES of the room: nothing changes outside the slot's part, and what holds no octet of a job is zero after it as before it.
 -- It rests on where the step writes: in the place for assembly up to what is there, in the job's own place up to its length.
-use Rattle.std.specs.Prelude.{◌≡◌, refl, ◌⊎◌, List, ◌++◌, ℕ, suc, ◌+◌, ◌-◌, ◌*◌, ◌≤◌, ◌<◌, length, get_or, set, replicate}
+use Rattle.std.specs.Prelude.{◌≡◌, refl, ◌⊎◌, List, ◌++◌, ℕ, suc, ◌+◌, ◌-◌, ◌*◌, ◌≤◌, ◌<◌, length, get_or, set, replicate, Result, Ok, Err}
 use Rattle.std.proofs.Common.{ap, ◌∙◌, ⊎_elim, zero-add, suc-mul, mul-le-mul_right, add-one, arith, length-append, get_or-set_same, get_or-set_other, eq-eqb, ne_eqb}
 use Rattle.std.proofs.lemmas.List.{length-replicate, get_or-replicate}
 use Rattle.std.proofs.lemmas.List.Edits.{sets}
@@ -11,11 +11,12 @@ use Rattle.lists.specs.Choose.{choose, if_cases}
 use Rattle.sar_cut.proofs.CutLaws.{split}
 use Rattle.sar_join.specs.declared.Assembly.{Assembly}
 use Rattle.sar_join.specs.declared.Joined.{Joined}
-use Rattle.sar_join.specs.declared.Joined.TheVariants.{Refused, Dropped, Finished, Assembling}
+use Rattle.sar_join.specs.declared.Joined.TheVariants.{Dropped, Finished, Assembling}
 use Rattle.sar_join.specs.Joining.{is_idle, idle, join_step, assembled, job_octets, queue_at}
 use Rattle.sar_join_room.specs.SarPlaces.{finish}
 use Rattle.sar_join_room.specs.SarRoom.{join_part}
 use Rattle.sar_join_room.specs.RoomLaws.{total, wanted, wanted-next, step_cases}
+use Rattle.codes.specs.declared.Refusal.{Refusal}
 
 -- ---- what is written
 
@@ -54,16 +55,16 @@ job-length a xs p h =
 
 -- ---- outside
 
-pub join_length : (place : ℕ) (a : Assembly) (queued : ℕ) (r : Joined) (xs p : List ℕ) → length (join_part place a queued r xs p) ≡ length xs
+pub join_length : (place : ℕ) (a : Assembly) (queued : ℕ) (r : Result Joined Refusal) (xs p : List ℕ) → length (join_part place a queued r xs p) ≡ length xs
 unfolding join_part finish
-join_length place a queued (Refused r) xs p = refl
-join_length place a queued Dropped xs p = length-sets xs 0 (replicate place 0)
-join_length place a queued (Assembling b) xs p = length-sets xs (assembled a) (job_octets a p)
-join_length place a queued (Finished n) xs p =
+join_length place a queued (Err r) xs p = refl
+join_length place a queued (Ok Dropped) xs p = length-sets xs 0 (replicate place 0)
+join_length place a queued (Ok (Assembling b)) xs p = length-sets xs (assembled a) (job_octets a p)
+join_length place a queued (Ok (Finished n)) xs p =
     if_cases (λ (ys : List ℕ). length ys ≡ length xs) (is_idle a) (λ t. simp length-sets) (λ t. simp length-sets)
 
 -- the slot's part is the w octets of the room from b on: every other octet of the room stays
-pub join_outside : (place : ℕ) (a : Assembly) (queued : ℕ) (r : Joined) (room p : List ℕ) (b w i : ℕ) → b + w ≤ length room → (i < b) ⊎ (b + w ≤ i)
+pub join_outside : (place : ℕ) (a : Assembly) (queued : ℕ) (r : Result Joined Refusal) (room p : List ℕ) (b w i : ℕ) → b + w ≤ length room → (i < b) ⊎ (b + w ≤ i)
     → get_or (sets room b (join_part place a queued r (part room b w) p)) i 0 ≡ get_or room i 0
 join_outside place a queued r room p b w i h o =
     let ys = join_part place a queued r (part room b w) p in
@@ -78,11 +79,11 @@ pub record Clean (place d : ℕ) (a : Assembly) (lens xs : List ℕ) : Type 0 wh
   pub queue : (j k : ℕ) → j < d → get_or lens j 0 ≤ k → k < place → get_or xs (suc j * place + k) 0 ≡ 0
 
 -- what the step makes of the assembly and the lengths
-unfoldable pub CleanAfter : (place d : ℕ) (a : Assembly) (queued : ℕ) (lens : List ℕ) → Joined → List ℕ → Type 0
-CleanAfter place d a queued lens (Refused r) xs = Clean place d a lens xs
-CleanAfter place d a queued lens Dropped xs = Clean place d idle lens xs
-CleanAfter place d a queued lens (Assembling b) xs = Clean place d b lens xs
-CleanAfter place d a queued lens (Finished n) xs = Clean place d idle (set lens queued n) xs
+unfoldable pub CleanAfter : (place d : ℕ) (a : Assembly) (queued : ℕ) (lens : List ℕ) → Result Joined Refusal → List ℕ → Type 0
+CleanAfter place d a queued lens (Err r) xs = Clean place d a lens xs
+CleanAfter place d a queued lens (Ok Dropped) xs = Clean place d idle lens xs
+CleanAfter place d a queued lens (Ok (Assembling b)) xs = Clean place d b lens xs
+CleanAfter place d a queued lens (Ok (Finished n)) xs = Clean place d idle (set lens queued n) xs
 
 -- a slot as a valid table has it: every job within its place
 pub record Sized (mtu d place : ℕ) (a : Assembly) (queued : ℕ) (lens xs : List ℕ) : Type 0 where
@@ -138,7 +139,7 @@ pub step_clean : (mtu mps d place : ℕ) (a : Assembly) (queued : ℕ) (lens xs 
     → let r = join_step mtu mps d a queued (length p) (u16_at p 0) in CleanAfter place d a queued lens r (join_part place a queued r xs p)
 unfolding CleanAfter join_part
 step_clean mtu mps d place a queued lens xs p z w =
-    step_cases mtu mps d a queued p (λ (r : Joined). CleanAfter place d a queued lens r (join_part place a queued r xs p)) (λ n s. w) w
+    step_cases mtu mps d a queued p (λ (r : Result Joined Refusal). CleanAfter place d a queued lens r (join_part place a queued r xs p)) (λ n s. w) w
     (λ m s. growing m s)
     (λ e f. record { assembly = λ k g h. wiped place d a lens xs long k h; queue = λ j k h l s. wiped_far place d a lens xs long j k ∙ w.queue j k h l s })
     (λ m e f. whole m e f)

@@ -1,6 +1,6 @@
 -- THE ROUND TRIP: the payloads of a job that was cut, joined from idle under an MTU that admits it and an MPS that no payload passes, with a queue place free, are that job.
 -- It rests on the stretches taken one by one (sar_cut) and on the cases of the step (sar_join).
-use Rattle.std.specs.Prelude.{◌≡◌, refl, replicate, leb}
+use Rattle.std.specs.Prelude.{◌≡◌, refl, replicate, leb, Result, Ok}
 use Rattle.std.proofs.Math.Path.{sym, ap}
 use Rattle.std.proofs.Common.{◌∙◌, zero-add, take-append-drop, take-add, add-one, le-leb}
 use mathlib.Core.List.{List, [], ◌∷◌, ◌++◌, map}
@@ -13,7 +13,6 @@ use Rattle.octets.specs.Octets.{part, le16, u16_at}
 use Rattle.std.proofs.lemmas.Bool.{lt-leb}
 use Rattle.lists.specs.Choose.{choose, choose_true, choose_false}
 use Rattle.octets.specs.Sets.{sets-append, sets_comm, part_length, part_same, part-after, sets_hide}
-use Rattle.sar_cut.specs.declared.Plan.TheVariants.{Frames}
 use Rattle.sar_cut.specs.Cutting.{frame_count, stream, pieces, payloads, AllWithin, frame, plan_send}
 use Rattle.sar_cut.proofs.CutLaws.{split}
 use Rattle.sar_cut.proofs.CutLaws.{plan_allowed}
@@ -29,6 +28,7 @@ use Rattle.sar_join.specs.JoinLaws.{reached-part, reached-whole, first_reaches, 
 use Rattle.sar_join_room.specs.PlaceLaws.{grow_first, grow_next, finish-first, finish-joined}
 use Rattle.sar_join_room.specs.RoomLaws.{within}
 use Rattle.sar_laws.specs.Run.{Side, ran, after, step_on, run}
+use Rattle.codes.specs.declared.Refusal.{Refusal}
 
 -- the part of the room that a whole job leaves: the job at its place's start and, where it took more than one frame, zeros in the place for assembly
 unfoldable pub places_after : (mps place queued : ℕ) (sdu xs : List ℕ) → List ℕ
@@ -36,10 +36,10 @@ places_after mps place queued sdu xs =
     choose (leb (length sdu + 2) mps) (sets xs (queue_at place queued) sdu) (sets (sets xs (queue_at place queued) sdu) 0 (replicate place 0))
 
 -- a step whose case is known
-step_is : (mtu mps d place : ℕ) (s : Side) (p : List ℕ) (r : Joined) → join_step mtu mps d s.assembly s.queued (length p) (u16_at p 0) ≡ r
+step_is : (mtu mps d place : ℕ) (s : Side) (p : List ℕ) (r : Result Joined Refusal) → join_step mtu mps d s.assembly s.queued (length p) (u16_at p 0) ≡ r
     → step_on mtu mps d place s p ≡ after place s (join_part place s.assembly s.queued r s.places p) r
 unfolding step_on
-step_is mtu mps d place s p r e = ap (λ (x : Joined). after place s (join_part place s.assembly s.queued x s.places p) x) e
+step_is mtu mps d place s p r e = ap (λ (x : Result Joined Refusal). after place s (join_part place s.assembly s.queued x s.places p) x) e
 
 -- a whole list is a part of itself
 part_all : (p : List ℕ) → part p 0 (length p) ≡ p
@@ -72,12 +72,12 @@ module _ (m mtu mps d place queued : ℕ) (sdu xs : List ℕ) (jobs : List (List
       let l : length p ≡ k = part_length sdu have k (omega arith) in
       let t : length (take have sdu) ≡ have = length-take-le have sdu (omega arith) in
       let a : Assembly = record { have = have; want = length sdu } in
-      let e : join_step mtu mps d a queued (length p) (u16_at p 0) ≡ Assembling (record { have = have + k; want = length sdu }) =
+      let e : join_step mtu mps d a queued (length p) (u16_at p 0) ≡ Ok (Assembling (record { have = have + k; want = length sdu })) =
       sym (reached-part d queued (length sdu) (have + k) h ∙ rw l (next_reaches mtu mps d a queued k (u16_at p 0) w (λ z. omega arith))) in
       let v : sets (sets xs 0 (take have sdu)) have p ≡ sets xs 0 (take (have + k) sdu) =
       rw (take-add have k sdu) (rw (t, zero-add) at (sym (sets-append xs 0 (take have sdu) p))) in
       let g : sets (sets xs 0 (take have sdu)) have p ≡ _ = rw (part_all p) at (grow_next a (sets xs 0 (take have sdu)) p (λ z. omega arith)) in
-      step_is mtu mps d place (open_at have) p (Assembling (record { have = have + k; want = length sdu })) e
+      step_is mtu mps d place (open_at have) p (Ok (Assembling (record { have = have + k; want = length sdu }))) e
       ∙ ap (λ (ys : List ℕ). ran (record { assembly = record { have = have + k; want = length sdu }; queued = queued; places = ys; jobs = jobs })) (sym g ∙ v)
 
   -- the job at its place
@@ -98,7 +98,7 @@ module _ (m mtu mps d place queued : ℕ) (sdu xs : List ℕ) (jobs : List (List
       let l : length p ≡ length sdu - have = length-drop have sdu in
       let t : length (take have sdu) ≡ have = length-take-le have sdu (omega arith) in
       let a : Assembly = record { have = have; want = length sdu } in
-      let e : join_step mtu mps d a queued (length p) (u16_at p 0) ≡ Finished (length sdu) =
+      let e : join_step mtu mps d a queued (length p) (u16_at p 0) ≡ Ok (Finished (length sdu)) =
       sym (reached-whole d queued (length sdu) (have + length p) (omega arith) free ∙ next_reaches mtu mps d a queued (length p) (u16_at p 0) w (λ z. omega arith)) in
       let u : part ys 0 have ≡ take have sdu = rw t at (part_same 0 xs 0 (take have sdu) (omega (arith, inside, behind))) in
       let v : sets (sets ys q (take have sdu)) (q + have) p ≡ sets ys q sdu =
@@ -108,7 +108,7 @@ module _ (m mtu mps d place queued : ℕ) (sdu xs : List ℕ) (jobs : List (List
       sets_hide (sets xs q sdu) 0 (take have sdu) (replicate place 0) (omega (arith, length-replicate {A = ℕ} place 0)) in
       let f : finish place a q ys p ≡ sets (sets xs q sdu) 0 (replicate place 0) =
       sym (rw (part_all p, u) at (finish-joined a ys p place q (λ n. omega arith))) ∙ ap (λ (r : List ℕ). sets r 0 (replicate place 0)) (v ∙ c) ∙ z in
-      step_is mtu mps d place (open_at have) p (Finished (length sdu)) e
+      step_is mtu mps d place (open_at have) p (Ok (Finished (length sdu))) e
       ∙ rw (f, job-kept)
 
   -- all payloads after the first
@@ -138,11 +138,11 @@ module _ (m mtu mps d place queued : ℕ) (sdu xs : List ℕ) (jobs : List (List
   alone_step a none w =
       let p = le16 (length sdu) ++ sdu in
       let s : u16_at p 0 ≡ length sdu = omega arith in
-      let e : join_step mtu mps d a queued (length p) (u16_at p 0) ≡ Finished (length sdu) =
+      let e : join_step mtu mps d a queued (length p) (u16_at p 0) ≡ Ok (Finished (length sdu)) =
       sym (reached-whole d queued (length sdu) (length p - 2) (omega arith) free ∙ rw s (first_reaches mtu mps d a queued (length p) (length sdu) w none (omega arith) admits)) in
       let t : part p 2 (length p - 2) ≡ sdu = take_all (length p - 2) sdu (omega arith) in
       let f : finish place a q xs p ≡ sets xs q sdu = sym (rw t at (finish-first a xs p place q none)) in
-      step_is mtu mps d place (record { assembly = a; queued = queued; places = xs; jobs = jobs }) p (Finished (length sdu)) e ∙ rw (f, job_there)
+      step_is mtu mps d place (record { assembly = a; queued = queued; places = xs; jobs = jobs }) p (Ok (Finished (length sdu))) e ∙ rw (f, job_there)
 
   -- the first of several
   first_step : (a : Assembly) → a.want ≡ 0 → m - 2 < length sdu → length (le16 (length sdu) ++ take (m - 2) sdu) ≤ mps
@@ -154,12 +154,12 @@ module _ (m mtu mps d place queued : ℕ) (sdu xs : List ℕ) (jobs : List (List
       let l : length (take k sdu) ≡ k = length-take-le k sdu (omega arith) in
       let s : u16_at p 0 ≡ length sdu = omega arith in
       let n : length p - 2 ≡ k = omega arith in
-      let r : Assembling (record { have = length p - 2; want = length sdu }) ≡ join_step mtu mps d a queued (length p) (u16_at p 0) =
+      let r : Ok (Assembling (record { have = length p - 2; want = length sdu })) ≡ join_step mtu mps d a queued (length p) (u16_at p 0) =
       reached-part d queued (length sdu) (length p - 2) (omega arith) ∙ rw s (first_reaches mtu mps d a queued (length p) (length sdu) w none (omega arith) admits) in
-      let e : join_step mtu mps d a queued (length p) (u16_at p 0) ≡ Assembling (record { have = k; want = length sdu }) = sym (rw n at r) in
+      let e : join_step mtu mps d a queued (length p) (u16_at p 0) ≡ Ok (Assembling (record { have = k; want = length sdu })) = sym (rw n at r) in
       let t : part p 2 (length p - 2) ≡ take k sdu = take_all (length p - 2) (take k sdu) (omega arith) in
       let g : sets xs 0 (take k sdu) ≡ _ = rw t at (grow_first a xs p none) in
-      step_is mtu mps d place (record { assembly = a; queued = queued; places = xs; jobs = jobs }) p (Assembling (record { have = k; want = length sdu })) e
+      step_is mtu mps d place (record { assembly = a; queued = queued; places = xs; jobs = jobs }) p (Ok (Assembling (record { have = k; want = length sdu }))) e
       ∙ ap (λ (ys : List ℕ). ran (record { assembly = record { have = k; want = length sdu }; queued = queued; places = ys; jobs = jobs })) (sym g)
 
   -- the first payload, and the stretches that are left
@@ -200,7 +200,7 @@ payload_of cid (p ∷ ps) = ap (λ (l : List (List ℕ)). p ∷ l) (payload_of c
 -- What is sent arrives: where the plan of a send is n frames, the payloads of its frames, joined as above, are the job. (`payloads-within` of crate sar_cut: no payload
 -- passes our MPS where the sender's peer MPS is at most ours.)
 pub sent_rejoins : (peer-mtu m credits room cid mtu mps d place queued n octets : ℕ) (a : Assembly) (sdu xs : List ℕ) (jobs : List (List ℕ))
-    → plan_send (length sdu) peer-mtu m credits room ≡ Frames n octets
+    → plan_send (length sdu) peer-mtu m credits room ≡ Ok (record { n = n; octets = octets })
     → a.want ≡ 0 → length sdu ≤ mtu → AllWithin mps (payloads m sdu) → mtu ≤ place → (d + 1) * place ≤ length xs → queued < d
     → (length (map (frame cid) (payloads m sdu)) ≡ n)
     × (run mtu mps d place (map (drop 4) (map (frame cid) (payloads m sdu))) (ran (record { assembly = a; queued = queued; places = xs; jobs = jobs }))

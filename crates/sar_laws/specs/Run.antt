@@ -1,11 +1,11 @@
 -- A run of payloads on one slot: each makes the join step and leaves the slot's part of the room as it does, until one is refused.
-use Rattle.std.specs.Prelude.{List, [], ◌∷◌, ◌++◌, ℕ, suc, length}
+use Rattle.std.specs.Prelude.{List, [], ◌∷◌, ◌++◌, ℕ, suc, length, Result, Ok, Err}
 use Rattle.octets.specs.Octets.{part, u16_at}
 use Rattle.codes.specs.declared.Refusal.{Refusal}
 use Rattle.codes.specs.declared.Refusal.TheVariants as Refusal
 use Rattle.sar_join.specs.declared.Assembly.{Assembly}
 use Rattle.sar_join.specs.declared.Joined.{Joined}
-use Rattle.sar_join.specs.declared.Joined.TheVariants.{Refused, Dropped, Finished, Assembling}
+use Rattle.sar_join.specs.declared.Joined.TheVariants.{Dropped, Finished, Assembling}
 use Rattle.sar_join.specs.Joining.{idle, join_step, queue_at}
 use Rattle.sar_join_room.specs.SarRoom.{join_part}
 
@@ -21,11 +21,11 @@ pub data Ran : Type 0 where
   stopped : Refusal → Ran
 
 -- what a step leaves: xs is the part of the room after it
-unfoldable pub after : (place : ℕ) → Side → (xs : List ℕ) → Joined → Ran
-after place s xs (Refused r) = stopped r
-after place s xs Dropped = stopped Refusal.QueueFull
-after place s xs (Assembling b) = ran (record { assembly = b; queued = s.queued; places = xs; jobs = s.jobs })
-after place s xs (Finished n) =
+unfoldable pub after : (place : ℕ) → Side → (xs : List ℕ) → Result Joined Refusal → Ran
+after place s xs (Err r) = stopped r
+after place s xs (Ok Dropped) = stopped Refusal.QueueFull
+after place s xs (Ok (Assembling b)) = ran (record { assembly = b; queued = s.queued; places = xs; jobs = s.jobs })
+after place s xs (Ok (Finished n)) =
     ran (record { assembly = idle; queued = suc s.queued; places = xs; jobs = s.jobs ++ (part xs (queue_at place s.queued) n ∷ []) })
 
 unfoldable pub step_on : (mtu mps d place : ℕ) → Side → List ℕ → Ran

@@ -6,14 +6,14 @@ ghost use Rattle.std.proofs.lemmas.List.Edits.{sets};
 ghost use Rattle.sar_cut.specs.Cutting.{frame_count, plan_send, output_after};
 ghost use Rattle.sar_speed.specs.Octets.{octets_of};
 
-use sar_cut::Plan;
+use sar_cut::Framed;
 
-fn octets_of(p: Plan) -> usize
+fn octets_of(p: Result<Framed, Refusal>) -> usize
     ensures { result ≡ octets_of p }
 {
     match p {
-        Plan::Refused(_) => 0,
-        Plan::Frames { n: _, octets } => octets,
+        Err(_) => 0,
+        Ok(Framed { n: _, octets }) => octets,
     }
 }
 

@@ -2,7 +2,7 @@
 // has what document 01 asks of each: the plan, the octets written, the answers, and what the slot's part of the room holds in the end.
 #![tactic(auto)]
 
-use sar_cut::Plan;
+use sar_cut::Framed;
 use sar_join::{Assembly, Joined};
 use std::io;
 
@@ -73,22 +73,22 @@ fn feed(places: &mut [u8], mtu: u16, mps: u16, d: u16, s: Side, payload: &[u8]) 
     }
     let step = sar_join_room::join_frame(places, place, mtu, mps, beside, a, queued, payload);
     match step {
-        Joined::Refused(r) => Side {
+        Err(r) => Side {
             a,
             queued,
             answer: codes::refusal_number(r),
         },
-        Joined::Dropped => Side {
+        Ok(Joined::Dropped) => Side {
             a: Assembly { have: 0, want: 0 },
             queued,
             answer: 21,
         },
-        Joined::Finished(_) => Side {
+        Ok(Joined::Finished(_)) => Side {
             a: Assembly { have: 0, want: 0 },
             queued: queued + 1,
             answer: 0,
         },
-        Joined::Assembling(b) => Side {
+        Ok(Joined::Assembling(b)) => Side {
             a: b,
             queued,
             answer: 0,
@@ -144,13 +144,19 @@ fn rejoin(rt: &impl Print, l: u16, mps: u16, out: &[u8]) -> io::Result<()> {
 }
 
 // What a send came to: its refusal, or the frames that it wrote.
-fn came(rt: &impl Print, plan: Plan, l: u16, mps: u16, out: &[u8]) -> io::Result<()> {
+fn came(
+    rt: &impl Print,
+    plan: Result<Framed, Refusal>,
+    l: u16,
+    mps: u16,
+    out: &[u8],
+) -> io::Result<()> {
     match plan {
-        Plan::Refused(r) => {
+        Err(r) => {
             text(rt, b" refused")?;
             number(rt, codes::refusal_number(r) as usize)?;
         }
-        Plan::Frames { n, octets } => {
+        Ok(Framed { n, octets }) => {
             number(rt, n)?;
             if octets <= out.len() {
                 rejoin(rt, l, mps, &out[0..octets])?;

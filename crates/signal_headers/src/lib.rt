@@ -10,10 +10,9 @@ ghost use Rattle.signal_headers.specs.Headers.{headers_of, rest_of};
 pub use first::{body, read_header};
 use octets::{number, octet};
 
-// What the check of every header in a PDU finds, where the first that fails decides.
+// What is wrong with the first header in a PDU that fails the check.
 #[derive(Clone, Copy)]
-pub enum Checked {
-    Good,
+pub enum BadHeader {
     // A header under 4 octets.
     Cut,
     // A body that runs past the PDU, with that signal's identifier.
@@ -21,21 +20,21 @@ pub enum Checked {
 }
 
 // Every header of the PDU, from the first on.
-pub fn check_headers(pdu: &[u8]) -> Checked
+pub fn check_headers(pdu: &[u8]) -> Result<(), BadHeader>
     ensures { result ≡ headers_of pdu.now }
 {
     let mut t = pdu;
     while 0 < t.len() {
         if t.len() < 4 {
-            return Checked::Cut;
+            return Err(BadHeader::Cut);
         }
         let n = number(t, 2) as usize;
         if t.len() - 4 < n {
-            return Checked::Past(octet(t, 1));
+            return Err(BadHeader::Past(octet(t, 1)));
         }
         t = &t[4 + n..];
     }
-    Checked::Good
+    Ok(())
 }
 
 // The part of the PDU after its first signal; empty where the header check refuses.
@@ -43,7 +42,7 @@ pub fn rest(pdu: &[u8]) -> &[u8]
     ensures { result.now ≡ rest_of pdu.now }
 {
     match check_headers(pdu) {
-        Checked::Good => {
+        Ok(()) => {
             let n = number(pdu, 2) as usize;
             if pdu.len() < 4 + n {
                 &pdu[..0]
@@ -51,7 +50,6 @@ pub fn rest(pdu: &[u8]) -> &[u8]
                 &pdu[4 + n..]
             }
         }
-        Checked::Cut => &pdu[..0],
-        Checked::Past(_) => &pdu[..0],
+        Err(_) => &pdu[..0],
     }
 }

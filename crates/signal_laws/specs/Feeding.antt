@@ -1,11 +1,11 @@
 -- A whole PDU is fed one call a signal (`feeds_of`, crate signal_headers). The calls are no more than the PDU's octets, and only the first can be refused by
 -- the header check.
-use Rattle.std.specs.Prelude.{◌≡◌, refl, List, [], ◌∷◌, ℕ, zero, suc, ◌≤◌, ◌<◌, ltb, length}
+use Rattle.std.specs.Prelude.{◌≡◌, refl, List, [], ◌∷◌, ℕ, zero, suc, ◌≤◌, ◌<◌, ltb, length, Result, Ok, Err}
 use Rattle.std.proofs.Common.{◌∙◌, arith, lt-ltb, le-ltb}
 use Rattle.lists.specs.Choose.{choose, if_cases}
 use Rattle.lists.specs.Fuel.{fuelled, whole, whole_eq}
-use Rattle.signal_headers.specs.declared.Checked.{Checked}
-use Rattle.signal_headers.specs.declared.Checked.TheVariants.{Good, Cut, Past}
+use Rattle.signal_headers.specs.declared.BadHeader.{BadHeader}
+use Rattle.signal_headers.specs.declared.BadHeader.TheVariants.{Cut, Past}
 use Rattle.signal_headers.specs.Headers.{headers_of, rest_if, rest_of, feeds_by, feeds_of}
 use Rattle.signal_laws.specs.Headers.{rest_good, rest_less}
 
@@ -32,11 +32,11 @@ unfolding feeds_of whole
 feeds_most s = within (length s) s
 
 -- what any PDU leaves passes the check: a refusal leaves nothing
-left-good : (k : Checked) (s : List ℕ) → headers_of s ≡ k → headers_of (rest_if k s) ≡ Good
+left-good : (k : Result (Unit {0}) BadHeader) (s : List ℕ) → headers_of s ≡ k → headers_of (rest_if k s) ≡ Ok tt
 unfolding headers_of whole fuelled
-left-good Good s e = rw e at (rest_good s e)
-left-good Cut s e = refl
-left-good (Past i) s e = refl
+left-good (Ok tt) s e = rw e at (rest_good s e)
+left-good (Err Cut) s e = refl
+left-good (Err (Past i)) s e = refl
 
-pub all_good : (s : List ℕ) → headers_of (rest_of s) ≡ Good
+pub all_good : (s : List ℕ) → headers_of (rest_of s) ≡ Ok tt
 all_good s = left-good (headers_of s) s refl

@@ -8,7 +8,7 @@ ghost use Rattle.lists.specs.First.{first};
 use codes::Refusal;
 use octets::{least, put};
 use signal_forms::Signal;
-use signal_headers::Checked;
+use signal_headers::BadHeader;
 use std::io;
 use std::io::Read;
 
@@ -91,16 +91,16 @@ fn again(code: u8, id: u8, body: &[u8], head: &mut [u8], out: &mut [u8]) -> usiz
 fn answer(pdu: &[u8], head: &mut [u8], out: &mut [u8]) -> usize {
     put(head, 3, (signal_headers::rest(pdu).len() % 256) as u8);
     match signal_headers::check_headers(pdu) {
-        Checked::Cut => {
+        Err(BadHeader::Cut) => {
             put(head, 0, 1);
             0
         }
-        Checked::Past(id) => {
+        Err(BadHeader::Past(id)) => {
             put(head, 0, 2);
             put(head, 1, id);
             0
         }
-        Checked::Good => match signal_headers::read_header(pdu) {
+        Ok(()) => match signal_headers::read_header(pdu) {
             None => 0,
             Some(h) => again(h.code, h.identifier, signal_headers::body(pdu), head, out),
         },

@@ -1,6 +1,6 @@
 -- A frame that has passed the first refusals and the test of its CID: the step that its length octets and the number of its job octets decide (definition,
 -- Calls.antt) is that which its payload decides, and what the definition has for the table is the work on its slot (FrameIn.antt), put into the table.
-use Rattle.std.specs.Prelude.{◌≡◌, Bool, not, ℕ, ◌+◌, eqb, length, take, drop}
+use Rattle.std.specs.Prelude.{◌≡◌, Bool, not, ℕ, ◌+◌, eqb, length, take, drop, Result, Ok, Err}
 use Rattle.std.proofs.Math.Path.{refl}
 use Rattle.std.proofs.Common.{sym, ap, ◌∙◌, arith, length-take, length-drop, get_or-take}
 use Rattle.std.proofs.Math.Bool.{true, false}
@@ -26,6 +26,7 @@ use Rattle.definition.specs.Ending.{end, end_of, served_of}
 use Rattle.definition.proofs.Ending.{end-still}
 use Rattle.slot_work.specs.Work.{Work, kept, becomes, in_table, end_kept}
 use Rattle.slot_frame.specs.FrameIn.{joined_to, join_of, frame_of}
+use Rattle.codes.specs.declared.Refusal.{Refusal}
 
 -- ---- a frame to a slot with the assembly a
 
@@ -69,12 +70,12 @@ module _ (mtu mps d : ℕ) (a : Assembly) (q : ℕ) (p : List ℕ) where
 abbrev Quiet : Work → Type 0
 Quiet w = w.out ≡ []
 
-joined-quiet : (place : ℕ) (x : Slot) (count : ℕ) (j : Joined) → (joined_to place x count j).out ≡ []
+joined-quiet : (place : ℕ) (x : Slot) (count : ℕ) (j : Result Joined Refusal) → (joined_to place x count j).out ≡ []
 unfolding joined_to
-joined-quiet place x count (Joined.Refused r) = refl
-joined-quiet place x count (Joined.Assembling a) = refl
-joined-quiet place x count (Joined.Finished len) = refl
-joined-quiet place x count Joined.Dropped = refl
+joined-quiet place x count (Err r) = refl
+joined-quiet place x count (Ok (Joined.Assembling a)) = refl
+joined-quiet place x count (Ok (Joined.Finished len)) = refl
+joined-quiet place x count (Ok Joined.Dropped) = refl
 
 pub frame-quiet : (d place : ℕ) (x : Slot) (link : ℕ) (p : List ℕ) → (frame_of d place x link p).out ≡ []
 unfolding frame_of
@@ -85,12 +86,12 @@ frame-quiet d place x link p =
 
 -- ---- the slot's work in its table
 
-joined_in : (t : Table) (s : ℕ) (x : Slot) (count : ℕ) (j : Joined) → in_table t s (joined_to (place_of t) x count j) ≡ joined t s x count j
+joined_in : (t : Table) (s : ℕ) (x : Slot) (count : ℕ) (j : Result Joined Refusal) → in_table t s (joined_to (place_of t) x count j) ≡ joined t s x count j
 unfolding joined joined_to
-joined_in t s x count (Joined.Refused r) = refl
-joined_in t s x count (Joined.Assembling a) = refl
-joined_in t s x count (Joined.Finished len) = refl
-joined_in t s x count Joined.Dropped = refl
+joined_in t s x count (Err r) = refl
+joined_in t s x count (Ok (Joined.Assembling a)) = refl
+joined_in t s x count (Ok (Joined.Finished len)) = refl
+joined_in t s x count (Ok Joined.Dropped) = refl
 
 -- the slot's tests are the table's, in the same order; a slot that stays leaves its table, and one without credit its tally alone
 module _ (t : Table) (s : ℕ) (js room : List ℕ) where

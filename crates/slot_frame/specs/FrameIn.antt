@@ -1,6 +1,6 @@
 -- What a frame makes of the slot that it comes to, and of that slot's part of the room (document 01, 'Cutting, joining, credits'): the definition's `admitted`
 -- behind the test of its CID, of one slot. Admitted.antt has the law that it is that.
-use Rattle.std.specs.Prelude.{false, not, List, [], ◌∷◌, ℕ, eqb, length}
+use Rattle.std.specs.Prelude.{false, not, List, [], ◌∷◌, ℕ, eqb, length, Result, Ok, Err}
 use Rattle.octets.specs.Octets.{u16_at}
 use Rattle.codes.specs.declared.Refusal.TheVariants.{NotFound, OutOfMemory, QueueFull}
 use Rattle.credit.specs.Account.{received}
@@ -14,13 +14,14 @@ use Rattle.definition.specs.Table.{when◌then◌else◌, is_connected, with_acc
 use Rattle.definition.specs.Outcome.{unassembled}
 use Rattle.definition.specs.Frames.{queued, join_moves}
 use Rattle.slot_work.specs.Work.{Work, kept, becomes}
+use Rattle.codes.specs.declared.Refusal.{Refusal}
 
 -- What the join step decided, for a slot whose credit is used, with places of that size and so many job octets in the frame.
-unfoldable pub joined_to : (place : ℕ) → Slot → (count : ℕ) → Joined → Work
-joined_to place x count (Joined.Refused r) = becomes (left (Disconnecting false) x) (unassembled place ∷ []) (Refused r)
-joined_to place x count (Joined.Assembling a) = becomes (with_assembly a x) (join_moves place x.assembly x.queue.count count (Joined.Assembling a)) Done
-joined_to place x count (Joined.Finished len) = becomes (with_queue (queued len x.queue) (with_assembly idle x)) (join_moves place x.assembly x.queue.count count (Joined.Finished len)) Done
-joined_to place x count Joined.Dropped = becomes (with_assembly idle x) (join_moves place x.assembly x.queue.count count Joined.Dropped) (Refused QueueFull)
+unfoldable pub joined_to : (place : ℕ) → Slot → (count : ℕ) → Result Joined Refusal → Work
+joined_to place x count (Err r) = becomes (left (Disconnecting false) x) (unassembled place ∷ []) (Refused r)
+joined_to place x count (Ok (Joined.Assembling a)) = becomes (with_assembly a x) (join_moves place x.assembly x.queue.count count (Ok (Joined.Assembling a))) Done
+joined_to place x count (Ok (Joined.Finished len)) = becomes (with_queue (queued len x.queue) (with_assembly idle x)) (join_moves place x.assembly x.queue.count count (Ok (Joined.Finished len))) Done
+joined_to place x count (Ok Joined.Dropped) = becomes (with_assembly idle x) (join_moves place x.assembly x.queue.count count (Ok Joined.Dropped)) (Refused QueueFull)
 
 -- The payload joined.
 abbrev pub join_of : (d place : ℕ) → Slot → (payload : List ℕ) → Work

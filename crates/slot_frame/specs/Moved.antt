@@ -1,5 +1,5 @@
 -- A payload joined in its slot's part of the room: what crate sar_join leaves there is what the definition's moves make of it, case by case.
-use Rattle.std.specs.Prelude.{◌≡◌, Bool, true, false, List, [], ◌∷◌, ℕ, length, drop, replicate}
+use Rattle.std.specs.Prelude.{◌≡◌, Bool, true, false, List, [], ◌∷◌, ℕ, length, drop, replicate, Result, Ok, Err}
 use Rattle.std.proofs.Math.Path.{refl}
 use Rattle.std.proofs.lemmas.List.Edits.{sets}
 use Rattle.std.proofs.Math.Seq.{take-length}
@@ -39,14 +39,14 @@ module _ (place : ℕ) (a : Assembly) (queued : ℕ) (xs p : List ℕ) where
   finished true e = alone e
   finished false e = assembling e
 
-  pub join_moves_lem : (j : Joined) → join_part place a queued j xs p ≡ moves itself js xs (join_moves place a queued (length js) j)
+  pub join_moves_lem : (j : Result Joined Refusal) → join_part place a queued j xs p ≡ moves itself js xs (join_moves place a queued (length js) j)
   unfolding join_part moves move fill
-  join_moves_lem (Joined.Refused r) = refl
-  join_moves_lem Joined.Dropped = refl
-  join_moves_lem (Joined.Finished len) = finished (is_idle a) refl
-  join_moves_lem (Joined.Assembling b) = grown
+  join_moves_lem (Err r) = refl
+  join_moves_lem (Ok Joined.Dropped) = refl
+  join_moves_lem (Ok (Joined.Finished len)) = finished (is_idle a) refl
+  join_moves_lem (Ok (Joined.Assembling b)) = grown
 
   -- a refusal by which the channel is left: nothing is joined, and the place for assembly is zeroed
-  pub refused-moves : (r : Refusal) {ys zs : List ℕ} → ys ≡ join_part place a queued (Joined.Refused r) xs p → zs ≡ sets ys 0 (replicate place 0) → zs ≡ moves itself js xs (unassembled place ∷ [])
+  pub refused-moves : (r : Refusal) {ys zs : List ℕ} → ys ≡ join_part place a queued (Err r) xs p → zs ≡ sets ys 0 (replicate place 0) → zs ≡ moves itself js xs (unassembled place ∷ [])
   unfolding join_part moves move fill
   refused-moves r e f = rw e at f

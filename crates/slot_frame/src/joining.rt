@@ -25,21 +25,21 @@ pub fn join(x: Slot, d: usize, place: usize, part: &mut [u8], payload: &[u8]) ->
     let waiting = q.count as usize;
     let step = sar_join_room::join_frame(part, place, x.mtu, x.mps, d, a, waiting, payload);
     match step {
-        Joined::Refused(r) => {
+        Err(r) => {
             octets::zero(part, 0, place);
             let y = table_slot::left(x, ChannelState::Disconnecting(false));
             slot_work::became(y, Answer::Refused(r), 0)
         }
-        Joined::Dropped => {
+        Ok(Joined::Dropped) => {
             let y = table_slot::with_assembly(x, Assembly { have: 0, want: 0 });
             slot_work::became(y, Answer::Refused(Refusal::QueueFull), 0)
         }
-        Joined::Finished(len) => {
+        Ok(Joined::Finished(len)) => {
             let y = table_slot::with_assembly(x, Assembly { have: 0, want: 0 });
             let z = table_slot::with_queue(y, queued(q, len));
             slot_work::became(z, Answer::Done, 0)
         }
-        Joined::Assembling(b) => {
+        Ok(Joined::Assembling(b)) => {
             let y = table_slot::with_assembly(x, b);
             slot_work::became(y, Answer::Done, 0)
         }

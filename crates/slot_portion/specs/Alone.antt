@@ -1,9 +1,8 @@
 -- What a start and a portion leave alone: of a slot a start changes the peer's credits, what is counted of sends and the job, a portion the job; and what they give out is within the buffer.
-use Rattle.std.specs.Prelude.{◌≡◌, refl, Bool, true, false, not, ℕ, ◌-◌, ◌≤◌, ltb}
+use Rattle.std.specs.Prelude.{◌≡◌, refl, Bool, true, false, not, ℕ, ◌-◌, ◌≤◌, ltb, Result, Ok, Err}
 use Rattle.std.proofs.Common.{arith, ltb-false}
 use Rattle.lists.specs.Choose.{choose, if_cases}
-use Rattle.sar_cut.specs.declared.Plan.{Plan}
-use Rattle.sar_cut.specs.declared.Plan.TheVariants as Plan
+use Rattle.sar_cut.specs.declared.Framed.{Framed}
 use Rattle.sar_cut.specs.Cutting.{frames_length, plan_send}
 use Rattle.channel.specs.declared.Slot.{Slot}
 use Rattle.definition.specs.Table.{is_connected, is_open, with_job, blocks}
@@ -12,16 +11,17 @@ use Rattle.slot_work.specs.Work.{sending_as}
 use Rattle.slot_portion.specs.Filled.{Filled}
 use Rattle.slot_portion.specs.Starting.{start_planned_of, start_of}
 use Rattle.slot_portion.specs.Giving.{portioned_of, portion_of}
+use Rattle.codes.specs.declared.Refusal.{Refusal}
 
 -- ---- a start
 
 abbrev BegunAlone : Slot → Filled → Type 0
 BegunAlone x w = w.slot ≡ with_job w.slot.job (sending_as w.slot x)
 
-planned-alone : (x : Slot) (l size : ℕ) (p : Plan) → BegunAlone x (start_planned_of x l size p)
+planned-alone : (x : Slot) (l size : ℕ) (p : Result Framed Refusal) → BegunAlone x (start_planned_of x l size p)
 unfolding start_planned_of
-planned-alone x l size (Plan.Refused r) = if_cases (λ y. y ≡ with_job y.job (sending_as y x)) (blocks r) (λ _. refl) (λ _. refl)
-planned-alone x l size (Plan.Frames n octets) = if_cases (BegunAlone x) (ltb size (buffer_size x.peer.mps l)) (λ _. refl) (λ _. refl)
+planned-alone x l size (Err r) = if_cases (λ y. y ≡ with_job y.job (sending_as y x)) (blocks r) (λ _. refl) (λ _. refl)
+planned-alone x l size (Ok framed) = if_cases (BegunAlone x) (ltb size (buffer_size x.peer.mps l)) (λ _. refl) (λ _. refl)
 
 pub start-alone : (x : Slot) (l size : ℕ) → (start_of x l size).slot ≡ with_job (start_of x l size).slot.job (sending_as (start_of x l size).slot x)
 unfolding start_of
@@ -33,10 +33,10 @@ start-alone x l size =
 abbrev NoneOut : Filled → Type 0
 NoneOut w = w.octets ≡ 0
 
-planned-none : (x : Slot) (l size : ℕ) (p : Plan) → NoneOut (start_planned_of x l size p)
+planned-none : (x : Slot) (l size : ℕ) (p : Result Framed Refusal) → NoneOut (start_planned_of x l size p)
 unfolding start_planned_of
-planned-none x l size (Plan.Refused r) = refl
-planned-none x l size (Plan.Frames n octets) = if_cases NoneOut (ltb size (buffer_size x.peer.mps l)) (λ _. refl) (λ _. refl)
+planned-none x l size (Err r) = refl
+planned-none x l size (Ok framed) = if_cases NoneOut (ltb size (buffer_size x.peer.mps l)) (λ _. refl) (λ _. refl)
 
 -- a start gives no octet out
 pub start_none : (x : Slot) (l size : ℕ) → (start_of x l size).octets ≡ 0

@@ -1,12 +1,11 @@
 -- The work of the three calls on one slot, put into the table, is what the definition's calls come to behind their gate.
-use Rattle.std.specs.Prelude.{◌≡◌, Bool, List, ℕ, ◌-◌}
+use Rattle.std.specs.Prelude.{◌≡◌, Bool, List, ℕ, ◌-◌, Result, Ok, Err}
 use Rattle.std.proofs.Math.Path.{refl}
 use Rattle.std.proofs.Common.{sym}
 use Rattle.std.proofs.Math.Bool.{true, false, not}
 use Rattle.std.proofs.Math.Dec.{eqb, ltb}
 use Rattle.lists.specs.Choose.{choose}
-use Rattle.sar_cut.specs.declared.Plan.{Plan}
-use Rattle.sar_cut.specs.declared.Plan.TheVariants as Plan
+use Rattle.sar_cut.specs.declared.Framed.{Framed}
 use Rattle.channel.specs.declared.Table.{Table}
 use Rattle.definition.specs.Table.{place_of, slot_at, is_connected, is_open}
 use Rattle.definition.specs.Ending.{end_of}
@@ -17,18 +16,19 @@ use Rattle.slot_portion.specs.Filled.{in_table, refused_in, unsent_in}
 use Rattle.slot_portion.specs.Starting.{start_planned_of, start_of}
 use Rattle.slot_portion.specs.Giving.{portioned_of, portion_of}
 use Rattle.slot_portion.specs.Cancelling.{cancel_of}
+use Rattle.codes.specs.declared.Refusal.{Refusal}
 
 module _ (t : Table) (s : ℕ) (jobs room buffer job : List ℕ) where
   -- ---- start
-  planned-into : (l size : ℕ) (p : Plan)
+  planned-into : (l size : ℕ) (p : Result Framed Refusal)
       → end_of t jobs room buffer job (start_planned t s (slot_at t s) l size p) ≡ end_of t jobs room buffer job (in_table t s (start_planned_of (slot_at t s) l size p))
   unfolding start_planned start_planned_of choose
-  planned-into l size (Plan.Refused r) = unsent_in t s jobs room buffer job r
-  planned-into l size (Plan.Frames n octets) = go (ltb size (buffer_size (slot_at t s).peer.mps l)) refl
+  planned-into l size (Err r) = unsent_in t s jobs room buffer job r
+  planned-into l size (Ok framed) = go (ltb size (buffer_size (slot_at t s).peer.mps l)) refl
     where
       go : (b : Bool) → ltb size (buffer_size (slot_at t s).peer.mps l) ≡ b
-          → end_of t jobs room buffer job (start_planned t s (slot_at t s) l size (Plan.Frames n octets))
-          ≡ end_of t jobs room buffer job (in_table t s (start_planned_of (slot_at t s) l size (Plan.Frames n octets)))
+          → end_of t jobs room buffer job (start_planned t s (slot_at t s) l size (Ok framed))
+          ≡ end_of t jobs room buffer job (in_table t s (start_planned_of (slot_at t s) l size (Ok framed)))
       go true e = rw e (refused_in t s jobs room buffer job _)
       go false e = rw e
 

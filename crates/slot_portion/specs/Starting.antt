@@ -1,14 +1,13 @@
 -- What a start makes of one slot, as data: its tests are the definition's (`start_on` of Portions.antt). And the laws by which the code asks for its plan and
 -- writes the head of the first frame.
-use Rattle.std.specs.Prelude.{◌≡◌, not, List, [], ◌∷◌, ◌++◌, ℕ, ◌-◌, ◌≤◌, ltb}
+use Rattle.std.specs.Prelude.{◌≡◌, not, List, [], ◌∷◌, ◌++◌, ℕ, ◌-◌, ◌≤◌, ltb, Result, Ok, Err}
 use Rattle.std.proofs.Common.{sym, ◌∙◌, arith}
 use Rattle.std.proofs.lemmas.List.Edits.{sets}
 use Rattle.octets.specs.Octets.{le16}
 use Rattle.octets.specs.Sets.{sets-append}
 use Rattle.codes.specs.Limits.{size_least}
 use Rattle.codes.specs.declared.Refusal.TheVariants.{NoRoom, ChannelClosed, JobOpen}
-use Rattle.sar_cut.specs.declared.Plan.{Plan}
-use Rattle.sar_cut.specs.declared.Plan.TheVariants as Plan
+use Rattle.sar_cut.specs.declared.Framed.{Framed}
 use Rattle.sar_cut.specs.Cutting.{frame_count, frames_length, longest_job, plan_send}
 use Rattle.sar_cut.proofs.CutLaws.{split}
 use Rattle.sar_cut.proofs.CutLaws.{count_small, plan_above_mtu, plan_too_long, plan_bad_mps, plan_busy, plan_frames}
@@ -19,14 +18,15 @@ use Rattle.definition.specs.Table.{when◌then◌else◌, is_connected, is_open,
 use Rattle.definition.specs.Frames.{first_header}
 use Rattle.definition.specs.Portions.{longest, buffer_size, begun}
 use Rattle.slot_portion.specs.Filled.{Filled, stays}
+use Rattle.codes.specs.declared.Refusal.{Refusal}
 
-unfoldable pub start_planned_of : Slot → (l size : ℕ) → Plan → Filled
-start_planned_of x l size (Plan.Refused r) = stays (blocked_by r x) r
-start_planned_of x l size (Plan.Frames n octets) =
+unfoldable pub start_planned_of : Slot → (l size : ℕ) → Result Framed Refusal → Filled
+start_planned_of x l size (Err r) = stays (blocked_by r x) r
+start_planned_of x l size (Ok framed) =
     when ltb size (buffer_size x.peer.mps l) then stays x NoRoom
     else record {
-      answer = Frames x.link n;
-      slot = with_job (begun l n) (count_sent n (with_peer_credits (x.peer.credits - n) x));
+      answer = Frames x.link framed.n;
+      slot = with_job (begun l framed.n) (count_sent framed.n (with_peer_credits (x.peer.credits - framed.n) x));
       at = 0;
       out = given (first_header x.peer.cid (longest x.peer.mps l) l) ∷ [];
       octets = 0;

@@ -7,7 +7,7 @@ ghost use Rattle.slot_portion.specs.Starting.{start_of};
 
 use channel::{Answer, FRAME_HEAD, OpenJob, Slot};
 use codes::Refusal;
-use sar_cut::Plan;
+use sar_cut::Framed;
 use slot_work::Worked;
 
 // An output that any plan fits, so that none is refused for it: a start writes no frames.
@@ -37,8 +37,8 @@ pub fn start_from(x: Slot, stated: usize, buffer: &mut [u8]) -> Worked
         return slot_work::became(x, Answer::Refused(Refusal::JobOpen), 0);
     }
     match sar_cut::plan_send(stated, x.peer.mtu, mps, credits, ENOUGH) {
-        Plan::Refused(r) => slot_work::became(table_slot::blocked_by(x, r), Answer::Refused(r), 0),
-        Plan::Frames { n, octets: _ } => {
+        Err(r) => slot_work::became(table_slot::blocked_by(x, r), Answer::Refused(r), 0),
+        Ok(Framed { n, octets: _ }) => {
             let l = stated as u16;
             let payload = crate::sizes::longest(mps, l);
             if buffer.len() < FRAME_HEAD + payload as usize {

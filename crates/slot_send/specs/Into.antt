@@ -1,12 +1,11 @@
 -- A send's work on one slot, put into the table, is what the definition's send leaves; and of the slot it changes the peer's credits and what is counted of sends alone.
-use Rattle.std.specs.Prelude.{◌≡◌, Bool, ℕ, ◌≤◌, length}
+use Rattle.std.specs.Prelude.{◌≡◌, Bool, ℕ, ◌≤◌, length, Result, Ok, Err}
 use Rattle.std.proofs.Math.Path.{refl, sym}
 use Rattle.std.proofs.Common.{ap, ◌∙◌, arith}
 use Rattle.std.proofs.Math.Bool.{true, false, not}
 use mathlib.Core.List.{List, []}
 use Rattle.lists.specs.Choose.{choose}
-use Rattle.sar_cut.specs.declared.Plan.{Plan}
-use Rattle.sar_cut.specs.declared.Plan.TheVariants as Plan
+use Rattle.sar_cut.specs.declared.Framed.{Framed}
 use Rattle.sar_cut.specs.Cutting.{plan_send}
 use Rattle.sar_cut.proofs.CutLaws.{plan_allowed}
 use Rattle.codes.specs.declared.Refusal.{Refusal}
@@ -39,13 +38,13 @@ module _ (t : Table) (s : ℕ) (sdu out : List ℕ) where
       go true e = rw e (end-slot t t s (count_blocked_send (slot_at t s)) (Refused r) sdu [] out [])
       go false e = rw e (refused-into r)
 
-  planned-into : (p : Plan) → plan_send (length sdu) (slot_at t s).peer.mtu (slot_at t s).peer.mps (slot_at t s).peer.credits (length out) ≡ p
+  planned-into : (p : Result Framed Refusal) → plan_send (length sdu) (slot_at t s).peer.mtu (slot_at t s).peer.mps (slot_at t s).peer.credits (length out) ≡ p
       → end_of t sdu [] out [] (planned t s (slot_at t s) (length sdu) p) ≡ into t s (planned_from (slot_at t s) sdu out p)
   unfolding planned planned_from
-  planned-into (Plan.Refused r) e = unsent-into r
-  planned-into (Plan.Frames n octets) e =
+  planned-into (Err r) e = unsent-into r
+  planned-into (Ok framed) e =
       let x = slot_at t s in
-      sym (sends t s x sdu out (plan_allowed (length sdu) x.peer.mtu x.peer.mps x.peer.credits (length out) n octets e) refl refl)
+      sym (sends t s x sdu out (plan_allowed (length sdu) x.peer.mtu x.peer.mps x.peer.credits (length out) framed.n framed.octets e) refl refl)
 
   -- THE WORK ON THE SLOT IS THE DEFINITION'S SEND
   pub sent-into : end_of t sdu [] out [] (sent_on t s (length sdu) (length out)) ≡ into t s (sent_from (slot_at t s) sdu out)
@@ -58,10 +57,10 @@ module _ (t : Table) (s : ℕ) (sdu out : List ℕ) where
       go false false e f = rw (e, f) (planned-into _ refl)
 
 -- of a slot a send changes the peer's credits and what is counted of sends alone
-planned_sends : (x : Slot) (sdu out : List ℕ) (p : Plan) → (planned_from x sdu out p).gave.slot ≡ sending_as (planned_from x sdu out p).gave.slot x
+planned_sends : (x : Slot) (sdu out : List ℕ) (p : Result Framed Refusal) → (planned_from x sdu out p).gave.slot ≡ sending_as (planned_from x sdu out p).gave.slot x
 unfolding planned_from
-planned_sends x sdu out (Plan.Refused r) = blocked_sends r x
-planned_sends x sdu out (Plan.Frames n octets) = refl
+planned_sends x sdu out (Err r) = blocked_sends r x
+planned_sends x sdu out (Ok framed) = refl
 
 pub sends_alone : (x : Slot) (sdu out : List ℕ) → (sent_from x sdu out).gave.slot ≡ sending_as (sent_from x sdu out).gave.slot x
 unfolding sent_from choose
@@ -73,11 +72,11 @@ sends_alone x sdu out = go (not (is_connected x.state)) (is_open x.job) refl ref
     go false false e f = rw (e, f) (planned_sends x sdu out (plan_send (length sdu) x.peer.mtu x.peer.mps x.peer.credits (length out)))
 
 -- its frames are no more octets than the output has
-planned-within : (x : Slot) (sdu out : List ℕ) (p : Plan) → plan_send (length sdu) x.peer.mtu x.peer.mps x.peer.credits (length out) ≡ p → (planned_from x sdu out p).gave.octets ≤ length out
+planned-within : (x : Slot) (sdu out : List ℕ) (p : Result Framed Refusal) → plan_send (length sdu) x.peer.mtu x.peer.mps x.peer.credits (length out) ≡ p → (planned_from x sdu out p).gave.octets ≤ length out
 unfolding planned_from
-planned-within x sdu out (Plan.Refused r) e = omega arith
-planned-within x sdu out (Plan.Frames n octets) e =
-    let a = plan_allowed (length sdu) x.peer.mtu x.peer.mps x.peer.credits (length out) n octets e in
+planned-within x sdu out (Err r) e = omega arith
+planned-within x sdu out (Ok framed) e =
+    let a = plan_allowed (length sdu) x.peer.mtu x.peer.mps x.peer.credits (length out) framed.n framed.octets e in
     rw a.long a.holds
 
 pub sent-within : (x : Slot) (sdu out : List ℕ) → (sent_from x sdu out).gave.octets ≤ length out

@@ -1,15 +1,15 @@
 -- What a send does to one slot: the tests are the definition's (`sent_on` of Frames.antt), and the frames stand as octets.
-use Rattle.std.specs.Prelude.{not, List, ℕ, ◌-◌, length}
+use Rattle.std.specs.Prelude.{not, List, ℕ, ◌-◌, length, Result, Ok, Err}
 use Rattle.std.proofs.lemmas.List.Edits.{sets}
 use Rattle.codes.specs.declared.Refusal.TheVariants.{ChannelClosed, JobOpen}
-use Rattle.sar_cut.specs.declared.Plan.{Plan}
-use Rattle.sar_cut.specs.declared.Plan.TheVariants as Plan
+use Rattle.sar_cut.specs.declared.Framed.{Framed}
 use Rattle.sar_cut.specs.Cutting.{frames_of, plan_send}
 use Rattle.channel.specs.declared.Answer.TheVariants.{Refused, Frames}
 use Rattle.channel.specs.declared.Slot.{Slot}
 use Rattle.definition.specs.Table.{when◌then◌else◌, is_connected, with_peer_credits, count_sent, blocked_by, is_open}
 use Rattle.slot_work.specs.declared.Worked.{Worked}
 pub use Rattle.slot_work.specs.Work.{worked}
+use Rattle.codes.specs.declared.Refusal.{Refusal}
 
 -- what work on a slot leaves: what it gave, and the output
 pub record Work : Type 0 where
@@ -19,10 +19,10 @@ pub record Work : Type 0 where
 abbrev pub work : Worked → (out : List ℕ) → Work
 work w out = record { gave = w; out = out }
 
-unfoldable pub planned_from : Slot → (sdu out : List ℕ) → Plan → Work
-planned_from x sdu out (Plan.Refused r) = work (worked (Refused r) (blocked_by r x) 0) out
-planned_from x sdu out (Plan.Frames n octets) =
-    work (worked (Frames x.link n) (count_sent n (with_peer_credits (x.peer.credits - n) x)) octets) (sets out 0 (frames_of x.peer.cid x.peer.mps sdu))
+unfoldable pub planned_from : Slot → (sdu out : List ℕ) → Result Framed Refusal → Work
+planned_from x sdu out (Err r) = work (worked (Refused r) (blocked_by r x) 0) out
+planned_from x sdu out (Ok framed) =
+    work (worked (Frames x.link framed.n) (count_sent framed.n (with_peer_credits (x.peer.credits - framed.n) x)) framed.octets) (sets out 0 (frames_of x.peer.cid x.peer.mps sdu))
 
 unfoldable pub sent_from : Slot → (sdu out : List ℕ) → Work
 sent_from x sdu out =

@@ -1,9 +1,8 @@
 -- The law of a send: what is planned and done is the definition's. The octets of its frames, given the job's, are those that `sar_cut` writes (Sent.antt of
 -- `rules_portions`).
-use Rattle.std.specs.Prelude.{◌≡◌, refl, List, [], ℕ, ◌-◌, ◌≤◌, length}
+use Rattle.std.specs.Prelude.{◌≡◌, refl, List, [], ℕ, ◌-◌, ◌≤◌, length, Ok}
 use Rattle.std.proofs.Common.{arith}
 use Rattle.std.proofs.lemmas.List.Edits.{sets}
-use Rattle.sar_cut.specs.declared.Plan.TheVariants as Plan
 use Rattle.sar_cut.specs.Cutting.{frame_count, frames_of}
 use Rattle.sar_cut.specs.CutLaws.{Allowed}
 use Rattle.channel.specs.declared.Answer.TheVariants.{Frames}
@@ -22,7 +21,7 @@ pub sends : (t : Table) (s : ℕ) (x : Slot) (sdu out : List ℕ) {n octets : �
     → Allowed (length sdu) x.peer.mtu x.peer.mps x.peer.credits (length out) n octets
     → r ≡ gave (Frames x.link n) (put_slot t s (count_sent n (with_peer_credits (x.peer.credits - n) x))) octets
     → out' ≡ sets out 0 (frames_of x.peer.cid x.peer.mps sdu)
-    → end r [] out' [] ≡ end_of t sdu [] out [] (planned t s x (length sdu) (Plan.Frames n octets))
+    → end r [] out' [] ≡ end_of t sdu [] out [] (planned t s x (length sdu) (Ok (record { n = n; octets = octets })))
 unfolding end_of planned written
 sends t s x sdu out a e o =
     let w : 2 ≤ x.peer.mps = omega (arith, a.wide) in

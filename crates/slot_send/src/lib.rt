@@ -8,7 +8,7 @@ ghost use Rattle.slot_send.specs.Sending.{worked, work, sent_from};
 
 use channel::{Answer, Slot};
 use codes::Refusal;
-use sar_cut::Plan;
+use sar_cut::Framed;
 use slot_work::Worked;
 
 // A refusal; x is the slot as it leaves it.
@@ -32,8 +32,8 @@ pub fn send_from(x: Slot, sdu: &[u8], out: &mut [u8]) -> Worked
         return refused(x, Refusal::JobOpen);
     }
     match sar_frames::send_job(out, x.peer.cid, x.peer.mtu, x.peer.mps, credits, sdu) {
-        Plan::Refused(r) => refused(table_slot::blocked_by(x, r), r),
-        Plan::Frames { n, octets } => {
+        Err(r) => refused(table_slot::blocked_by(x, r), r),
+        Ok(Framed { n, octets }) => {
             let used = n as u16;
             let y = table_slot::with_peer_credits(x, credits - used);
             let slot = table_slot::count_sent(y, n as u64);

@@ -8,17 +8,12 @@ pub returns-then-octet-ne-CREDITS : goal.returns-then-octet-ne-CREDITS
 unfolding credits_in choose
 returns-then-octet-ne-CREDITS c = rw (← c.octet.ensures, ne_eqb _ _ c.if-octet-ne-CREDITS.true)
 
-pub returns-in-Good : goal.returns-in-Good
+pub returns-in-Ok : goal.returns-in-Ok
 unfolding credits_in choose
-returns-in-Good c =
-    rw (← c.octet.ensures, eq-eqb _ _ c.if-octet-ne-CREDITS.false, ← c.check_headers.ensures, c.in-Good.is, ← c.body.ensures) c.read_le_credit_flow_ind.ensures
+returns-in-Ok c =
+    rw (← c.octet.ensures, eq-eqb _ _ c.if-octet-ne-CREDITS.false, ← c.check_headers.ensures, c.in-Ok.is, ← c.body.ensures) c.read_le_credit_flow_ind.ensures
 
-pub returns-in-Cut : goal.returns-in-Cut
+pub returns-in-Err : goal.returns-in-Err
 unfolding credits_in choose
-returns-in-Cut c =
-    rw (← c.octet.ensures, eq-eqb _ _ c.if-octet-ne-CREDITS.false, ← c.check_headers.ensures, c.in-Cut.is)
-
-pub returns-in-Past : goal.returns-in-Past
-unfolding credits_in choose
-returns-in-Past c =
-    rw (← c.octet.ensures, eq-eqb _ _ c.if-octet-ne-CREDITS.false, ← c.check_headers.ensures, c.in-Past.is)
+returns-in-Err c =
+    rw (← c.octet.ensures, eq-eqb _ _ c.if-octet-ne-CREDITS.false, ← c.check_headers.ensures, c.in-Err.is)

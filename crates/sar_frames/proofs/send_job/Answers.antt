@@ -9,13 +9,13 @@ use Rattle.sar_frames.proofs.send_job.Goals as goal
 pub cut_job-requires : goal.cut_job-requires
 cut_job-requires c =
     let a = c.args in
-    let k = plan_allowed (length a.sdu.now) a.mtu a.mps a.credits (length a.out.now) _ _ (sym c.plan_send-plan.ensures ∙ c.in-Frames.is) in
+    let k = plan_allowed (length a.sdu.now) a.mtu a.mps a.credits (length a.out.now) _ _ (sym c.plan_send-plan.ensures ∙ c.in-Ok.is) in
     omega arith
 
-pub returns-in-Refused : goal.returns-in-Refused
+pub returns-in-Err : goal.returns-in-Err
 unfolding output_after
-returns-in-Refused c = (sym c.in-Refused.is ∙ c.plan_send-plan.ensures, refl)
+returns-in-Err c = (sym c.in-Err.is ∙ c.plan_send-plan.ensures, refl)
 
-pub returns-in-Frames : goal.returns-in-Frames
+pub returns-in-Ok : goal.returns-in-Ok
 unfolding output_after
-returns-in-Frames c = (sym c.in-Frames.is ∙ c.plan_send-plan.ensures, c.cut_job.ensures)
+returns-in-Ok c = (sym c.in-Ok.is ∙ c.plan_send-plan.ensures, c.cut_job.ensures)

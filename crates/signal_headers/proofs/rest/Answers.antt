@@ -1,9 +1,10 @@
 -- `signal_headers::rest` meets its contract: what `check_headers` answers tells which case of `rest_if` it is.
+use Rattle.std.specs.Prelude.{Result}
 use mathlib.Core.Path.{sym, ap, ◌∙◌}
 use native.Mathlib.Omega.{arith}
 use lib.ListN.{drop_of_length-le}
 use Rattle.octets.specs.Sets.{tail-part}
-use Rattle.signal_headers.specs.declared.Checked.{Checked}
+use Rattle.signal_headers.specs.declared.BadHeader.{BadHeader}
 use Rattle.signal_headers.specs.Headers.{rest_if, size_of}
 use Rattle.signal_headers.proofs.rest.Goals as goal
 
@@ -11,17 +12,13 @@ pub returns-then-pdu-n : goal.returns-then-pdu-n
 returns-then-pdu-n c =
     let s = c.args.pdu.now in
     sym (drop_of_length-le s {i = size_of s} (omega (arith, c.number-n.ensures, c.if-pdu-n.true)))
-    ∙ ap (λ (k : Checked). rest_if k s) (sym c.in-Good.is ∙ c.check_headers.ensures)
+    ∙ ap (λ (k : Result (Unit {0}) BadHeader). rest_if k s) (sym c.in-Ok.is ∙ c.check_headers.ensures)
 
 pub returns-else-pdu-n : goal.returns-else-pdu-n
 returns-else-pdu-n c =
     let s = c.args.pdu.now in
-    rw (c.number-n.ensures, tail-part) (ap (λ (k : Checked). rest_if k s) (sym c.in-Good.is ∙ c.check_headers.ensures))
+    rw (c.number-n.ensures, tail-part) (ap (λ (k : Result (Unit {0}) BadHeader). rest_if k s) (sym c.in-Ok.is ∙ c.check_headers.ensures))
 
-pub returns-in-Cut : goal.returns-in-Cut
-returns-in-Cut c =
-    ap (λ (k : Checked). rest_if k c.args.pdu.now) (sym c.in-Cut.is ∙ c.check_headers.ensures)
-
-pub returns-in-Past : goal.returns-in-Past
-returns-in-Past c =
-    ap (λ (k : Checked). rest_if k c.args.pdu.now) (sym c.in-Past.is ∙ c.check_headers.ensures)
+pub returns-in-Err : goal.returns-in-Err
+returns-in-Err c =
+    ap (λ (k : Result (Unit {0}) BadHeader). rest_if k c.args.pdu.now) (sym c.in-Err.is ∙ c.check_headers.ensures)

@@ -28,7 +28,7 @@ overflow_cast-used c =
     let a = c.args in
     let x = a.x in
     let e : c.send_job.result ≡ plan_send (length a.sdu.now) x.peer.mtu x.peer.mps x.peer.credits (length a.out.now) = c.send_job.ensures.0 in
-    let k = plan_allowed (length a.sdu.now) x.peer.mtu x.peer.mps x.peer.credits (length a.out.now) _ _ (sym e ∙ c.in-Frames.is) in
+    let k = plan_allowed (length a.sdu.now) x.peer.mtu x.peer.mps x.peer.credits (length a.out.now) _ _ (sym e ∙ c.in-Ok.is) in
     omega (arith, k.frames, k.paid, c.well_formed)
 
 pub overflow_sub-credits : goal.overflow_sub-credits
@@ -36,12 +36,12 @@ overflow_sub-credits c =
     let a = c.args in
     let x = a.x in
     let e : c.send_job.result ≡ plan_send (length a.sdu.now) x.peer.mtu x.peer.mps x.peer.credits (length a.out.now) = c.send_job.ensures.0 in
-    let k = plan_allowed (length a.sdu.now) x.peer.mtu x.peer.mps x.peer.credits (length a.out.now) _ _ (sym e ∙ c.in-Frames.is) in
+    let k = plan_allowed (length a.sdu.now) x.peer.mtu x.peer.mps x.peer.credits (length a.out.now) _ _ (sym e ∙ c.in-Ok.is) in
     omega (arith, k.frames, k.paid)
 
-pub returns-in-Refused : goal.returns-in-Refused
+pub returns-in-Err : goal.returns-in-Err
 unfolding sent_from planned_from choose output_after
-returns-in-Refused c =
+returns-in-Err c =
     rw (
       ← c.is_connected.ensures,
       c.if-not-is_connected.false-raw,
@@ -49,14 +49,14 @@ returns-in-Refused c =
       c.if-is_open.false,
       ← c.send_job.ensures.0,
       c.send_job.ensures.1,
-      c.in-Refused.is,
-      c.refused-in-Refused.ensures,
+      c.in-Err.is,
+      c.refused-in-Err.ensures,
       c.blocked_by.ensures,
     )
 
-pub returns-in-Frames : goal.returns-in-Frames
+pub returns-in-Ok : goal.returns-in-Ok
 unfolding sent_from planned_from choose output_after
-returns-in-Frames c =
+returns-in-Ok c =
     rw (
       ← c.is_connected.ensures,
       c.if-not-is_connected.false-raw,
@@ -64,7 +64,7 @@ returns-in-Frames c =
       c.if-is_open.false,
       ← c.send_job.ensures.0,
       c.send_job.ensures.1,
-      c.in-Frames.is,
+      c.in-Ok.is,
       c.count_sent-slot.ensures,
       c.with_peer_credits-y.ensures,
     )

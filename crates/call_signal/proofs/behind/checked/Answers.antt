@@ -13,7 +13,7 @@ unfolding choose sizes checked
 returns-then-pdu-eq0 c =
     rw (
       ← c.check_headers.ensures,
-      c.in-Good.is,
+      c.in-Ok.is,
       eq-eqb _ _ c.if-pdu-eq0.true,
       c.done.ensures,
     ) (sym (end-still _ _ _ _ _ _ _))
@@ -33,7 +33,7 @@ unfolding choose sizes checked
 returns-else-pdu-eq0 c =
     rw (
       ← c.check_headers.ensures,
-      c.in-Good.is,
+      c.in-Ok.is,
       ne_eqb _ _ c.if-pdu-eq0.false,
       ← c.octet-code.ensures,
       ← c.octet-id.ensures,

@@ -1,5 +1,6 @@
 -- `slot_frame::joining::join` meets its contract: the part after the join is that of the definition's moves, and each arm gives the slot that the
 -- definition has for its case.
+use Rattle.std.specs.Prelude.{Ok}
 use mathlib.Core.Path.{sym, ◌∙◌}
 use native.Mathlib.Omega.{arith}
 use Rattle.sar_join.specs.declared.Joined.TheVariants as Joined
@@ -16,12 +17,12 @@ queued-requires c =
     let free = finished-free x.mtu x.mps g.d x.assembly x.queue.count g.payload.now _ (sym c.join_frame-step.ensures.0 ∙ c.in-Finished.is) in
     omega (arith, c.requires.2)
 
-pub returns-in-Refused : goal.returns-in-Refused
+pub returns-in-Err : goal.returns-in-Err
 unfolding joined_to sizes
-returns-in-Refused c =
+returns-in-Err c =
     let g = c.args in
     let x = g.x in
-    let told = c.in-Refused.is in
+    let told = c.in-Err.is in
     rw (← c.join_frame-step.ensures.0, told) (rw c.left-y.ensures at c.became.ensures, refused-moves g.place x.assembly x.queue.count g.part.now g.payload.now _ (rw told at c.join_frame-step.ensures.1) c.zero.ensures)
 
 pub returns-in-Dropped : goal.returns-in-Dropped
@@ -30,7 +31,7 @@ returns-in-Dropped c =
     let g = c.args in
     let x = g.x in
     let told = c.in-Dropped.is in
-    rw (← c.join_frame-step.ensures.0, told) (rw c.with_assembly-y.ensures at c.became-in-Dropped.ensures, (rw told at c.join_frame-step.ensures.1) ∙ join_moves_lem g.place x.assembly x.queue.count g.part.now g.payload.now Joined.Dropped)
+    rw (← c.join_frame-step.ensures.0, told) (rw c.with_assembly-y.ensures at c.became-in-Dropped.ensures, (rw told at c.join_frame-step.ensures.1) ∙ join_moves_lem g.place x.assembly x.queue.count g.part.now g.payload.now (Ok Joined.Dropped))
 
 pub returns-in-Finished : goal.returns-in-Finished
 unfolding joined_to sizes
@@ -38,7 +39,7 @@ returns-in-Finished c =
     let g = c.args in
     let x = g.x in
     let told = c.in-Finished.is in
-    rw (← c.join_frame-step.ensures.0, told) (rw (c.with_queue-z.ensures, c.queued.ensures, c.with_assembly-y-in-Finished.ensures) at c.became-in-Finished.ensures, (rw told at c.join_frame-step.ensures.1) ∙ join_moves_lem g.place x.assembly x.queue.count g.part.now g.payload.now (Joined.Finished _))
+    rw (← c.join_frame-step.ensures.0, told) (rw (c.with_queue-z.ensures, c.queued.ensures, c.with_assembly-y-in-Finished.ensures) at c.became-in-Finished.ensures, (rw told at c.join_frame-step.ensures.1) ∙ join_moves_lem g.place x.assembly x.queue.count g.part.now g.payload.now (Ok (Joined.Finished _)))
 
 pub returns-in-Assembling : goal.returns-in-Assembling
 unfolding joined_to sizes
@@ -46,4 +47,4 @@ returns-in-Assembling c =
     let g = c.args in
     let x = g.x in
     let told = c.in-Assembling.is in
-    rw (← c.join_frame-step.ensures.0, told) (rw c.with_assembly-y-in-Assembling.ensures at c.became-in-Assembling.ensures, (rw told at c.join_frame-step.ensures.1) ∙ join_moves_lem g.place x.assembly x.queue.count g.part.now g.payload.now (Joined.Assembling _))
+    rw (← c.join_frame-step.ensures.0, told) (rw c.with_assembly-y-in-Assembling.ensures at c.became-in-Assembling.ensures, (rw told at c.join_frame-step.ensures.1) ∙ join_moves_lem g.place x.assembly x.queue.count g.part.now g.payload.now (Ok (Joined.Assembling _)))

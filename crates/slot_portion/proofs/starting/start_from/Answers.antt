@@ -25,7 +25,7 @@ overflow_cast-l c =
     let a = c.args in
     let x = a.x in
     let e : c.plan_send.result ≡ plan_send a.stated x.peer.mtu x.peer.mps x.peer.credits enough = c.plan_send.ensures in
-    let k = plan_allowed a.stated x.peer.mtu x.peer.mps x.peer.credits enough _ _ (sym e ∙ c.in-Frames.is) in
+    let k = plan_allowed a.stated x.peer.mtu x.peer.mps x.peer.credits enough _ _ (sym e ∙ c.in-Ok.is) in
     omega (arith, k.short)
 
 pub returns-then-buffer-payload : goal.returns-then-buffer-payload
@@ -34,14 +34,14 @@ returns-then-buffer-payload c =
     let a = c.args in
     let x = a.x in
     let p = plan_enough a.stated x.peer.mtu x.peer.mps x.peer.credits (omega (arith, c.well_formed)) in
-    rw (← c.is_connected.ensures, c.if-not-is_connected.false-raw, le-ltb _ _ c.if-aside-gt0.false, ← p, ← c.plan_send.ensures, c.in-Frames.is, ← c.longest-payload.ensures, lt-ltb _ _ c.if-buffer-payload.true, written_none [] [] a.buffer.now, c.became-then-buffer-payload.ensures)
+    rw (← c.is_connected.ensures, c.if-not-is_connected.false-raw, le-ltb _ _ c.if-aside-gt0.false, ← p, ← c.plan_send.ensures, c.in-Ok.is, ← c.longest-payload.ensures, lt-ltb _ _ c.if-buffer-payload.true, written_none [] [] a.buffer.now, c.became-then-buffer-payload.ensures)
 
 pub overflow_cast-used : goal.overflow_cast-used
 overflow_cast-used c =
     let a = c.args in
     let x = a.x in
     let e : c.plan_send.result ≡ plan_send a.stated x.peer.mtu x.peer.mps x.peer.credits enough = c.plan_send.ensures in
-    let k = plan_allowed a.stated x.peer.mtu x.peer.mps x.peer.credits enough _ _ (sym e ∙ c.in-Frames.is) in
+    let k = plan_allowed a.stated x.peer.mtu x.peer.mps x.peer.credits enough _ _ (sym e ∙ c.in-Ok.is) in
     omega (arith, k.frames, k.paid, c.well_formed)
 
 pub overflow_sub-credits : goal.overflow_sub-credits
@@ -49,16 +49,16 @@ overflow_sub-credits c =
     let a = c.args in
     let x = a.x in
     let e : c.plan_send.result ≡ plan_send a.stated x.peer.mtu x.peer.mps x.peer.credits enough = c.plan_send.ensures in
-    let k = plan_allowed a.stated x.peer.mtu x.peer.mps x.peer.credits enough _ _ (sym e ∙ c.in-Frames.is) in
+    let k = plan_allowed a.stated x.peer.mtu x.peer.mps x.peer.credits enough _ _ (sym e ∙ c.in-Ok.is) in
     omega (arith, k.frames, k.paid)
 
-pub returns-in-Refused : goal.returns-in-Refused
+pub returns-in-Err : goal.returns-in-Err
 unfolding start_of start_planned_of choose
-returns-in-Refused c =
+returns-in-Err c =
     let a = c.args in
     let x = a.x in
     let p = plan_enough a.stated x.peer.mtu x.peer.mps x.peer.credits (omega (arith, c.well_formed)) in
-    rw (← c.is_connected.ensures, c.if-not-is_connected.false-raw, le-ltb _ _ c.if-aside-gt0.false, ← p, ← c.plan_send.ensures, c.in-Refused.is, written_none [] [] a.buffer.now, c.became-in-Refused.ensures, c.blocked_by.ensures)
+    rw (← c.is_connected.ensures, c.if-not-is_connected.false-raw, le-ltb _ _ c.if-aside-gt0.false, ← p, ← c.plan_send.ensures, c.in-Err.is, written_none [] [] a.buffer.now, c.became-in-Err.ensures, c.blocked_by.ensures)
 
 pub returns-else-buffer-payload : goal.returns-else-buffer-payload
 unfolding start_of start_planned_of choose
@@ -66,4 +66,4 @@ returns-else-buffer-payload c =
     let a = c.args in
     let x = a.x in
     let p = plan_enough a.stated x.peer.mtu x.peer.mps x.peer.credits (omega (arith, c.well_formed)) in
-    rw (← c.is_connected.ensures, c.if-not-is_connected.false-raw, le-ltb _ _ c.if-aside-gt0.false, ← p, ← c.plan_send.ensures, c.in-Frames.is, ← c.longest-payload.ensures, le-ltb _ _ c.if-buffer-payload.false, written_given [] [] a.buffer.now _, c.put_first.ensures, c.with_job-z.ensures, c.count_sent.ensures, c.with_peer_credits-y.ensures)
+    rw (← c.is_connected.ensures, c.if-not-is_connected.false-raw, le-ltb _ _ c.if-aside-gt0.false, ← p, ← c.plan_send.ensures, c.in-Ok.is, ← c.longest-payload.ensures, le-ltb _ _ c.if-buffer-payload.false, written_given [] [] a.buffer.now _, c.put_first.ensures, c.with_job-z.ensures, c.count_sent.ensures, c.with_peer_credits-y.ensures)

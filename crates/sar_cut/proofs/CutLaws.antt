@@ -1,6 +1,6 @@
 -- Laws of cutting: the count of frames, and the cases of the plan. They rest on the definitions of Cutting.antt and on division.
 use Rattle.std.specs.Prelude.{◌≡◌, refl, List, ℕ, zero, suc, ◌+◌, ◌-◌, ◌*◌, ◌≤◌, ◌<◌, length, drop, Ok, Err}
-use Rattle.std.proofs.Common.{◌∙◌, lt_of_not-le, div-mul-le_self, div-le_self, suc-mul, zero-mul, arith, length-take}
+use Rattle.std.proofs.Common.{ap, ◌∙◌, lt_of_not-le, div-mul-le_self, div-le_self, suc-mul, zero-mul, arith, length-take}
 use Rattle.std.proofs.Math.Nat.{div-eq_of_lt, div-eq-sub-div, div-zero, lt-div-mul-add}
 use Rattle.std.proofs.Math.Decide.{dec_le}
 use borrow.Author.Tests.{lt-ltb, le-ltb}
@@ -8,6 +8,7 @@ use Rattle.lists.specs.Choose.{choose}
 use Rattle.codes.specs.declared.Refusal.{Refusal}
 use Rattle.codes.specs.Limits.{size_least}
 use Rattle.codes.specs.declared.Refusal.TheVariants as Refusal
+use Rattle.sar_cut.specs.declared.Framed.{Framed}
 use Rattle.sar_cut.specs.Cutting.{ceil, frame_count, frames_length, stream, piece_at, pieces_from, pieces, payloads, AllWithin, longest_job, plan_send}
 use Rattle.sar_cut.specs.CutLaws.{Allowed, Counted, Holds}
 
@@ -116,7 +117,8 @@ plan_allowed l mtu mps credits room n octets e =
     (λ paid. split (frames_length l mps) room
     (λ holds.
     let q = plan_frames l mtu mps credits room fits short wide paid holds in
-    record { fits = fits; short = short; wide = wide; paid = paid; holds = holds; frames = cc; long = cc })
+    let same : ◌≡◌ {A = Framed} (record { n = n; octets = octets }) (record { n = frame_count l mps; octets = frames_length l mps }) = cc in
+    record { fits = fits; short = short; wide = wide; paid = paid; holds = holds; frames = ap (λ (f : Framed). f.n) same; long = ap (λ (f : Framed). f.octets) same })
     (λ h. never (plan_no_room l mtu mps credits room fits short wide paid h)))
     (λ h. never (plan_busy l mtu mps credits room fits short wide h)))
     (λ h. never (plan_bad_mps l mtu mps credits room fits short h)))

@@ -18,7 +18,7 @@ headers_by go s =
     (choose (ltb (length s) 4) (Err Cut)
     (choose (ltb (length s - 4) (u16_at s 2)) (Err (Past (get_or s 1 0)))
     (go (drop (size_of s) s))))
-    Ok tt
+    (Ok tt)
 
 unfoldable pub headers_of : List ℕ → Result (Unit {0}) BadHeader
 headers_of = whole (Ok tt) headers_by

@@ -29,16 +29,14 @@ pub fn read_le_credit_conn_res(body: &[u8]) -> Option<LeCreditConnRes>
     if body.len() != 10 {
         return None;
     }
-    match codes::result_of(number(body, 8)) {
-        Some(result) => Some(LeCreditConnRes {
-            dcid: number(body, 0),
-            mtu: number(body, 2),
-            mps: number(body, 4),
-            credits: number(body, 6),
-            result,
-        }),
-        None => None,
-    }
+    let result = codes::result_of(number(body, 8))?;
+    Some(LeCreditConnRes {
+        dcid: number(body, 0),
+        mtu: number(body, 2),
+        mps: number(body, 4),
+        credits: number(body, 6),
+        result,
+    })
 }
 
 // Code 0x16.

@@ -7,6 +7,7 @@ ghost use Rattle.std.proofs.lemmas.List.Edits.{sets};
 ghost use Rattle.octets.specs.Octets.{part, le16};
 ghost use Rattle.sar_cut.specs.Cutting.{plan_send, frame, frames_of, output_after};
 
+use codes::Refusal;
 use sar_cut::Framed;
 
 // Writes at `at` a K-frame whose payload is the `n` octets of the job from `from` on.
@@ -61,12 +62,7 @@ pub fn send_job(
     ensures { (result ≡ plan_send (length sdu.now) mtu mps credits (length out.old))
         × (out.new ≡ output_after result cid mps out.old sdu.now) }
 {
-    let plan = sar_cut::plan_send(sdu.len(), mtu, mps, credits, out.len());
-    match plan {
-        Err(r) => Err(r),
-        Ok(Framed { n, octets }) => {
-            cut_job(out, cid, mps, sdu);
-            Ok(Framed { n, octets })
-        }
-    }
+    let framed = sar_cut::plan_send(sdu.len(), mtu, mps, credits, out.len())?;
+    cut_job(out, cid, mps, sdu);
+    Ok(framed)
 }

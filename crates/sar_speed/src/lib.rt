@@ -6,6 +6,7 @@ ghost use Rattle.std.proofs.lemmas.List.Edits.{sets};
 ghost use Rattle.sar_cut.specs.Cutting.{frame_count, plan_send, output_after};
 ghost use Rattle.sar_speed.specs.Octets.{octets_of};
 
+use codes::Refusal;
 use sar_cut::Framed;
 
 fn octets_of(p: Result<Framed, Refusal>) -> usize

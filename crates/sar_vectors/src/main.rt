@@ -2,6 +2,7 @@
 // has what document 01 asks of each: the plan, the octets written, the answers, and what the slot's part of the room holds in the end.
 #![tactic(auto)]
 
+use codes::Refusal;
 use sar_cut::Framed;
 use sar_join::{Assembly, Joined};
 use std::io;

@@ -7,9 +7,10 @@ use Prim.Native.Nat.{ℕ, zero, suc, ◌+◌, ◌-◌, ◌*◌, ◌≤◌, ◌<�
 use Rattle.std.proofs.Math.Nat.{suc-mul, zero-mul, sub-zero}
 use native.Mathlib.Omega.{arith}
 use Rattle.std.proofs.Math.ListN.{length, drop, length-drop}
+use Rattle.std.proofs.lemmas.List.{take_at, drop_at}
 use Rattle.std.proofs.lemmas.List.Edits.{sets}
 use Rattle.octets.specs.Octets.{part, le16}
-use Rattle.octets.specs.Sets.{sets-append, part_length, take_least}
+use Rattle.octets.specs.Sets.{sets-append, take_least}
 use Rattle.sar_cut.specs.Cutting.{ceil, frame_count, stream, piece_at, pieces_from, pieces, payloads, frame, joined, frames_of}
 use Rattle.sar_cut.proofs.CutLaws.{split}
 use Rattle.sar_cut.proofs.CutLaws.{ceil_zero, ceil-more}
@@ -114,28 +115,29 @@ count-first m l k h e =
     let f : l + 2 - m ≡ l - k = omega arith in
     ceil-more (l + 2) m (omega arith) (omega arith) ∙ ap (λ (x : ℕ). suc (ceil x m)) f
 
--- ---- the loop that writes the frames of what is left of a job, of which `done` octets are written, at `at`. Its invariant: with the
--- rest written too, it is all frames. Its start behind the first frame, its turn, and its end.
-pub record Framing (m cid : ℕ) (sdu out₀ : List ℕ) (done at : ℕ) (out : List ℕ) : Type 0 where
-  pub is : sets out at (framed m cid (drop done sdu)) ≡ sets out₀ 0 (frames_of cid m sdu)
+-- ---- the loop that writes the frames of what is left of a job, `rest`, at `at`. Its invariant: with the rest written too, it is all
+-- frames. Its start behind the first frame, its turn, and its end.
+pub record Framing (m cid : ℕ) (sdu out₀ rest : List ℕ) (at : ℕ) (out : List ℕ) : Type 0 where
+  pub is : sets out at (framed m cid rest) ≡ sets out₀ 0 (frames_of cid m sdu)
 
 pub framing-first : (m cid : ℕ) (sdu out₀ : List ℕ) (k : ℕ) (out : List ℕ) → 2 ≤ m → k ≡ min (length sdu) (m - 2)
-    → out ≡ sets out₀ 0 (frame cid (le16 (length sdu) ++ take k sdu)) → Framing m cid sdu out₀ k (k + 6) out
+    → out ≡ sets out₀ 0 (frame cid (le16 (length sdu) ++ take k sdu)) → Framing m cid sdu out₀ (drop k sdu) (k + 6) out
 framing-first m cid sdu out₀ k out h e o =
     let q : length (take k sdu) ≡ k = length-take-le k sdu (omega arith) in
     let f = le16 (length sdu) ++ take k sdu in
     let g : 0 + length (frame cid f) ≡ k + 6 = rw frame-length (omega arith) in
     record { is = rw o (sym (rw (framed-start m cid sdu k h e, ← g) (sets-append out₀ 0 (frame cid f) (framed m cid (drop k sdu))))) }
 
-module _ {m cid : ℕ} {sdu out₀ : List ℕ} {done at : ℕ} {out : List ℕ} (w : Framing m cid sdu out₀ done at out) where
-  pub framing-more : (k : ℕ) (out' : List ℕ) → 0 < m → done < length sdu → k ≡ min (length sdu - done) m
-      → out' ≡ sets out at (frame cid (part sdu done k)) → Framing m cid sdu out₀ (done + k) (at + (k + 4)) out'
-  framing-more k out' p h e o =
-      let q : length (part sdu done k) ≡ k = part_length sdu done k (omega arith) in
-      let g : at + length (frame cid (part sdu done k)) ≡ at + (k + 4) = rw frame-length (omega arith) in
-      record {
-        is = rw (o, ← g) (sym (sets-append out at (frame cid (part sdu done k)) (framed m cid (drop (done + k) sdu)))) ∙ rw (framed_turn m cid sdu done k p h e) at w.is;
-      }
+module _ {m cid : ℕ} {sdu out₀ rest : List ℕ} {at : ℕ} {out : List ℕ} (w : Framing m cid sdu out₀ rest at out) where
+  pub framing-more : (p rest' out' : List ℕ) → 0 < m → 0 < length rest → rest ≡ p ++ rest' → length p ≡ min m (length rest)
+      → out' ≡ sets out at (frame cid p) → Framing m cid sdu out₀ rest' (at + (length p + 4)) out'
+  framing-more p rest' out' h l r e o =
+      let k = length p in
+      let t : part rest 0 k ≡ p = rw r (take_at p rest' k refl) in
+      let d : drop (0 + k) rest ≡ rest' = rw (zero-add, r) (drop_at p rest' k refl) in
+      let turn : framed m cid rest ≡ frame cid p ++ framed m cid rest' = rw (t, d) at (framed_turn m cid rest 0 k h l (omega arith)) in
+      let g : at + length (frame cid p) ≡ at + (k + 4) = rw frame-length (omega arith) in
+      record { is = rw (o, ← g) (sym (sets-append out at (frame cid p) (framed m cid rest'))) ∙ rw turn at w.is }
 
-  pub framing-end : 0 < m → length sdu ≤ done → out ≡ sets out₀ 0 (frames_of cid m sdu)
-  framing-end p h = rw (framed_nil m cid (drop done sdu) p (rw length-drop (omega arith))) at w.is
+  pub framing-end : 0 < m → length rest ≡ 0 → out ≡ sets out₀ 0 (frames_of cid m sdu)
+  framing-end h z = rw (framed_nil m cid rest h z) at w.is

@@ -4,20 +4,21 @@
 
 ghost use Rattle.std.specs.Prelude.{◌≡◌, ◌++◌, ◌+◌, ◌≤◌, ◌<◌, length, take};
 ghost use Rattle.std.proofs.lemmas.List.Edits.{sets};
-ghost use Rattle.octets.specs.Octets.{part, le16};
+ghost use Rattle.octets.specs.Octets.{le16};
 ghost use Rattle.sar_cut.specs.Cutting.{plan_send, frame, frames_of, output_after};
 
 use codes::Refusal;
 use sar_cut::Framed;
 
-// Writes at `at` a K-frame whose payload is the `n` octets of the job from `from` on.
-fn put_frame(out: &mut [u8], at: usize, cid: u16, sdu: &[u8], from: usize, n: usize)
-    requires { (at < 4294967296) × (from + n ≤ length sdu.now) × (n < 65536) }
-    ensures { out.new ≡ sets out.old at (frame cid (part sdu.now from n)) }
+// Writes at `at` a K-frame with that payload.
+fn put_frame(out: &mut [u8], at: usize, cid: u16, payload: &[u8])
+    requires { (at < 4294967296) × (length payload.now < 65536) }
+    ensures { out.new ≡ sets out.old at (frame cid payload.now) }
 {
+    let n = payload.len();
     octets::put_number(out, at, n as u16);
     octets::put_number(out, at + 2, cid);
-    octets::copy_to(out, at + 4, sdu, from, n);
+    octets::copy_to(out, at + 4, payload, 0, n);
 }
 
 // Writes at the output's start the first K-frame: its payload is the job's length and its first `n` octets.
@@ -37,16 +38,12 @@ pub fn cut_job(out: &mut [u8], cid: u16, mps: u16, sdu: &[u8])
     ensures { out.new ≡ sets out.old 0 (frames_of cid mps sdu.now) }
 {
     let m = mps as usize;
-    let len = sdu.len();
-    let first = octets::least(len, m - 2);
+    let first = octets::least(sdu.len(), m - 2);
     put_first(out, cid, sdu, first);
-    let mut done = first;
     let mut at = first + 6;
-    while done < len {
-        let n = octets::least(len - done, m);
-        put_frame(out, at, cid, sdu, done, n);
-        at += n + 4;
-        done += n;
+    for payload in sdu[first..].chunks(m) {
+        put_frame(out, at, cid, payload);
+        at += payload.len() + 4;
     }
 }
 

@@ -8,19 +8,6 @@ ghost use Rattle.sar_join_room.specs.SarPlaces.{finish};
 
 use sar_join::Assembly;
 
-// Copies the first `n` octets of `places` to index `at`, which lies behind them.
-fn lift(places: &mut [u8], at: usize, n: usize)
-    requires { n ≤ at }
-    ensures { places.new ≡ sets places.old at (part places.old 0 n) }
-{
-    let m = octets::least(n, octets::left(places.len(), at));
-    let mut i: usize = 0;
-    while i < m {
-        places[at + i] = places[i];
-        i += 1;
-    }
-}
-
 // The payload's octets of the job come to those in the place for assembly.
 pub fn grow(places: &mut [u8], a: Assembly, payload: &[u8])
     ensures { places.new ≡ sets places.old (assembled a) (job_octets a payload.now) }
@@ -44,7 +31,8 @@ pub fn put_job(places: &mut [u8], place: usize, a: Assembly, at: usize, payload:
         return;
     }
     let have = a.have as usize;
-    lift(places, at, have);
-    octets::copy_to(places, at + have, payload, 0, n);
-    octets::zero(places, 0, place);
+    let (assembly, job) = places.split_at_mut(at);
+    octets::copy_to(job, 0, assembly, 0, have);
+    octets::copy_to(job, have, payload, 0, n);
+    octets::zero(assembly, 0, place);
 }

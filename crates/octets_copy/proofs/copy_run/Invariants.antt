@@ -1,10 +1,6 @@
 -- `octets_copy::copy_run` meets its contract: the loop writes the part of `src` (Writing).
-use Prim.Native.Nat.{◌-◌, ◌≤◌}
 use Rattle.lists.specs.Sets.{part, Writing}
 use Rattle.octets_copy.proofs.copy_run.Given as goal
 
 abbrev pub invariant-loop-i : goal.invariant-loop-i
-invariant-loop-i l = (l.i ≤ l.count) × Writing l.initial.dst l.at (part l.src l.from l.count) l.i l.dst
-
-abbrev pub decreases-loop-i : goal.decreases-loop-i
-decreases-loop-i l = l.count - l.i
+invariant-loop-i l = Writing l.initial.dst l.at (part l.src l.from l.count) l.i l.dst

@@ -1,59 +1,23 @@
-use mathlib.Core.Path.{refl, ◌∙◌}
-use Prim.Native.Nat.{◌-◌}
-use native.Mathlib.Omega.{arith}
+use Rattle.std.proofs.Common.{◌≡◌, ap, ◌∙◌, drop, rules, arith, length, length-append, length-drop}
+use Rattle.std.specs.Slice.Iter.{chunks_rest}
+use Rattle.octets.specs.Sets.{tail-part}
 use Rattle.sar_frames.specs.FrameLaws.{framing-first, framing-more, framing-end}
 use Rattle.sar_frames.proofs.cut_job.Goals as goal
 
-pub overflow_sub-m : goal.overflow_sub-m
-overflow_sub-m c = omega arith
-
-pub least-first-requires : goal.least-first-requires
-least-first-requires c = tt
-
-pub put_first-requires : goal.put_first-requires
-put_first-requires c = omega arith
-
-pub overflow_add-at : goal.overflow_add-at
-overflow_add-at c = omega arith
-
-pub loop-done-init : goal.loop-done-init
-loop-done-init c = (omega arith, refl, omega arith, λ w f. f)
-
-pub overflow_sub-len : goal.overflow_sub-len
-overflow_sub-len c = omega arith
-
-pub least-n-requires : goal.least-n-requires
-least-n-requires c = tt
-
-pub put_frame-requires : goal.put_frame-requires
-put_frame-requires c = omega arith
-
-pub overflow_add-at-in-loop-done : goal.overflow_add-at-in-loop-done
-overflow_add-at-in-loop-done c = omega arith
-
-pub overflow_add-at-in-loop-done-2 : goal.overflow_add-at-in-loop-done-2
-overflow_add-at-in-loop-done-2 c = omega arith
-
-pub overflow_add-done : goal.overflow_add-done
-overflow_add-done c = omega arith
-
-pub loop-done-smaller : goal.loop-done-smaller
-loop-done-smaller c = omega arith
-
-pub loop-done-preserved : goal.loop-done-preserved
-loop-done-preserved c =
-    let a = c.args in (
-      omega arith,
-      c.put_frame.auto.out ∙ c.loop-done.invariant.1,
-      omega arith,
-      λ w f. framing-more (c.loop-done.invariant.3 w f) c.least-n.result _ (omega arith) (omega arith) c.least-n.ensures c.put_frame.ensures,
-    )
-
-pub shape_of-out : goal.shape_of-out
-shape_of-out c = omega arith
-
-pub returns : goal.returns
-returns c =
+pub loop-payload-init : goal.loop-payload-init
+loop-payload-init c =
     let a = c.args in
     let f = c.least-first in
-    framing-end (c.loop-done.invariant.3 a.out.now (framing-first a.mps a.cid a.sdu.now a.out.now f.result _ (omega arith) f.ensures c.put_first.ensures)) (omega arith) (omega arith)
+    let chunks = c.into_iter-payload-iterator in
+    let rest : chunks_rest chunks.result ≡ drop f.result a.sdu.now = ap chunks_rest chunks.ensures.into_iter_gives ∙ c.chunks-payload-items.ensures.rest ∙ tail-part f.result a.sdu.now in
+    (search rules, tt, search rules, rw (rest, length-drop) (omega arith), rw rest (framing-first a.mps a.cid a.sdu.now a.out.now f.result _ (omega arith) f.ensures c.put_first.ensures))
+
+pub loop-payload-preserved : goal.loop-payload-preserved
+loop-payload-preserved c =
+    let w = c.loop-payload.invariant in
+    let steps = c.in-Some.ensures.steps in
+    let sum = ap length steps.1.0 ∙ length-append c.in-Some.payload.now (chunks_rest c.next.new.self) in
+    (search rules, tt, steps.0 ∙ w.2, omega arith, framing-more w.4 _ _ _ (omega arith) steps.1.2 steps.1.0 (rw w.2 at steps.1.1) c.put_frame.ensures)
+
+pub returns : goal.returns
+returns c = framing-end c.loop-payload.invariant.4 (omega arith) c.in-None.ensures.steps.1.0

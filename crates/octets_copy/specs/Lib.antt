@@ -1,2 +1,0 @@
--- Eight octets copied are a run of eight stores.
-pub mod Eight

@@ -33,12 +33,11 @@ fn read_more<R: Read>(reader: &mut R, input: &mut [u8], at: usize) -> io::Result
     reader.read(&mut input[from..])
 }
 
-// What the input has next, and whether there is more to come.
+// What the input has next, and what is held behind it; none where the input has ended.
 #[derive(Clone, Copy)]
 struct Fetched {
     found: Found,
-    held: Held,
-    again: bool,
+    held: Option<Held>,
 }
 
 // The next of what is held, or more is read. Where the input has ended, a last line without its newline.
@@ -53,21 +52,18 @@ fn fetch<R: Read>(reader: &mut R, input: &mut [u8], h: Held) -> io::Result<Fetch
             let last = text_lines::last_line(input, ready);
             return Ok(Fetched {
                 found: last,
-                held: ready,
-                again: false,
+                held: None,
             });
         }
         let grown = text_lines::grown(input.len(), ready, n);
         return Ok(Fetched {
             found: Found::Passed,
-            held: grown,
-            again: true,
+            held: Some(grown),
         });
     }
     Ok(Fetched {
         found,
-        held,
-        again: true,
+        held: Some(held),
     })
 }
 
@@ -88,10 +84,9 @@ fn run<R: Read>(
         let next = fetch(reader, input, held)?;
         let found = next.found;
         let table = calls::serve_found(rt, t, found, input, room, octets, frames, buffers, row)?;
-        if !next.again {
+        let Some(h) = next.held else {
             return Ok(());
-        }
-        let h = next.held;
+        };
         t = table;
         held = h;
     }

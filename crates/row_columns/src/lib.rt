@@ -14,11 +14,9 @@ pub fn write_columns(out: &mut [u8], at: usize, numbers: &[u64]) -> usize
     ensures { Writes out.old at (columns_text numbers.now) result out.new }
 {
     let mut next = least(at, out.len());
-    let mut i: usize = 0;
-    while i < numbers.len() {
+    for &n in numbers {
         let behind = write_character(out, next, b' ');
-        next = write_number(out, behind, numbers[i]);
-        i += 1;
+        next = write_number(out, behind, n);
     }
     next
 }

@@ -37,10 +37,8 @@ pub fn write_view(out: &mut [u8], at: usize, t: Table) -> usize
 {
     let n = least(t.n, SLOTS);
     let mut next = write_sizes(out, at, t);
-    let mut i: usize = 0;
-    while i < n {
+    for i in 0..n {
         next = write_slot(out, next, i as u8, table::slot_at(t, i));
-        i += 1;
     }
     next
 }

@@ -1,5 +1,6 @@
 -- Laws of a played call: it is read off the call's end; and what was read from a word stands at the buffer's start.
 use Rattle.std.specs.Prelude.{◌≡◌, refl, Bool, true, false, List, [], ◌∷◌, ℕ, suc, length, take}
+use Rattle.std.specs.Option.{unwrap_or}
 use Rattle.std.proofs.Common.{sym, ap, subst, ◌∙◌, arith}
 use Rattle.std.proofs.lemmas.List.Edits.{sets}
 use Rattle.std.proofs.Math.Seq.{take-nil}
@@ -7,8 +8,6 @@ use Rattle.lists.specs.Choose.{choose}
 use Rattle.octets.specs.Sets.{sets-out, sets_append_right}
 use Rattle.text_hex_words.specs.HexWords.{is_hex_word}
 use Rattle.text_hex.specs.Hex.{octets_of, hex_read, hex_octets}
-use Rattle.text_hex.specs.declared.HexRead.{HexRead}
-use Rattle.text_hex.specs.declared.HexRead.TheVariants as HexRead
 use Rattle.definition.specs.Ending.{End}
 use Rattle.run_play.specs.declared.Played.{Played}
 use Rattle.run_play.specs.Plays.{Play, Plays}
@@ -27,23 +26,11 @@ take-sets l [] = sym (take-nil (length l))
 take-sets [] (x ∷ xs) = ap (take (suc (length xs))) (sets-out [] 1 xs (omega arith))
 take-sets (y ∷ l) (x ∷ xs) = ap (take (suc (length xs))) (sets_front x l xs) ∙ ap (λ (r : List ℕ). x ∷ r) (take-sets l xs)
 
-count : HexRead → ℕ
-count (HexRead.Octets n) = n
-count HexRead.Bad = 0
-
--- so many octets of the buffer are the word's
-counted : (w l : List ℕ) → take (count (hex_read w)) (sets l 0 (hex_octets w)) ≡ take (length l) (hex_octets w)
-unfolding hex_read hex_octets choose count
-counted w l = go (is_hex_word w) refl
+-- as many octets of the buffer as were read are the word's, none of a bad word
+pub read_octets : (w l : List ℕ) → take (unwrap_or (hex_read w) 0) (sets l 0 (hex_octets w)) ≡ take (length l) (hex_octets w)
+unfolding hex_read hex_octets choose
+read_octets w l = go (is_hex_word w) refl
   where
-    go : (b : Bool) → is_hex_word w ≡ b → take (count (hex_read w)) (sets l 0 (hex_octets w)) ≡ take (length l) (hex_octets w)
+    go : (b : Bool) → is_hex_word w ≡ b → take (unwrap_or (hex_read w) 0) (sets l 0 (hex_octets w)) ≡ take (length l) (hex_octets w)
     go true e = rw e (take-sets l (octets_of w))
     go false e = rw e (take-sets l [])
-
-pub read_octets : (w l : List ℕ) (n : ℕ) → HexRead.Octets n ≡ hex_read w → take n (sets l 0 (hex_octets w)) ≡ take (length l) (hex_octets w)
-unfolding count
-read_octets w l n e = ap (λ k. take (count k) (sets l 0 (hex_octets w))) e ∙ counted w l
-
-pub read-bad : (w l : List ℕ) → HexRead.Bad ≡ hex_read w → [] ≡ take (length l) (hex_octets w)
-unfolding count
-read-bad w l e = ap (λ k. take (count k) (sets l 0 (hex_octets w))) e ∙ counted w l

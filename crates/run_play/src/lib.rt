@@ -6,7 +6,6 @@ ghost use Rattle.std.specs.Prelude.{◌≡◌, length, take};
 ghost use Rattle.run_play.specs.Plays.{size_of, spelled_of};
 
 use channel::Table;
-use text_hex::HexRead;
 use text_words::Word;
 
 // The table after a call, and the octets of its row.
@@ -31,8 +30,5 @@ pub fn size_of(n: usize, d: usize, m: usize) -> usize
 pub fn spelled(line: &[u8], w: Word, octets: &mut [u8]) -> usize
     ensures { take result octets.new ≡ spelled_of (length octets.old) line.now w }
 {
-    match text_hex::read_hex(text_words::text(line, w), octets) {
-        HexRead::Octets(n) => n,
-        HexRead::Bad => 0,
-    }
+    text_hex::read_hex(text_words::text(line, w), octets).unwrap_or(0)
 }

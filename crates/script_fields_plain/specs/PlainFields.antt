@@ -1,24 +1,15 @@
 -- What the plain words of a call say (docs/CHANRUN.md), each kind with its test.
-use Rattle.std.specs.Prelude.{Bool, true, false, ◌&&◌, ◌||◌, List, ℕ, eqb, leb, length, get_or}
+use Rattle.std.specs.Prelude.{Bool, ◌&&◌, ◌||◌, List, ℕ, eqb, leb, length, get_or, is_some}
+use Rattle.std.specs.Option.{unwrap_or}
 use Prim.Native.Char.{code}
-use Rattle.text_decimal.specs.declared.NumberRead.{NumberRead}
-use Rattle.text_decimal.specs.declared.NumberRead.TheVariants as NumberRead
 use Rattle.text_decimal.specs.Decimal.{number_read}
 
--- a number
-unfoldable pub spells : NumberRead → Bool
-spells NumberRead.Bad = false
-spells (NumberRead.Is n) = true
-
-unfoldable pub spelling : NumberRead → ℕ
-spelling NumberRead.Bad = 0
-spelling (NumberRead.Is n) = n
-
+-- a number; 0 where the word spells none
 abbrev pub is_number : List ℕ → Bool
-is_number w = spells (number_read w)
+is_number w = is_some (number_read w)
 
 abbrev pub number_of : List ℕ → ℕ
-number_of w = spelling (number_read w)
+number_of w = unwrap_or (number_read w) 0
 
 -- "One of 4,096 octets for each slot .. `size` is at most 4,096"
 abbrev pub buffer_most : ℕ

@@ -5,24 +5,18 @@
 ghost use Rattle.std.specs.Prelude.{◌≡◌};
 ghost use Rattle.script_fields_plain.specs.PlainFields.{is_number, number_of, is_size, is_one, is_flag, flag_of, is_role, central_of};
 
-use text_decimal::{NumberRead, read_number};
+use text_decimal::read_number;
 
 pub fn is_number(word: &[u8]) -> bool
     ensures { result ≡ is_number word.now }
 {
-    match read_number(word) {
-        NumberRead::Bad => false,
-        NumberRead::Is(_) => true,
-    }
+    read_number(word).is_some()
 }
 
 pub fn number_of(word: &[u8]) -> u16
     ensures { result ≡ number_of word.now }
 {
-    match read_number(word) {
-        NumberRead::Bad => 0,
-        NumberRead::Is(n) => n,
-    }
+    read_number(word).unwrap_or(0)
 }
 
 // The octets of the buffer that the program lends a slot for the frame of an open job.

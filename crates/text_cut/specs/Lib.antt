@@ -1,3 +1,2 @@
 -- A text cut at a character.
 pub mod Cut
-pub mod CutLaws

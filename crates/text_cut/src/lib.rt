@@ -14,12 +14,10 @@ pub fn find(s: &[u8], from: usize, to: usize, c: u8) -> usize
     ensures { result ≡ from + first (is c) (part s.now from (to - from)) }
 {
     let n = least(left(to, from), left(s.len(), from));
-    let mut i: usize = 0;
-    while i < n {
+    for i in 0..n {
         if s[from + i] == c {
             return from + i;
         }
-        i += 1;
     }
     from + n
 }

@@ -1,10 +1,8 @@
 -- Decimal numbers (docs/CHANRUN.md): "1 to 5 digits, at most 65,535". Zeros in front are digits as any other (`007` is 7).
-use Rattle.std.specs.Prelude.{Bool, ◌&&◌, List, [], ◌∷◌, ℕ, ◌+◌, ◌-◌, ◌*◌, leb, ltb, length}
+use Rattle.std.specs.Prelude.{Bool, ◌&&◌, List, [], ◌∷◌, ℕ, ◌+◌, ◌-◌, ◌*◌, leb, ltb, length, Option, Some, None}
 use Prim.Native.Char.{code}
 use Rattle.lists.specs.Choose.{choose}
 use Rattle.lists.specs.Every.{every}
-use Rattle.text_decimal.specs.declared.NumberRead.{NumberRead}
-use Rattle.text_decimal.specs.declared.NumberRead.TheVariants as NumberRead
 
 -- `0` to `9`
 abbrev pub is_digit : ℕ → Bool
@@ -15,10 +13,11 @@ unfoldable pub spelt : ℕ → List ℕ → ℕ
 spelt n [] = n
 spelt n (c ∷ cs) = spelt (10 * n + (c - code "0")) cs
 
-unfoldable pub number_read : List ℕ → NumberRead
+-- a number of 16 bits, or none
+unfoldable pub number_read : List ℕ → Option ℕ
 number_read w =
-    choose (ltb (length w) 1) NumberRead.Bad
-    (choose (ltb 5 (length w)) NumberRead.Bad
+    choose (ltb (length w) 1) None
+    (choose (ltb 5 (length w)) None
     (choose (every is_digit w)
-    (choose (ltb 65535 (spelt 0 w)) NumberRead.Bad (NumberRead.Is (spelt 0 w)))
-    NumberRead.Bad))
+    (choose (ltb 65535 (spelt 0 w)) None (Some (spelt 0 w)))
+    None))

@@ -1,13 +1,12 @@
 -- What is written is read again; and the steps of reading.
-use Rattle.std.specs.Prelude.{◌≡◌, refl, Bool, true, false, ◌&&◌, List, [], ◌∷◌, ◌++◌, ℕ, zero, suc, ◌+◌, ◌-◌, ◌*◌, ◌/◌, ◌%◌, ◌^◌, ◌≤◌, ◌<◌, leb, ltb, length, drop, get_or}
+use Rattle.std.specs.Prelude.{◌≡◌, refl, Bool, true, false, ◌&&◌, List, [], ◌∷◌, ◌++◌, ℕ, zero, suc, ◌+◌, ◌-◌, ◌*◌, ◌/◌, ◌%◌, ◌^◌, ◌≤◌, ◌<◌, leb, ltb, length, drop, get_or, Some}
 use Rattle.std.proofs.Math.Path.{sym}
 use Rattle.std.proofs.Common.{◌∙◌, add-one, arith, length-append, drop_of_length-le, drop-cons, lt-ltb, le-ltb, le-leb, ltb-true, leb-true}
 use Rattle.std.proofs.lemmas.Bool.{false≢true}
-use Rattle.std.proofs.Math.Nat.{pow-suc, pow-le-pow_right}
+use Rattle.std.proofs.Math.Nat.{pow-suc}
 use Rattle.std.proofs.Math.Seq.{take-length}
 use Rattle.lists.specs.Choose.{choose}
-use Rattle.lists.specs.Every.{every, Kept, kept-none, kept_more, kept-fails, kept_all}
-use Rattle.text_decimal.specs.declared.NumberRead.TheVariants as NumberRead
+use Rattle.lists.specs.Every.{every, Kept, kept_more, kept-fails, kept_all}
 use Rattle.text_decimal.specs.NumberText.{digits, number_text}
 use Rattle.text_decimal.specs.NumberTextLaws.{tenth, digits_few}
 use Rattle.text_decimal.specs.Decimal.{is_digit, spelt, number_read}
@@ -63,7 +62,7 @@ digits-spelling (suc k) n h = go (ltb n 10) refl (digits-spelling k (n / 10) (te
         }
 
 -- a number that is written is read again
-pub number_back : (n : ℕ) → n ≤ 65535 → number_read (number_text n) ≡ NumberRead.Is n
+pub number_back : (n : ℕ) → n ≤ 65535 → number_read (number_text n) ≡ Some n
 unfolding number_read choose
 number_back n h =
     let s = digits-spelling 4 n (omega arith) in
@@ -78,9 +77,6 @@ pub record Reading (w : List ℕ) (i n : ℕ) : Type 0 where
   pub kept : Kept is_digit (length w) w i
   pub goes : spelt n (drop i w) ≡ spelt 0 w
 
-pub reading_none : {w : List ℕ} → Reading w 0 0
-reading_none = record { small = omega arith; kept = kept-none; goes = refl }
-
 pub record Digit (c : ℕ) : Type 0 where
   pub low : 48 ≤ c
   pub high : c ≤ 57
@@ -94,9 +90,6 @@ digit_is c e = go (leb 48 c) (leb c 57) refl refl e
     go false b p q e = absurd (false≢true e)
 
 module _ {w : List ℕ} {i n : ℕ} (r : Reading w i n) where
-  pub reading_small : i < 5 → n < 10000
-  reading_small h = omega (arith, r.small, pow-le-pow_right {n = 10} (omega arith) {i = i} {j = 4} (omega arith))
-
   pub reading_more : is_digit (get_or w i 0) ≡ true → i < length w → Reading w (i + 1) (10 * n + (get_or w i 0 - 48))
   unfolding spelt
   reading_more e h = record {

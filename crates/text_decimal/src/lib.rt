@@ -9,41 +9,31 @@ ghost use Rattle.text_decimal.specs.Decimal.{is_digit, number_read};
 
 pub use write::write_number;
 
-// What a word spells: a number of 16 bits, or none.
-#[derive(Clone, Copy)]
-pub enum NumberRead {
-    Bad,
-    Is(u16),
-}
-
 fn is_digit(c: u8) -> bool
     ensures { result ≡ is_digit c }
 {
     (b'0' <= c) & (c <= b'9')
 }
 
-// Reads a word of 1 to 5 digits.
-pub fn read_number(word: &[u8]) -> NumberRead
+// Reads a word of 1 to 5 digits: a number of 16 bits, or none.
+pub fn read_number(word: &[u8]) -> Option<u16>
     ensures { result ≡ number_read word.now }
 {
     if word.len() < 1 {
-        return NumberRead::Bad;
+        return None;
     }
     if 5 < word.len() {
-        return NumberRead::Bad;
+        return None;
     }
     let mut n: u32 = 0;
-    let mut i: usize = 0;
-    while i < word.len() {
-        let c = word[i];
+    for &c in word {
         if !is_digit(c) {
-            return NumberRead::Bad;
+            return None;
         }
         n = 10 * n + ((c - b'0') as u32);
-        i += 1;
     }
     if 65535 < n {
-        return NumberRead::Bad;
+        return None;
     }
-    NumberRead::Is(n as u16)
+    Some(n as u16)
 }

@@ -1,6 +1,6 @@
 -- Laws of hex words: each octet of a word, what is written is read again, and octets have one spelling. Digits go by arithmetic, words by
 -- two digits a step.
-use Rattle.std.specs.Prelude.{◌≡◌, Bool, ◌&&◌, ◌||◌, leb, eqb, get_or}
+use Rattle.std.specs.Prelude.{◌≡◌, Bool, ◌&&◌, ◌||◌, leb, eqb, get_or, Some}
 use Rattle.std.proofs.Math.Path.{refl}
 use Rattle.std.proofs.Common.{sym, ◌∙◌, le_of_suc-le-suc, arith}
 use Rattle.std.proofs.Math.Bool.{true, false}
@@ -12,7 +12,6 @@ use Rattle.std.proofs.Math.ListN.{length}
 use borrow.Author.Tests.{lt-ltb, le-ltb, le-leb, lt-leb, ne_eqb, leb-true, ltb-true, ltb-false, eqb-true, eqb-false}
 use Rattle.lists.specs.Choose.{choose}
 use Rattle.lists.specs.Every.{every}
-use Rattle.text_hex.specs.declared.HexRead.TheVariants as HexRead
 use Rattle.text_hex_words.specs.HexWords.{is_hex, is_hex_word}
 use Rattle.text_hex_write.specs.HexText.{digit_of, hex_digits, hex_text}
 use Rattle.text_hex.specs.Hex.{nibble_of, octets_of, hex_read, hex_octets}
@@ -172,7 +171,7 @@ module _ (xs : List ℕ) (small : (k : ℕ) → get_or xs k 0 < 256) (few : leng
   unfolding hex_octets choose
   hex_back = rw text-ok octets_text
 
-  pub hex_back_count : hex_read (hex_text xs) ≡ HexRead.Octets (length xs)
+  pub hex_back_count : hex_read (hex_text xs) ≡ Some (length xs)
   unfolding hex_read choose
   hex_back_count = rw (text-ok, octets_text)
 

@@ -10,13 +10,6 @@ use octets::put;
 pub use text_hex_words::hex_ok;
 pub use text_hex_write::write_hex;
 
-// What a word spells: so many octets, or none at all.
-#[derive(Clone, Copy)]
-pub enum HexRead {
-    Bad,
-    Octets(usize),
-}
-
 // The value of a hex digit.
 fn nibble(c: u8) -> u8
     requires { is_hex c ≡ true }
@@ -25,20 +18,18 @@ fn nibble(c: u8) -> u8
     if c < 58 { c - b'0' } else { c - 87 }
 }
 
-// Reads a word's octets into the start of `out`, as far as it reaches, and says how many the word has. A bad word writes nothing.
-pub fn read_hex(word: &[u8], out: &mut [u8]) -> HexRead
+// Reads a word's octets into the start of `out`, as far as it reaches, and says how many the word has; none for a bad word, which writes nothing.
+pub fn read_hex(word: &[u8], out: &mut [u8]) -> Option<usize>
     ensures { ReadsHex word.now out.old result out.new }
 {
     if !hex_ok(word) {
-        return HexRead::Bad;
+        return None;
     }
     let n = word.len() / 2;
-    let mut i: usize = 0;
-    while i < n {
+    for i in 0..n {
         let high = nibble(word[2 * i]);
         let low = nibble(word[2 * i + 1]);
         put(out, i, 16 * high + low);
-        i += 1;
     }
-    HexRead::Octets(n)
+    Some(n)
 }

@@ -26,12 +26,5 @@ pub fn hex_ok(word: &[u8]) -> bool
     if word.len() % 2 == 1 {
         return false;
     }
-    let mut i: usize = 0;
-    while i < word.len() {
-        if !is_hex(word[i]) {
-            return false;
-        }
-        i += 1;
-    }
-    true
+    word.iter().all(|&c| is_hex(c))
 }

@@ -24,12 +24,9 @@ pub fn write_hex(out: &mut [u8], at: usize, octets: &[u8]) -> usize
         return write_character(out, at, b'-');
     }
     let mut next = least(at, out.len());
-    let mut i: usize = 0;
-    while i < octets.len() {
-        let b = octets[i];
+    for &b in octets {
         let behind = write_character(out, next, digit(b / 16));
         next = write_character(out, behind, digit(b % 16));
-        i += 1;
     }
     next
 }

@@ -41,15 +41,7 @@ pub fn word_after(line: &[u8], w: Word) -> Word
 pub fn count(line: &[u8]) -> usize
     ensures { result ≡ length (words_of line.now) }
 {
-    let mut n: usize = 1;
-    let mut i: usize = 0;
-    while i < line.len() {
-        if line[i] == b' ' {
-            n += 1;
-        }
-        i += 1;
-    }
-    n
+    line.iter().filter(|&&c| c == b' ').count() + 1
 }
 
 // The characters of a word.

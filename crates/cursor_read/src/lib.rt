@@ -13,20 +13,6 @@ pub struct ReadCursor {
     pub pos: usize,
 }
 
-// A number that was read, and the cursor behind it.
-#[derive(Clone, Copy)]
-pub enum ReadNumber {
-    InsufficientSpace,
-    Is(u16, ReadCursor),
-}
-
-// The cursor behind some octets.
-#[derive(Clone, Copy)]
-pub enum ReadPast {
-    InsufficientSpace,
-    To(ReadCursor),
-}
-
 impl ReadCursor {
     pub fn new() -> Self
         ensures { result.pos ≡ 0 }
@@ -48,40 +34,37 @@ impl ReadCursor {
         self.pos
     }
 
-    // Reads a number of two octets.
-    pub fn read(self, src: &[u8]) -> ReadNumber
+    // Reads a number of two octets: it, and the cursor behind it. None: insufficient space.
+    #[tactic(auto, unfolding(crate::specs::ReadCursor::read_number, lists::specs::Choose::choose))]
+    pub fn read(self, src: &[u8]) -> Option<(u16, ReadCursor)>
         ensures { result ≡ read_number src.now self.pos }
     {
         let pos = self.pos;
         if left(src.len(), pos) < 2 {
-            ReadNumber::InsufficientSpace
+            None
         } else {
-            ReadNumber::Is(number(src, pos), ReadCursor { pos: pos + 2 })
+            Some((number(src, pos), ReadCursor { pos: pos + 2 }))
         }
     }
 
     // The next `n` octets; empty where fewer are left. `past` says which, and gives the cursor behind them.
+    #[tactic(auto, unfolding(crate::specs::ReadCursor::read_slice, lists::specs::Choose::choose))]
     pub fn slice(self, src: &[u8], n: usize) -> &[u8]
         ensures { result.now ≡ read_slice src.now self.pos n }
     {
-        let pos = self.pos;
-        if left(src.len(), pos) < n {
-            return &src[..0];
-        }
-        if src.len() < pos {
-            return &src[..0];
-        }
-        &src[pos..pos + n]
+        self.remaining(src).get(..n).unwrap_or(&[])
     }
 
-    pub fn past(self, src: &[u8], n: usize) -> ReadPast
+    // The cursor behind the next `n` octets. None: insufficient space.
+    #[tactic(auto, unfolding(crate::specs::ReadCursor::read_past, lists::specs::Choose::choose))]
+    pub fn past(self, src: &[u8], n: usize) -> Option<ReadCursor>
         ensures { result ≡ read_past src.now self.pos n }
     {
         let pos = self.pos;
         if left(src.len(), pos) < n {
-            ReadPast::InsufficientSpace
+            None
         } else {
-            ReadPast::To(ReadCursor { pos: pos + n })
+            Some(ReadCursor { pos: pos + n })
         }
     }
 
@@ -89,12 +72,7 @@ impl ReadCursor {
     pub fn remaining(self, src: &[u8]) -> &[u8]
         ensures { result.now ≡ drop self.pos src.now }
     {
-        let pos = self.pos;
-        if src.len() < pos {
-            &src[..0]
-        } else {
-            &src[pos..]
-        }
+        src.get(self.pos..).unwrap_or(&[])
     }
 
     // Back to the start.

@@ -4,11 +4,11 @@ use Rattle.lists.specs.Choose.{choose}
 use Rattle.octets.specs.Octets.{part, u16_at}
 use Rattle.cursor_read.specs.declared.ReadCursor.{ReadCursor}
 
-unfoldable pub read_number : List ℕ → ℕ → Option (ℕ × ReadCursor)
+abbrev pub read_number : List ℕ → ℕ → Option (ℕ × ReadCursor)
 read_number s pos = choose (ltb (length s - pos) 2) None (Some (u16_at s pos, record { pos = pos + 2 }))
 
-unfoldable pub read_slice : List ℕ → ℕ → ℕ → List ℕ
+abbrev pub read_slice : List ℕ → ℕ → ℕ → List ℕ
 read_slice s pos n = choose (ltb (length s - pos) n) [] (part s pos n)
 
-unfoldable pub read_past : List ℕ → ℕ → ℕ → Option ReadCursor
+abbrev pub read_past : List ℕ → ℕ → ℕ → Option ReadCursor
 read_past s pos n = choose (ltb (length s - pos) n) None (Some (record { pos = pos + n }))

@@ -1,6 +1,6 @@
 // The read cursor of cursor.rs by value: a cursor is the position alone, and the octets are lent at each call.
 // It stands on octets; a position past the end has nothing available.
-#![tactic(auto)]
+#![tactic(auto, unfolding(lists::specs::Choose::choose))]
 
 ghost use Rattle.std.specs.Prelude.{◌≡◌, ◌-◌, length, drop};
 ghost use Rattle.cursor_read.specs.ReadCursor.{read_number, read_slice, read_past};
@@ -35,7 +35,6 @@ impl ReadCursor {
     }
 
     // Reads a number of two octets: it, and the cursor behind it. None: insufficient space.
-    #[tactic(auto, unfolding(crate::specs::ReadCursor::read_number, lists::specs::Choose::choose))]
     pub fn read(self, src: &[u8]) -> Option<(u16, ReadCursor)>
         ensures { result ≡ read_number src.now self.pos }
     {
@@ -48,7 +47,6 @@ impl ReadCursor {
     }
 
     // The next `n` octets; empty where fewer are left. `past` says which, and gives the cursor behind them.
-    #[tactic(auto, unfolding(crate::specs::ReadCursor::read_slice, lists::specs::Choose::choose))]
     pub fn slice(self, src: &[u8], n: usize) -> &[u8]
         ensures { result.now ≡ read_slice src.now self.pos n }
     {
@@ -56,7 +54,6 @@ impl ReadCursor {
     }
 
     // The cursor behind the next `n` octets. None: insufficient space.
-    #[tactic(auto, unfolding(crate::specs::ReadCursor::read_past, lists::specs::Choose::choose))]
     pub fn past(self, src: &[u8], n: usize) -> Option<ReadCursor>
         ensures { result ≡ read_past src.now self.pos n }
     {

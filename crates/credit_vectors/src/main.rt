@@ -5,25 +5,14 @@
 use credit::{CreditFlowControl, CreditFlowPolicy, Grant};
 use std::io;
 
-fn number(rt: &impl Print, n: u16) -> io::Result<()> {
-    print!(rt; "{n} ")
-}
-
-fn text(rt: &impl Print, s: &[u8]) -> io::Result<()> {
-    rt.write_all(s)
-}
-
 fn account(rt: &impl Print, a: CreditFlowControl) -> io::Result<()> {
     print!(rt; "{} {} ", a.credits, a.received)
 }
 
 fn grant(rt: &impl Print, g: Grant) -> io::Result<()> {
     match g {
-        Grant::Nothing => text(rt, b"grants nothing "),
-        Grant::Credits(n) => {
-            text(rt, b"grants ")?;
-            number(rt, n)
-        }
+        Grant::Nothing => print!(rt; "grants nothing "),
+        Grant::Credits(n) => print!(rt; "grants {n} "),
     }
 }
 

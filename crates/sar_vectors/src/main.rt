@@ -14,15 +14,6 @@ struct Side {
     answer: u8,
 }
 
-fn text(rt: &impl Print, s: &[u8]) -> io::Result<()> {
-    rt.write_all(s)
-}
-
-fn number(rt: &impl Print, n: usize) -> io::Result<()> {
-    text(rt, b" ")?;
-    print!(rt; "{n}")
-}
-
 // A job's octets: no two neighbours are equal.
 fn fill(s: &mut [u8]) {
     for (i, x) in s.iter_mut().enumerate() {
@@ -124,18 +115,15 @@ fn rejoin(rt: &impl Print, l: u16, mps: u16, out: &[u8]) -> io::Result<()> {
 // What a send came to: its refusal, or the frames that it wrote.
 fn came(rt: &impl Print, plan: Plan, l: u16, mps: u16, out: &[u8]) -> io::Result<()> {
     match plan {
-        Plan::Refused(r) => {
-            text(rt, b" refused")?;
-            number(rt, codes::refusal_number(r) as usize)?;
-        }
+        Plan::Refused(r) => print!(rt; " refused {}", codes::refusal_number(r))?,
         Plan::Frames { n, octets } => {
-            number(rt, n)?;
+            print!(rt; " {n}")?;
             if octets <= out.len() {
                 rejoin(rt, l, mps, &out[0..octets])?;
             }
         }
     }
-    text(rt, b"\n")
+    println!(rt)
 }
 
 // Plans and cuts a job of l octets for a peer of that MTU, MPS and credits.

@@ -5,26 +5,14 @@
 use credit::{CreditFlowControl, CreditFlowPolicy};
 use std::io;
 
-fn number(rt: &impl Print, n: u16) -> io::Result<()> {
-    print!(rt; "{n} ")
-}
-
-fn text(rt: &impl Print, s: &[u8]) -> io::Result<()> {
-    rt.write_all(s)
-}
-
 fn account(rt: &impl Print, a: CreditFlowControl) -> io::Result<()> {
-    number(rt, a.credits)?;
-    number(rt, a.received)
+    print!(rt; "{} {} ", a.credits, a.received)
 }
 
 fn grant(rt: &impl Print, g: Option<u16>) -> io::Result<()> {
     match g {
-        None => text(rt, b"grants nothing "),
-        Some(n) => {
-            text(rt, b"grants ")?;
-            number(rt, n)
-        }
+        None => print!(rt; "grants nothing "),
+        Some(n) => print!(rt; "grants {n} "),
     }
 }
 
@@ -41,43 +29,31 @@ fn row(
         received,
     };
     account(rt, a)?;
-    let g = a.process();
-    grant(rt, g)?;
-    text(rt, b"/ ")?;
-    number(rt, n)?;
-    text(rt, b"received: ")?;
-    let r = a.confirm_received(n);
-    account(rt, r)?;
-    let s = credit_in_place::received_through(a, n);
-    account(rt, s)?;
-    text(rt, b"granted: ")?;
-    let t = a.confirm_granted(n);
-    account(rt, t)?;
-    let u = credit_in_place::granted_through(a, n);
-    account(rt, u)?;
-    text(rt, b"\n")
+    grant(rt, a.process())?;
+    print!(rt; "/ {n} received: ")?;
+    account(rt, a.confirm_received(n))?;
+    account(rt, credit_in_place::received_through(a, n))?;
+    print!(rt; "granted: ")?;
+    account(rt, a.confirm_granted(n))?;
+    account(rt, credit_in_place::granted_through(a, n))?;
+    println!(rt)
 }
 
 fn every(rt: &impl Print, k: u16, credits: u16, received: u16, n: u16) -> io::Result<()> {
-    text(rt, b"every ")?;
-    number(rt, k)?;
-    let p = CreditFlowPolicy::Every(k);
-    row(rt, p, credits, received, n)
+    print!(rt; "every {k} ")?;
+    row(rt, CreditFlowPolicy::Every(k), credits, received, n)
 }
 
 fn threshold(rt: &impl Print, t: u16, credits: u16, received: u16, n: u16) -> io::Result<()> {
-    text(rt, b"below ")?;
-    number(rt, t)?;
-    let p = CreditFlowPolicy::MinThreshold(t);
-    row(rt, p, credits, received, n)
+    print!(rt; "below {t} ")?;
+    row(rt, CreditFlowPolicy::MinThreshold(t), credits, received, n)
 }
 
 fn main(rt: HostRuntime) -> io::Result<()> {
     let a = CreditFlowControl::new(CreditFlowPolicy::Every(1), 5);
-    text(&rt, b"new ")?;
+    print!(rt; "new ")?;
     account(&rt, a)?;
-    number(&rt, a.available())?;
-    text(&rt, b"\n")?;
+    println!(rt; "{} ", a.available())?;
     every(&rt, 1, 5, 0, 1)?;
     every(&rt, 1, 4, 1, 1)?;
     every(&rt, 3, 4, 2, 2)?;

@@ -1,6 +1,6 @@
 // The read cursor of cursor.rs by value: a cursor is the position alone, and the octets are lent at each call.
 // It stands on octets; a position past the end has nothing available.
-#![tactic(auto)]
+#![tactic(auto, unfolding(lists::specs::Choose::choose))]
 
 ghost use Rattle.std.specs.Prelude.{◌≡◌, ◌-◌, length, drop};
 ghost use Rattle.cursor_read.specs.ReadCursor.{read_number, read_slice, read_past};
@@ -11,20 +11,6 @@ use octets::{left, number};
 #[derive(Clone, Copy)]
 pub struct ReadCursor {
     pub pos: usize,
-}
-
-// A number that was read, and the cursor behind it.
-#[derive(Clone, Copy)]
-pub enum ReadNumber {
-    InsufficientSpace,
-    Is(u16, ReadCursor),
-}
-
-// The cursor behind some octets.
-#[derive(Clone, Copy)]
-pub enum ReadPast {
-    InsufficientSpace,
-    To(ReadCursor),
 }
 
 impl ReadCursor {
@@ -48,15 +34,15 @@ impl ReadCursor {
         self.pos
     }
 
-    // Reads a number of two octets.
-    pub fn read(self, src: &[u8]) -> ReadNumber
+    // Reads a number of two octets: it, and the cursor behind it. None: insufficient space.
+    pub fn read(self, src: &[u8]) -> Option<(u16, ReadCursor)>
         ensures { result ≡ read_number src.now self.pos }
     {
         let pos = self.pos;
         if left(src.len(), pos) < 2 {
-            ReadNumber::InsufficientSpace
+            None
         } else {
-            ReadNumber::Is(number(src, pos), ReadCursor { pos: pos + 2 })
+            Some((number(src, pos), ReadCursor { pos: pos + 2 }))
         }
     }
 
@@ -64,24 +50,18 @@ impl ReadCursor {
     pub fn slice(self, src: &[u8], n: usize) -> &[u8]
         ensures { result.now ≡ read_slice src.now self.pos n }
     {
-        let pos = self.pos;
-        if left(src.len(), pos) < n {
-            return &src[..0];
-        }
-        if src.len() < pos {
-            return &src[..0];
-        }
-        &src[pos..pos + n]
+        self.remaining(src).get(..n).unwrap_or(&[])
     }
 
-    pub fn past(self, src: &[u8], n: usize) -> ReadPast
+    // The cursor behind the next `n` octets. None: insufficient space.
+    pub fn past(self, src: &[u8], n: usize) -> Option<ReadCursor>
         ensures { result ≡ read_past src.now self.pos n }
     {
         let pos = self.pos;
         if left(src.len(), pos) < n {
-            ReadPast::InsufficientSpace
+            None
         } else {
-            ReadPast::To(ReadCursor { pos: pos + n })
+            Some(ReadCursor { pos: pos + n })
         }
     }
 
@@ -89,12 +69,7 @@ impl ReadCursor {
     pub fn remaining(self, src: &[u8]) -> &[u8]
         ensures { result.now ≡ drop self.pos src.now }
     {
-        let pos = self.pos;
-        if src.len() < pos {
-            &src[..0]
-        } else {
-            &src[pos..]
-        }
+        src.get(self.pos..).unwrap_or(&[])
     }
 
     // Back to the start.

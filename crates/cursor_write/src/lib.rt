@@ -1,6 +1,6 @@
 // The write cursor of cursor.rs by value: a cursor is the position alone, and the octets are lent at each call.
 // It stands on octets; a position past the end has no room.
-#![tactic(auto)]
+#![tactic(auto, unfolding(lists::specs::Choose::choose))]
 
 ghost use Rattle.std.specs.Prelude.{◌≡◌, ◌-◌, min, length, take};
 ghost use Rattle.octets.specs.Octets.{le16};
@@ -12,13 +12,6 @@ use octets::{copy_to, left, put_number};
 #[derive(Clone, Copy)]
 pub struct WriteCursor {
     pub pos: usize,
-}
-
-// The cursor behind what was written.
-#[derive(Clone, Copy)]
-pub enum Written {
-    InsufficientSpace,
-    To(WriteCursor),
 }
 
 impl WriteCursor {
@@ -42,41 +35,33 @@ impl WriteCursor {
         self.pos
     }
 
-    // Writes all octets of `src`, or none where they do not fit.
-    pub fn append(self, out: &mut [u8], src: &[u8]) -> Written
+    // Writes all octets of `src`, and gives the cursor behind them. None: insufficient space, nothing is written.
+    pub fn append(self, out: &mut [u8], src: &[u8]) -> Option<WriteCursor>
         ensures { Appends out.old self.pos src.now result out.new }
     {
-        let pos = self.pos;
-        if left(out.len(), pos) < src.len() {
-            return Written::InsufficientSpace;
-        }
-        copy_to(out, pos, src, 0, src.len());
-        Written::To(WriteCursor {
-            pos: pos + src.len(),
-        })
+        let behind = self.commit(out, src.len())?;
+        copy_to(out, self.pos, src, 0, src.len());
+        Some(behind)
     }
 
-    // Writes a number of two octets.
-    pub fn write(self, out: &mut [u8], v: u16) -> Written
+    // Writes a number of two octets. None: as for `append`.
+    pub fn write(self, out: &mut [u8], v: u16) -> Option<WriteCursor>
         ensures { Appends out.old self.pos (le16 v) result out.new }
     {
-        let pos = self.pos;
-        if left(out.len(), pos) < 2 {
-            return Written::InsufficientSpace;
-        }
-        put_number(out, pos, v);
-        Written::To(WriteCursor { pos: pos + 2 })
+        let behind = self.commit(out, 2)?;
+        put_number(out, self.pos, v);
+        Some(behind)
     }
 
-    // Takes `n` octets behind the cursor as written: the caller has put them there.
-    pub fn commit(self, out: &[u8], n: usize) -> Written
+    // Takes `n` octets behind the cursor as written: the caller has put them there. None: insufficient space.
+    pub fn commit(self, out: &[u8], n: usize) -> Option<WriteCursor>
         ensures { result ≡ committed out.now self.pos n }
     {
         let pos = self.pos;
         if left(out.len(), pos) < n {
-            Written::InsufficientSpace
+            None
         } else {
-            Written::To(WriteCursor { pos: pos + n })
+            Some(WriteCursor { pos: pos + n })
         }
     }
 
@@ -84,9 +69,8 @@ impl WriteCursor {
     pub fn truncate(self, npos: usize) -> Self
         ensures { result.pos ≡ min self.pos npos }
     {
-        WriteCursor {
-            pos: octets::least(self.pos, npos),
-        }
+        let pos = self.pos.min(npos);
+        WriteCursor { pos }
     }
 
     // Back to the start.
@@ -100,7 +84,6 @@ impl WriteCursor {
     pub fn finish(self, out: &[u8]) -> &[u8]
         ensures { result.now ≡ take self.pos out.now }
     {
-        let pos = octets::least(self.pos, out.len());
-        &out[..pos]
+        out.get(..self.pos).unwrap_or(out)
     }
 }

@@ -15,46 +15,24 @@ struct Side {
     answer: u8,
 }
 
-fn text(rt: &impl Print, s: &[u8]) -> io::Result<()> {
-    rt.write_all(s)
-}
-
-fn number(rt: &impl Print, n: usize) -> io::Result<()> {
-    text(rt, b" ")?;
-    print!(rt; "{n}")
-}
-
-fn numbers(rt: &impl Print, a: usize, b: usize, c: usize, d: usize) -> io::Result<()> {
-    number(rt, a)?;
-    number(rt, b)?;
-    number(rt, c)?;
-    number(rt, d)
-}
-
 // A job's octets: no two neighbours are equal.
 fn fill(s: &mut [u8]) {
-    let mut i: usize = 0;
-    while i < s.len() {
-        s[i] = (i % 251) as u8;
-        i += 1;
+    for (i, x) in s.iter_mut().enumerate() {
+        *x = (i % 251) as u8;
     }
 }
 
 // Octets by their number and a check over them; the first 40 in full.
 fn show(rt: &impl Print, s: &[u8]) -> io::Result<()> {
-    number(rt, s.len())?;
-    text(rt, b" ")?;
+    print!(rt; " {} ", s.len())?;
     let mut c: u32 = 1;
-    let mut i: usize = 0;
-    while i < s.len() {
-        let b = octets::octet(s, i);
-        c = (c * 31 + b as u32) % 65521;
+    for (i, b) in s.iter().enumerate() {
+        c = (c * 31 + *b as u32) % 65521;
         if i < 40 {
             print!(rt; "{b:02x}")?;
         }
-        i += 1;
     }
-    number(rt, c as usize)
+    print!(rt; " {c}")
 }
 
 // One payload on a slot's part of the room, of d + 1 places of as many octets as the MTU.
@@ -100,14 +78,7 @@ fn feed(places: &mut [u8], mtu: u16, mps: u16, d: u16, s: Side, payload: &[u8]) 
 // The answer, the open assembly and the jobs that wait.
 fn state(rt: &impl Print, s: Side) -> io::Result<()> {
     let a = s.a;
-    text(rt, b" joined")?;
-    numbers(
-        rt,
-        s.answer as usize,
-        a.have as usize,
-        a.want as usize,
-        s.queued,
-    )
+    print!(rt; " joined {} {} {} {}", s.answer, a.have, a.want, s.queued)
 }
 
 // The payloads of the frames in `out`, one after the other, until one is refused: into two places of as many octets as the MTU.
@@ -117,19 +88,17 @@ fn join_all(places: &mut [u8], mtu: u16, mps: u16, out: &[u8]) -> Side {
         queued: 0,
         answer: 0,
     };
-    let mut at: usize = 0;
-    while at < out.len() {
-        let n = octets::number(out, at) as usize;
-        if out.len() - at < 4 + n {
+    let mut rest = out;
+    while let [low, high, _, _, behind @ ..] = rest {
+        let n = u16::from_le_bytes([*low, *high]) as usize;
+        let Some((payload, next)) = behind.split_at_checked(n) else {
             return s;
-        }
-        let from = at + 4;
-        let to = from + n;
-        s = feed(places, mtu, mps, 1, s, &out[from..to]);
+        };
+        s = feed(places, mtu, mps, 1, s, payload);
         if s.answer != 0 {
             return s;
         }
-        at = to;
+        rest = next;
     }
     s
 }
@@ -153,18 +122,15 @@ fn came(
     out: &[u8],
 ) -> io::Result<()> {
     match plan {
-        Err(r) => {
-            text(rt, b" refused")?;
-            number(rt, codes::refusal_number(r) as usize)?;
-        }
+        Err(r) => print!(rt; " refused {}", codes::refusal_number(r))?,
         Ok(Framed { n, octets }) => {
-            number(rt, n)?;
+            print!(rt; " {n}")?;
             if octets <= out.len() {
                 rejoin(rt, l, mps, &out[0..octets])?;
             }
         }
     }
-    text(rt, b"\n")
+    println!(rt)
 }
 
 // Plans and cuts a job of l octets for a peer of that MTU, MPS and credits.
@@ -188,19 +154,15 @@ fn cut(rt: &impl Print, l: u16, mtu: u16, mps: u16, credits: u16, room: usize) -
     if 76935 < room {
         return Ok(());
     }
-    text(rt, b"cut")?;
-    numbers(rt, l as usize, mtu as usize, mps as usize, credits as usize)?;
-    number(rt, room)?;
+    print!(rt; "cut {l} {mtu} {mps} {credits} {room}")?;
     let mut out = [0u8; 76935];
     send(rt, &mut out[0..room], l, mtu, mps, credits)
 }
 
 // The jobs of from to to octets, with credits and room enough.
 fn cuts(rt: &impl Print, mps: u16, from: u16, to: u16) -> io::Result<()> {
-    let mut l = from;
-    while l < to {
+    for l in from..to {
         cut(rt, l, 65535, mps, 65535, 76935)?;
-        l += 1;
     }
     Ok(())
 }
@@ -214,9 +176,9 @@ fn small(rt: &impl Print, mps: u16, l: u8, octets: u8) -> io::Result<()> {
     let mut out = [0u8; 255];
     fill(&mut job);
     sar_frames::cut_job(&mut out, 0x1234, mps, &job[0..l as usize]);
-    text(rt, b"small")?;
+    print!(rt; "small")?;
     rejoin(rt, l as u16, mps, &out[0..octets as usize])?;
-    text(rt, b"\n")
+    println!(rt)
 }
 
 // A state of the slot, and the first two octets of the payload that comes.
@@ -230,36 +192,21 @@ struct Case {
 
 // No assembly open, with lengths within and above the MTU; then a job of 6 octets open, with 0, 3 and (as no table has it) 7 of them there.
 fn case_of(k: usize) -> Case {
-    if k < 5 {
-        let low = if k == 0 {
-            0u8
-        } else if k == 2 {
-            8
-        } else if k == 3 {
-            9
-        } else {
-            2
-        };
-        let high = if k == 4 { 1u8 } else { 0 };
-        return Case {
-            have: 0,
-            want: 0,
-            low,
-            high,
-        };
-    }
-    let have = if k == 5 {
-        0u16
-    } else if k == 6 {
-        3
-    } else {
-        7
+    let (have, want, low, high) = match k {
+        0 => (0, 0, 0, 0),
+        1 => (0, 0, 2, 0),
+        2 => (0, 0, 8, 0),
+        3 => (0, 0, 9, 0),
+        4 => (0, 0, 2, 1),
+        5 => (0, 6, 255, 255),
+        6 => (3, 6, 255, 255),
+        _ => (7, 6, 255, 255),
     };
     Case {
         have,
-        want: 6,
-        low: 255,
-        high: 255,
+        want,
+        low,
+        high,
     }
 }
 
@@ -279,21 +226,17 @@ fn join(rt: &impl Print, i: usize, mps: u16) -> io::Result<()> {
         answer: 0,
     };
     let r = feed(&mut places, 8, mps, 2, s, &payload[0..n]);
-    text(rt, b"join")?;
-    number(rt, mps as usize)?;
-    numbers(rt, c.have as usize, c.want as usize, queued, n)?;
+    print!(rt; "join {mps} {} {} {queued} {n}", c.have, c.want)?;
     show(rt, &payload[0..n])?;
     state(rt, r)?;
     show(rt, &places)?;
-    text(rt, b"\n")
+    println!(rt)
 }
 
 // Every such case, with 0 to 2 jobs waiting and 0 to 7 octets.
 fn joins(rt: &impl Print, mps: u16) -> io::Result<()> {
-    let mut i: usize = 0;
-    while i < 192 {
+    for i in 0..192 {
         join(rt, i, mps)?;
-        i += 1;
     }
     Ok(())
 }

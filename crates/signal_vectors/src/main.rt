@@ -2,8 +2,7 @@
 // without '=' says what follows. Each line that differs is written, and at the end how many there are.
 #![tactic(auto)]
 
-ghost use Rattle.std.specs.Prelude.{◌≡◌, ◌≤◌, IfOk, length, nat_eq};
-ghost use Rattle.lists.specs.First.{first};
+ghost use Rattle.std.specs.Prelude.{◌≤◌, IfOk, length};
 
 use codes::Refusal;
 use octets::{least, put};
@@ -11,21 +10,6 @@ use signal_forms::Signal;
 use signal_headers::BadHeader;
 use std::io;
 use std::io::Read;
-
-// Where the first octet of `s` stands that is `c`; the length where none is.
-fn find(s: &[u8], c: u8) -> usize
-    ensures value { result ≡ first (λ x. nat_eq x c) s.now }
-    ensures upper_bound { result ≤ length s.now }
-{
-    let mut i = 0;
-    while i < s.len() {
-        if s[i] == c {
-            return i;
-        }
-        i += 1;
-    }
-    i
-}
 
 // A hex digit's value; 0 for any other character.
 fn value(c: u8) -> u8
@@ -42,13 +26,11 @@ fn value(c: u8) -> u8
 fn spelled(hex: &[u8], out: &mut [u8]) -> usize
     ensures { result ≤ length out.new }
 {
-    let n = least(hex.len() / 2, out.len());
-    let mut k = 0;
-    while k < n {
-        put(out, k, 16 * value(hex[2 * k]) + value(hex[2 * k + 1]));
-        k += 1;
+    let (pairs, _) = hex.as_chunks::<2>();
+    for (x, [high, low]) in out.iter_mut().zip(pairs) {
+        *x = 16 * value(*high) + value(*low);
     }
-    n
+    least(pairs.len(), out.len())
 }
 
 // 1 for parameters that a central takes.
@@ -56,11 +38,7 @@ fn valid(s: Signal) -> u8 {
     let Signal::ConnParamUpdateReq(p) = s else {
         return 0;
     };
-    if signal_parameter_rule::parameters_valid(p) {
-        1
-    } else {
-        0
-    }
+    signal_parameter_rule::parameters_valid(p) as u8
 }
 
 // The signal written again, where it could be read; how many octets that are. `head` gets 1 for no known code, 2 for a bad body, 3 for a
@@ -116,49 +94,34 @@ fn agrees(pdu: &[u8], wanted: &[u8]) -> bool {
     head[..] == wanted[..h] && out[..k] == wanted[h..]
 }
 
-#[derive(Clone, Copy)]
+#[derive(Clone, Copy, Default)]
 struct Tally {
     same: u64,
     different: u64,
 }
 
 // One line, replayed and counted; it is written where something else comes of its PDU.
-fn replay(rt: &impl Print, line: &[u8], t: Tally) -> io::Result<Tally> {
-    let at = find(line, b'=');
-    if at == line.len() {
-        return Ok(t);
-    }
+fn replay(rt: &impl Print, line: &[u8], t: &mut Tally) -> io::Result<()> {
+    let Some(at) = line.iter().position(|c| *c == b'=') else {
+        return Ok(());
+    };
     let mut pdu = [0u8; 64];
     let n = spelled(&line[..at], &mut pdu);
     let mut wanted = [0u8; 64];
     let m = spelled(&line[at + 1..], &mut wanted);
     if agrees(&pdu[..n], &wanted[..m]) {
-        return Ok(Tally {
-            same: t.same.wrapping_add(1),
-            different: t.different,
-        });
+        t.same = t.same.wrapping_add(1);
+        return Ok(());
     }
+    t.different = t.different.wrapping_add(1);
     rt.write_all(line)?;
-    rt.write_all(b"\n")?;
-    Ok(Tally {
-        same: t.same,
-        different: t.different.wrapping_add(1),
-    })
+    rt.write_all(b"\n")
 }
 
 fn replay_all(rt: &impl Print, text: &[u8]) -> io::Result<Tally> {
-    let mut tally = Tally {
-        same: 0,
-        different: 0,
-    };
-    let mut rest = text;
-    while 0 < rest.len() {
-        let end = find(rest, b'\n');
-        tally = replay(rt, &rest[..end], tally)?;
-        if rest.len() <= end {
-            return Ok(tally);
-        }
-        rest = &rest[end + 1..];
+    let mut tally = Tally::default();
+    for line in text.split(|c| *c == b'\n') {
+        replay(rt, line, &mut tally)?;
     }
     Ok(tally)
 }
@@ -168,6 +131,7 @@ fn read_full<R: Read>(input: &mut R, buf: &mut [u8]) -> io::Result<usize>
     ensures { IfOk result (λ n. n ≤ length buf.new) }
 {
     let mut n = 0;
+    // A `while`: `n` moves by as many octets as come.
     while n < buf.len() {
         let more = input.read(&mut buf[n..])?;
         if more == 0 {

@@ -43,11 +43,8 @@ fn record(c: u8) -> Slot {
 
 fn table(row: &[u8]) -> Table {
     let mut t = call_make::blank(16, 1, 29);
-    let mut i: usize = 0;
-    while i < 16 {
-        let x = record(octets::octet(row, i));
-        t = table::put_slot(t, i, x);
-        i += 1;
+    for i in 0..16 {
+        t = table::put_slot(t, i, record(octets::octet(row, i)));
     }
     t
 }

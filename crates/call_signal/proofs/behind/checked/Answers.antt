@@ -18,15 +18,15 @@ returns-then-pdu-eq0 c =
       c.done.ensures,
     ) (sym (end-still _ _ _ _ _ _ _))
 
-pub returns-in-Cut : goal.returns-in-Cut
+pub returns-in-Err-Cut : goal.returns-in-Err-Cut
 unfolding choose sizes checked
-returns-in-Cut c =
-    rw (← c.check_headers.ensures, c.in-Cut.is, c.refused.ensures) (sym (end-still _ _ _ _ _ _ _))
+returns-in-Err-Cut c =
+    rw (← c.check_headers.ensures, c.in-Err-Cut.is, c.refused.ensures) (sym (end-still _ _ _ _ _ _ _))
 
-pub returns-in-Past : goal.returns-in-Past
+pub returns-in-Err-Past : goal.returns-in-Err-Past
 unfolding choose sizes checked
-returns-in-Past c =
-    rw (← c.check_headers.ensures, c.in-Past.is) (c.reject.ensures _ _ [])
+returns-in-Err-Past c =
+    rw (← c.check_headers.ensures, c.in-Err-Past.is) (c.reject.ensures _ _ [])
 
 pub returns-else-pdu-eq0 : goal.returns-else-pdu-eq0
 unfolding choose sizes checked

@@ -14,7 +14,7 @@ pub queued-requires : goal.queued-requires
 queued-requires c =
     let g = c.args in
     let x = g.x in
-    let free = finished-free x.mtu x.mps g.d x.assembly x.queue.count g.payload.now _ (sym c.join_frame-step.ensures.0 ∙ c.in-Finished.is) in
+    let free = finished-free x.mtu x.mps g.d x.assembly x.queue.count g.payload.now _ (sym c.join_frame-step.ensures.0 ∙ c.in-Ok-Finished.is) in
     omega (arith, c.requires.2)
 
 pub returns-in-Err : goal.returns-in-Err
@@ -25,26 +25,26 @@ returns-in-Err c =
     let told = c.in-Err.is in
     rw (← c.join_frame-step.ensures.0, told) (rw c.left-y.ensures at c.became.ensures, refused-moves g.place x.assembly x.queue.count g.part.now g.payload.now _ (rw told at c.join_frame-step.ensures.1) c.zero.ensures)
 
-pub returns-in-Dropped : goal.returns-in-Dropped
+pub returns-in-Ok-Dropped : goal.returns-in-Ok-Dropped
 unfolding joined_to sizes
-returns-in-Dropped c =
+returns-in-Ok-Dropped c =
     let g = c.args in
     let x = g.x in
-    let told = c.in-Dropped.is in
-    rw (← c.join_frame-step.ensures.0, told) (rw c.with_assembly-y.ensures at c.became-in-Dropped.ensures, (rw told at c.join_frame-step.ensures.1) ∙ join_moves_lem g.place x.assembly x.queue.count g.part.now g.payload.now (Ok Joined.Dropped))
+    let told = c.in-Ok-Dropped.is in
+    rw (← c.join_frame-step.ensures.0, told) (rw c.with_assembly-y.ensures at c.became-in-Ok-Dropped.ensures, (rw told at c.join_frame-step.ensures.1) ∙ join_moves_lem g.place x.assembly x.queue.count g.part.now g.payload.now (Ok Joined.Dropped))
 
-pub returns-in-Finished : goal.returns-in-Finished
+pub returns-in-Ok-Finished : goal.returns-in-Ok-Finished
 unfolding joined_to sizes
-returns-in-Finished c =
+returns-in-Ok-Finished c =
     let g = c.args in
     let x = g.x in
-    let told = c.in-Finished.is in
-    rw (← c.join_frame-step.ensures.0, told) (rw (c.with_queue-z.ensures, c.queued.ensures, c.with_assembly-y-in-Finished.ensures) at c.became-in-Finished.ensures, (rw told at c.join_frame-step.ensures.1) ∙ join_moves_lem g.place x.assembly x.queue.count g.part.now g.payload.now (Ok (Joined.Finished _)))
+    let told = c.in-Ok-Finished.is in
+    rw (← c.join_frame-step.ensures.0, told) (rw (c.with_queue-z.ensures, c.queued.ensures, c.with_assembly-y-in-Ok-Finished.ensures) at c.became-in-Ok-Finished.ensures, (rw told at c.join_frame-step.ensures.1) ∙ join_moves_lem g.place x.assembly x.queue.count g.part.now g.payload.now (Ok (Joined.Finished _)))
 
-pub returns-in-Assembling : goal.returns-in-Assembling
+pub returns-in-Ok-Assembling : goal.returns-in-Ok-Assembling
 unfolding joined_to sizes
-returns-in-Assembling c =
+returns-in-Ok-Assembling c =
     let g = c.args in
     let x = g.x in
-    let told = c.in-Assembling.is in
-    rw (← c.join_frame-step.ensures.0, told) (rw c.with_assembly-y-in-Assembling.ensures at c.became-in-Assembling.ensures, (rw told at c.join_frame-step.ensures.1) ∙ join_moves_lem g.place x.assembly x.queue.count g.part.now g.payload.now (Ok (Joined.Assembling _)))
+    let told = c.in-Ok-Assembling.is in
+    rw (← c.join_frame-step.ensures.0, told) (rw c.with_assembly-y-in-Ok-Assembling.ensures at c.became-in-Ok-Assembling.ensures, (rw told at c.join_frame-step.ensures.1) ∙ join_moves_lem g.place x.assembly x.queue.count g.part.now g.payload.now (Ok (Joined.Assembling _)))

@@ -37,7 +37,7 @@ module _ (a : Assembly) (xs p : List ℕ) where
       let first = part front 0 a.have in
       let behind : (ys vs : List ℕ) (i : ℕ) → front ++ sets ys i vs ≡ sets (front ++ ys) (at + i) vs = λ ys vs i. sym (rw (length-take-le at xs in-list) at (sets_append_right vs front ys i)) in
       let moved : front ++ sets (drop at xs) 0 first ≡ sets xs at (part xs 0 a.have) =
-          behind (drop at xs) first 0 ∙ rw (take-append-drop, add-zero) (ap (sets xs at) (take-take a.have at xs have-fits)) in
+      behind (drop at xs) first 0 ∙ rw (take-append-drop, add-zero) (ap (sets xs at) (take-take a.have at xs have-fits)) in
       sym (sets_append_left (replicate place 0) front _ 0 (rw (length-replicate, length-take-le at xs in-list) (omega arith)))
       ∙ ap (λ (ys : List ℕ). sets ys 0 (replicate place 0)) (behind _ (part p 0 (length p)) a.have ∙ ap (λ (ys : List ℕ). sets ys (at + a.have) (part p 0 (length p))) moved)
       ∙ finish-joined place at some

@@ -1,13 +1,28 @@
--- `octets_copy::eight::copy_eight` meets its contract: a vector of eight that is stored is a run of eight.
-use Rattle.std.proofs.Common.{◌≡◌, ◌+◌, ◌≤◌, length, take, drop, drop-drop, length-drop, length-take-le, append_assoc, arith, sym, ◌∙◌}
-use Rattle.std.proofs.lemmas.List.Edits.{sets-eq}
-use Rattle.std.proofs.lemmas.Simd.{put_chunk_is}
+-- `octets_copy::eight::copy_eight` meets its contract: eight stores are a run of eight.
+use native.Mathlib.Omega.{arith}
+use Rattle.octets_copy.specs.Eight.{run_below, eight_stores}
 use Rattle.octets_copy.proofs.eight.copy_eight.Goals as goal
 
+pub bounds-dst-at-2 : goal.bounds-dst-at-2
+bounds-dst-at-2 c = run_below 0 c.args.dst.now c.args.src.now c.args.at c.args.from 1 c.requires.0 (omega arith)
+
+pub bounds-dst-at-3 : goal.bounds-dst-at-3
+bounds-dst-at-3 c = run_below 0 c.args.dst.now c.args.src.now c.args.at c.args.from 2 c.requires.0 (omega arith)
+
+pub bounds-dst-at-4 : goal.bounds-dst-at-4
+bounds-dst-at-4 c = run_below 0 c.args.dst.now c.args.src.now c.args.at c.args.from 3 c.requires.0 (omega arith)
+
+pub bounds-dst-at-5 : goal.bounds-dst-at-5
+bounds-dst-at-5 c = run_below 0 c.args.dst.now c.args.src.now c.args.at c.args.from 4 c.requires.0 (omega arith)
+
+pub bounds-dst-at-6 : goal.bounds-dst-at-6
+bounds-dst-at-6 c = run_below 0 c.args.dst.now c.args.src.now c.args.at c.args.from 5 c.requires.0 (omega arith)
+
+pub bounds-dst-at-7 : goal.bounds-dst-at-7
+bounds-dst-at-7 c = run_below 0 c.args.dst.now c.args.src.now c.args.at c.args.from 6 c.requires.0 (omega arith)
+
+pub bounds-dst-at-8 : goal.bounds-dst-at-8
+bounds-dst-at-8 c = run_below 0 c.args.dst.now c.args.src.now c.args.at c.args.from 7 c.requires.0 (omega arith)
+
 pub returns : goal.returns
-returns c =
-    let dst = c.args.dst.now in
-    let src = drop c.args.from c.args.src.now in
-    let long : length (take 8 src) ≡ 8 = length-take-le 8 src (rw length-drop (omega arith)) in
-    let fits : c.args.at + length (take 8 src) ≤ length dst = omega arith in
-    put_chunk_is c.args.at dst (take 8 src) fits ∙ rw (drop-drop, ← append_assoc) (sym (sets-eq (take 8 src) dst c.args.at fits))
+returns c = eight_stores 0 c.args.dst.now c.args.src.now c.args.at c.args.from c.requires.1

@@ -1,0 +1,2 @@
+-- Eight octets copied are a run of eight stores.
+pub mod Eight

@@ -36,15 +36,12 @@ pub fn find(t: Table, w: Want) -> usize
     ensures { result ≡ found (wanted w) t }
 {
     let n = octets::least(t.n, SLOTS);
-    let mut i = 0;
-    while i < n {
-        let x = t.slots[i];
-        if fits(x, w) {
+    for i in 0..n {
+        if fits(t.slots[i], w) {
             return i;
         }
-        i += 1;
     }
-    i
+    n
 }
 
 // The slot, freed if it is wanted.
@@ -60,12 +57,8 @@ pub fn free_all(t: Table, w: Want) -> Table
 {
     let n = octets::least(t.n, SLOTS);
     let mut u = t;
-    let mut i = 0;
-    while i < n {
-        let x = u.slots[i];
-        let y = freed_if(x, w);
-        u.slots[i] = y;
-        i += 1;
+    for i in 0..n {
+        u.slots[i] = freed_if(u.slots[i], w);
     }
     u
 }

@@ -19,13 +19,10 @@ fn bit_of(b: bool) -> u16
 pub fn attention_set(t: Table) -> u16
     ensures { result ≡ bitset calls (live t) }
 {
-    let mut i = octets::least(t.n, SLOTS);
+    let n = octets::least(t.n, SLOTS);
     let mut a: u16 = 0;
-    while 0 < i {
-        i -= 1;
-        let x = t.slots[i];
-        let b = bit_of(table_slot::calls(x));
-        a = b + 2 * a;
+    for i in (0..n).rev() {
+        a = bit_of(table_slot::calls(t.slots[i])) + 2 * a;
     }
     a
 }

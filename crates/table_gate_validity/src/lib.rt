@@ -17,15 +17,7 @@ fn lens_fit(q: Queue, place: usize) -> bool
     ensures { result ≡ lens_fit place q }
 {
     let n = octets::least(q.count as usize, DEPTH);
-    let mut j = 0;
-    while j < n {
-        let x = q.lens[j];
-        if place < x as usize {
-            return false;
-        }
-        j += 1;
-    }
-    true
+    q.lens[..n].iter().all(|x| *x as usize <= place)
 }
 
 // Credits held plus received stay in 16 bits.
@@ -66,15 +58,7 @@ fn slots_fit(t: Table) -> bool
     let n = octets::least(t.n, SLOTS);
     let d = t.d;
     let place = table_gate_sizes::place_size(t.m);
-    let mut i = 0;
-    while i < n {
-        let x = t.slots[i];
-        if !slot_fits(x, d, place) {
-            return false;
-        }
-        i += 1;
-    }
-    true
+    t.slots[..n].iter().all(|x| slot_fits(*x, d, place))
 }
 
 pub fn well_formed(t: Table) -> bool

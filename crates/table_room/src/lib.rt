@@ -33,11 +33,7 @@ pub fn wipe_all(room: &mut [u8], t: Table, w: Want)
     let n = t.n;
     let d = t.d;
     let m = t.m;
-    let mut i = 0;
-    while i < n {
-        let x = t.slots[i];
-        let b = table_slot::fits(x, w);
-        wipe_if(room, d, m, i, b);
-        i += 1;
+    for i in 0..n {
+        wipe_if(room, d, m, i, table_slot::fits(t.slots[i], w));
     }
 }

@@ -5,7 +5,6 @@
 use channel::{ChannelState, Slot, Table};
 use codes::LeCreditConnResultCode;
 use std::io;
-use table_search::Found;
 use table_slot::Want;
 
 // f is Disconnected without a hold, h and m Disconnected and held; the others are in use.
@@ -49,13 +48,6 @@ fn table(row: &[u8]) -> Table {
     t
 }
 
-fn place(f: Found) -> usize {
-    match f {
-        Found::At(i) => i,
-        Found::Nothing => 16,
-    }
-}
-
 fn number(rt: &impl Print, n: usize) -> io::Result<()> {
     print!(rt; " {n}")
 }
@@ -64,7 +56,7 @@ fn search(rt: &impl Print, row: &[u8]) -> io::Result<()> {
     let t = table(row);
     let run = t.slots;
     rt.write_all(row)?;
-    number(rt, place(table_search::lowest_free_among(run)))?;
+    number(rt, table_search::lowest_free_among(run).unwrap_or(16))?;
     number(rt, table::find(t, Want::Free))?;
     rt.write_all(b"\n")
 }

@@ -1,7 +1,7 @@
 use Rattle.std.specs.Prelude.{◌≡◌, ℕ, List, ◌-◌, ◌≤◌, ◌<◌, ◌^◌, length, take, drop}
 use Rattle.std.proofs.Common.{arith, length-take, length-drop}
 use borrow.Author.Rules.{rules}
-use Rattle.lists.specs.Bits.{Set, bitset-width, bit_le, set-none, set_more, set_all}
+use Rattle.lists.specs.Bits.{Set, bitset-width, bit_le, set-none, set_more}
 use Rattle.channel.specs.Limits.{slots_most}
 use Rattle.channel.specs.declared.Slot.{Slot}
 use Rattle.definition.specs.Table.{calls}
@@ -16,27 +16,22 @@ below {n} {i} {a} xs e s h =
 pub loop-i-init : goal.loop-i-init
 loop-i-init c =
     let e : length c.args.t.slots ≡ slots_most = search rules in
-    (search rules, set-none (omega arith))
+    set-none (omega arith)
 
 pub overflow_mul-a : goal.overflow_mul-a
 overflow_mul-a c =
     let e : length c.args.t.slots ≡ slots_most = search rules in
-    let b = below c.args.t.slots e c.loop-i.invariant.1 (omega arith) in
+    let b = below c.args.t.slots e c.loop-i.invariant (omega arith) in
     omega arith
 
 pub overflow_add-a : goal.overflow_add-a
 overflow_add-a c =
     let e : length c.args.t.slots ≡ slots_most = search rules in
-    let b = below c.args.t.slots e c.loop-i.invariant.1 (omega arith) in
+    let b = below c.args.t.slots e c.loop-i.invariant (omega arith) in
     omega (arith, bit_le c.calls.result)
 
 pub loop-i-preserved : goal.loop-i-preserved
 loop-i-preserved c =
     let l = c.loop-i in
     let e : length c.args.t.slots ≡ slots_most = search rules in
-    (omega arith, rw (c.bit_of-b.ensures, c.calls.ensures) (set_more {i = l.i - 1} l.invariant.1 _ (omega arith) (omega arith) (omega arith)))
-
-pub returns : goal.returns
-returns c =
-    let z : c.loop-i.i ≡ 0 = omega arith in
-    set_all (rw z at c.loop-i.invariant.1)
+    rw (c.bit_of.ensures, c.calls.ensures) (set_more {i = l.i - 1} l.invariant _ (omega arith) (omega arith) (omega arith))

@@ -1,5 +1,4 @@
 use mathlib.Core.Path.{◌≡◌, ◌∙◌}
-use Prim.Native.Nat.{◌-◌}
 use native.Mathlib.Omega.{arith}
 use borrow.Author.Rules.{rules}
 use lib.ListN.{length}
@@ -9,25 +8,22 @@ use Rattle.table_room.specs.Placed.{placed}
 use Rattle.table_room.proofs.wipe_all.Goals as goal
 
 pub loop-i-init : goal.loop-i-init
-loop-i-init c = (omega arith, swept_none)
+loop-i-init c = swept_none
 
 pub wipe_if-requires : goal.wipe_if-requires
 wipe_if-requires c =
     let l = c.loop-i in
-    placed {t = c.args.t} (record { sizes = c.requires.sizes; is = l.invariant.1.long ∙ c.requires.is }) l.i (omega arith)
+    placed {t = c.args.t} (record { sizes = c.requires.sizes; is = l.invariant.long ∙ c.requires.is }) l.i (omega arith)
 
 pub loop-i-preserved : goal.loop-i-preserved
 loop-i-preserved c =
     let l = c.loop-i in
     let e : length c.args.t.slots ≡ slots_most = search rules in
     let p = placed c.requires l.i (omega arith) in
-    let r = rw c.fits-b.ensures at c.wipe_if.ensures in
-    (omega arith, swept_more l.invariant.1 _ r c.wipe_if.auto.room (omega arith) (omega (arith, c.requires.sizes.n-most)) p.within)
-
-pub shape_of-room : goal.shape_of-room
-shape_of-room c = c.loop-i.invariant.1.long
+    let r = rw c.fits.ensures at c.wipe_if.ensures in
+    swept_more l.invariant _ r c.wipe_if.auto.room (omega arith) (omega (arith, c.requires.sizes.n-most)) p.within
 
 pub returns : goal.returns
 returns c =
     let e : length c.args.t.slots ≡ slots_most = search rules in
-    swept_all c.loop-i.invariant.1 (omega arith) (omega (arith, c.requires.sizes.n-most))
+    swept_all c.loop-i.invariant (omega arith) (omega (arith, c.requires.sizes.n-most))

@@ -1,15 +1,12 @@
-use Rattle.std.proofs.Common.{sym, ◌∙◌, arith}
-use Rattle.table_search.specs.Scan.{scan_start, scan_more, hit_is, none_is}
+use Rattle.std.proofs.Common.{rules, ◌∙◌}
+use Rattle.std.proofs.lemmas.Iterator.{YieldsList-from_slice}
+use Rattle.std.proofs.lemmas.Iterator.Search.{position_from_yields_List}
+use borrow.Author.Tests.{tests}
+use Rattle.definition.specs.Table.{is_free}
+use Rattle.table_search.specs.Scan.{searched}
 use Rattle.table_search.proofs.lowest_free_in.Goals as goal
 
-pub loop-i-init : goal.loop-i-init
-loop-i-init c = (omega arith, scan_start _)
-
-pub returns-then-is_free : goal.returns-then-is_free
-returns-then-is_free c = hit_is _ _ _ c.loop-i.invariant.1 (sym c.is_free.ensures ∙ c.if-is_free.true) (omega arith)
-
-pub loop-i-preserved : goal.loop-i-preserved
-loop-i-preserved c = (omega arith, scan_more _ _ _ c.loop-i.invariant.1 (sym c.is_free.ensures ∙ c.if-is_free.false) (omega arith))
-
 pub returns : goal.returns
-returns c = none_is _ _ c.loop-i.invariant.1 (omega arith)
+returns c =
+    let l = c.args.slots.now in
+    position_from_yields_List is_free _ _ c.position.result c.position.ensures.ran (YieldsList-from_slice l cc) (λ x b q k. search (rules, tests)) ∙ searched l

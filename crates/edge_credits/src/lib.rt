@@ -53,14 +53,12 @@ fn row_of(t: &[u8], n: usize, link: u16, cid: u16) -> usize
     requires { (table_octets ≤ length t.now) × (n ≤ slots_most) }
     ensures { result ≡ row_of t.now n link cid }
 {
-    let mut i = 0;
-    while i < n {
+    for i in 0..n {
         if connected_to(t, i, link, cid) {
             return i;
         }
-        i += 1;
     }
-    i
+    n
 }
 
 // Writes of the slot what the signal changed: the peer's credits, or, of a channel that is left, what changes then.

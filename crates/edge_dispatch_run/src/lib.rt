@@ -77,6 +77,7 @@ fn frames_in(table: &mut [u8], room: &mut [u8], frames: &[u8], answers: &mut [u8
 {
     let mut count: usize = 0;
     let mut at: usize = 0;
+    // A `while`: a turn's step is its frame's length, which stands in the frame.
     while at < frames.len() {
         if !whole(frames, at) {
             return refused(Refusal::Decode, count, at);

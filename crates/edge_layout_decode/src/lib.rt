@@ -17,10 +17,8 @@ fn head_spelled(t: &[u8]) -> bool
     ensures { result ≡ head_spelled t.now }
 {
     let mut ok = true;
-    let mut i = 0;
-    while i < 10 {
+    for i in 0..10 {
         ok = ok & (t[i + 6] == 0);
-        i += 1;
     }
     (t[0] == LAYOUT) & ok
 }
@@ -31,10 +29,8 @@ fn rows_spelled(t: &[u8]) -> bool
     ensures { result ≡ rows_spelled t.now }
 {
     let mut ok = true;
-    let mut i = 0;
-    while i < SLOTS {
+    for i in 0..SLOTS {
         ok = ok & edge_layout_read::row_spelled(t, i);
-        i += 1;
     }
     ok
 }
@@ -56,11 +52,9 @@ fn slots_in(t: &[u8]) -> [Slot; SLOTS]
 {
     let x = edge_layout_read::slot_at(t, 0);
     let mut xs = [x; SLOTS];
-    let mut i = 0;
-    while i < SLOTS {
-        let y = edge_layout_read::slot_at(t, i);
-        xs[i] = y;
-        i += 1;
+    // Not `array::from_fn`: a table is read an eighth slower by it, in more code.
+    for i in 0..SLOTS {
+        xs[i] = edge_layout_read::slot_at(t, i);
     }
     xs
 }

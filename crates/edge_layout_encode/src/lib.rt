@@ -14,11 +14,8 @@ fn put_slots(out: &mut [u8], t: Table)
     requires { table_octets ≤ length out.old }
     ensures { out.new ≡ put_rows out.old 0 t.slots }
 {
-    let mut i = 0;
-    while i < SLOTS {
-        let x = t.slots[i];
-        edge_layout_write::put_slot(out, i, x);
-        i += 1;
+    for i in 0..SLOTS {
+        edge_layout_write::put_slot(out, i, t.slots[i]);
     }
 }
 

@@ -135,11 +135,9 @@ fn rows_fit(t: &[u8], n: u8, d: u8, place: usize) -> bool
     let low = (place % 256) as u8;
     let high = (place / 256) as u8;
     let mut ok = true;
-    let mut i: u8 = 0;
-    while i < 16 {
+    for i in 0..16u8 {
         let fits = row_fits(t, i as usize, d, low, high);
         ok = ok & ((n <= i) | fits);
-        i += 1;
     }
     ok
 }

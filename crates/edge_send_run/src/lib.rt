@@ -24,6 +24,7 @@ fn jobs_out(table: &mut [u8], out: &mut [u8], jobs: &[u8], answers: &mut [u8]) -
     let mut count: usize = 0;
     let mut at: usize = 0;
     let mut wrote: usize = 0;
+    // A `while`: a turn's step is its job's length, which stands before the job.
     while at < jobs.len() {
         let left = jobs.len() - at;
         let size = octets::number(jobs, at + 1) as usize + HEAD;

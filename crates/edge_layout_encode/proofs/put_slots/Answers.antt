@@ -7,7 +7,7 @@ use Rattle.edge_layout_encode.specs.Whole.{rowing_none, rowing_more, rowing_end}
 use Rattle.edge_layout_encode.proofs.put_slots.Goals as goal
 
 pub loop-i-init : goal.loop-i-init
-loop-i-init c = (omega arith, rowing_none)
+loop-i-init c = rowing_none
 
 pub put_slot-requires : goal.put_slot-requires
 put_slot-requires c = (omega arith, omega arith)
@@ -16,9 +16,9 @@ pub loop-i-preserved : goal.loop-i-preserved
 loop-i-preserved c =
     let l = c.loop-i in
     let e : length c.args.t.slots ≡ slots_most = search rules in
-    (omega arith, rw c.put_slot.ensures (rowing_more l.invariant.1 _ (omega arith)))
+    rw c.put_slot.ensures (rowing_more l.invariant _ (omega arith))
 
 pub returns : goal.returns
 returns c =
     let e : length c.args.t.slots ≡ slots_most = search rules in
-    rowing_end c.loop-i.invariant.1 (omega arith)
+    rowing_end c.loop-i.invariant (omega arith)

@@ -9,7 +9,7 @@ ghost use Rattle.codes.specs.Codes.{result_number, result_of, refusal_number, re
 pub const SIZE_LEAST: u16 = 23;
 
 // The result of a connect response.
-#[derive(Clone, Copy)]
+#[derive(Clone, Copy, PartialEq, Eq)]
 pub enum LeCreditConnResultCode {
     Success,
     SpsmNotSupported,
@@ -31,7 +31,7 @@ pub enum ResultRead {
 }
 
 // What a call refuses with, in the order of document 01's table, and then of document 02.
-#[derive(Clone, Copy)]
+#[derive(Clone, Copy, PartialEq, Eq)]
 pub enum Refusal {
     BadTable,
     BadRoom,
@@ -60,7 +60,7 @@ pub enum Refusal {
     WrongLength,
 }
 
-// The number on the air.
+// The number on the air. These numbers are functions, no `From`: their contracts are equations by name, which a `From` would say a second time.
 pub fn result_number(c: LeCreditConnResultCode) -> u16
     ensures { result ≡ result_number c }
 {
@@ -79,40 +79,23 @@ pub fn result_number(c: LeCreditConnResultCode) -> u16
 }
 
 // The result code of a number on the air: 0, 2 and 4 to 11 have one.
+#[tactic(auto, unfolding(crate::specs::Codes::result_of))]
 pub fn result_of(n: u16) -> ResultRead
     ensures { result ≡ result_of n }
 {
-    if n == 0 {
-        return ResultRead::Known(LeCreditConnResultCode::Success);
+    match n {
+        0 => ResultRead::Known(LeCreditConnResultCode::Success),
+        2 => ResultRead::Known(LeCreditConnResultCode::SpsmNotSupported),
+        4 => ResultRead::Known(LeCreditConnResultCode::NoResources),
+        5 => ResultRead::Known(LeCreditConnResultCode::InsufficientAuthentication),
+        6 => ResultRead::Known(LeCreditConnResultCode::InsufficientAuthorization),
+        7 => ResultRead::Known(LeCreditConnResultCode::EncryptionKeyTooShort),
+        8 => ResultRead::Known(LeCreditConnResultCode::InsufficientEncryption),
+        9 => ResultRead::Known(LeCreditConnResultCode::InvalidSourceId),
+        10 => ResultRead::Known(LeCreditConnResultCode::ScidAlreadyAllocated),
+        11 => ResultRead::Known(LeCreditConnResultCode::UnacceptableParameters),
+        _ => ResultRead::Unknown,
     }
-    if n == 2 {
-        return ResultRead::Known(LeCreditConnResultCode::SpsmNotSupported);
-    }
-    if n == 4 {
-        return ResultRead::Known(LeCreditConnResultCode::NoResources);
-    }
-    if n == 5 {
-        return ResultRead::Known(LeCreditConnResultCode::InsufficientAuthentication);
-    }
-    if n == 6 {
-        return ResultRead::Known(LeCreditConnResultCode::InsufficientAuthorization);
-    }
-    if n == 7 {
-        return ResultRead::Known(LeCreditConnResultCode::EncryptionKeyTooShort);
-    }
-    if n == 8 {
-        return ResultRead::Known(LeCreditConnResultCode::InsufficientEncryption);
-    }
-    if n == 9 {
-        return ResultRead::Known(LeCreditConnResultCode::InvalidSourceId);
-    }
-    if n == 10 {
-        return ResultRead::Known(LeCreditConnResultCode::ScidAlreadyAllocated);
-    }
-    if n == 11 {
-        return ResultRead::Known(LeCreditConnResultCode::UnacceptableParameters);
-    }
-    ResultRead::Unknown
 }
 
 // The refusal's number on paper.
@@ -149,6 +132,7 @@ pub fn refusal_number(r: Refusal) -> u8
 }
 
 // The result code's number that refusal 17 carries; 0 of every other.
+#[tactic(auto, unfolding(crate::specs::Codes::result_in))]
 pub fn result_in(r: Refusal) -> u16
     ensures { result ≡ result_in r }
 {

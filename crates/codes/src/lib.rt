@@ -9,7 +9,7 @@ ghost use Rattle.codes.specs.Codes.{result_number, result_of, refusal_number, re
 pub const SIZE_LEAST: u16 = 23;
 
 // The result of a connect response.
-#[derive(Clone, Copy)]
+#[derive(Clone, Copy, PartialEq, Eq)]
 pub enum LeCreditConnResultCode {
     Success,
     SpsmNotSupported,
@@ -24,7 +24,7 @@ pub enum LeCreditConnResultCode {
 }
 
 // What a call refuses with, in the order of document 01's table, and then of document 02.
-#[derive(Clone, Copy)]
+#[derive(Clone, Copy, PartialEq, Eq)]
 pub enum Refusal {
     BadTable,
     BadRoom,
@@ -53,7 +53,7 @@ pub enum Refusal {
     WrongLength,
 }
 
-// The number on the air.
+// The number on the air. These numbers are functions, no `From`: their contracts are equations by name, which a `From` would say a second time.
 pub fn result_number(c: LeCreditConnResultCode) -> u16
     ensures { result ≡ result_number c }
 {
@@ -72,40 +72,23 @@ pub fn result_number(c: LeCreditConnResultCode) -> u16
 }
 
 // The result code of a number on the air: 0, 2 and 4 to 11 have one.
+#[tactic(auto, unfolding(crate::specs::Codes::result_of))]
 pub fn result_of(n: u16) -> Option<LeCreditConnResultCode>
     ensures { result ≡ result_of n }
 {
-    if n == 0 {
-        return Some(LeCreditConnResultCode::Success);
+    match n {
+        0 => Some(LeCreditConnResultCode::Success),
+        2 => Some(LeCreditConnResultCode::SpsmNotSupported),
+        4 => Some(LeCreditConnResultCode::NoResources),
+        5 => Some(LeCreditConnResultCode::InsufficientAuthentication),
+        6 => Some(LeCreditConnResultCode::InsufficientAuthorization),
+        7 => Some(LeCreditConnResultCode::EncryptionKeyTooShort),
+        8 => Some(LeCreditConnResultCode::InsufficientEncryption),
+        9 => Some(LeCreditConnResultCode::InvalidSourceId),
+        10 => Some(LeCreditConnResultCode::ScidAlreadyAllocated),
+        11 => Some(LeCreditConnResultCode::UnacceptableParameters),
+        _ => None,
     }
-    if n == 2 {
-        return Some(LeCreditConnResultCode::SpsmNotSupported);
-    }
-    if n == 4 {
-        return Some(LeCreditConnResultCode::NoResources);
-    }
-    if n == 5 {
-        return Some(LeCreditConnResultCode::InsufficientAuthentication);
-    }
-    if n == 6 {
-        return Some(LeCreditConnResultCode::InsufficientAuthorization);
-    }
-    if n == 7 {
-        return Some(LeCreditConnResultCode::EncryptionKeyTooShort);
-    }
-    if n == 8 {
-        return Some(LeCreditConnResultCode::InsufficientEncryption);
-    }
-    if n == 9 {
-        return Some(LeCreditConnResultCode::InvalidSourceId);
-    }
-    if n == 10 {
-        return Some(LeCreditConnResultCode::ScidAlreadyAllocated);
-    }
-    if n == 11 {
-        return Some(LeCreditConnResultCode::UnacceptableParameters);
-    }
-    None
 }
 
 // The refusal's number on paper.
@@ -142,6 +125,7 @@ pub fn refusal_number(r: Refusal) -> u8
 }
 
 // The result code's number that refusal 17 carries; 0 of every other.
+#[tactic(auto, unfolding(crate::specs::Codes::result_in))]
 pub fn result_in(r: Refusal) -> u16
     ensures { result ≡ result_in r }
 {

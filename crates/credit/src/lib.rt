@@ -2,11 +2,11 @@
 // What each method gives is defined in specs/Account.antt; it rests on no other crate.
 #![tactic(auto)]
 
-ghost use Rattle.std.specs.Prelude.{◌≡◌, ◌+◌, ◌-◌, min};
-ghost use Rattle.credit.specs.Account.{credits_most, new_account, received, granted, grant_of};
+ghost use Rattle.std.specs.Prelude.{◌≡◌};
+ghost use Rattle.credit.specs.Account.{new_account, received, granted, grant_of};
 
-// Credits, and the sum of those held and received, end here.
-pub const CREDITS_MOST: u16 = 65535;
+// Credits, and the sum of those held and received, end here: where a u16 saturates.
+pub const CREDITS_MOST: u16 = u16::MAX;
 
 // When a taken job makes the peer new credits due.
 #[derive(Clone, Copy)]
@@ -23,26 +23,6 @@ pub struct CreditFlowControl {
     pub policy: CreditFlowPolicy,
     pub credits: u16,
     pub received: u16,
-}
-
-// a - b, and 0 below it.
-fn less(a: u16, b: u16) -> u16
-    ensures { result ≡ a - b }
-{
-    if a < b {
-        return 0;
-    }
-    a - b
-}
-
-// a + b, and CREDITS_MOST above it.
-fn more(a: u16, b: u16) -> u16
-    ensures { result ≡ min (a + b) credits_most }
-{
-    if CREDITS_MOST - b < a {
-        return CREDITS_MOST;
-    }
-    a + b
 }
 
 impl CreditFlowControl {
@@ -68,13 +48,10 @@ impl CreditFlowControl {
     pub fn confirm_received(self, n: u16) -> CreditFlowControl
         ensures { result ≡ received self n }
     {
-        let p = self.policy;
-        let c = less(self.credits, n);
-        let d = more(self.received, n);
         CreditFlowControl {
-            policy: p,
-            credits: c,
-            received: d,
+            credits: self.credits.saturating_sub(n),
+            received: self.received.saturating_add(n),
+            ..self
         }
     }
 
@@ -82,13 +59,10 @@ impl CreditFlowControl {
     pub fn confirm_granted(self, n: u16) -> CreditFlowControl
         ensures { result ≡ granted self n }
     {
-        let p = self.policy;
-        let d = less(self.received, n);
-        let c = more(self.credits, n);
         CreditFlowControl {
-            policy: p,
-            credits: c,
-            received: d,
+            credits: self.credits.saturating_add(n),
+            received: self.received.saturating_sub(n),
+            ..self
         }
     }
 

@@ -28,30 +28,24 @@ fn names_slot(n: usize, cid: u16) -> bool
 }
 
 // The slot that row i says, as `edge_layout_read::slot_at` reads it: with one caller, into which the compiler puts it.
+#[tactic(auto, unfolding(edge_layout::specs::Layout::slot_in))]
 fn row(t: &[u8], i: usize) -> Slot
     requires { (table_octets ≤ length t.now) × (i < slots_most) }
     ensures { result ≡ slot_in (cell t.now i) }
 {
-    let state = edge_layout_read::state_at(t, i);
-    let account = edge_layout_read::account_at(t, i);
-    let peer = edge_layout_read::peer_at(t, i);
-    let assembly = edge_layout_read::assembly_at(t, i);
-    let queue = edge_layout_read::queue_at(t, i);
-    let job = edge_layout_read::job_at(t, i);
-    let tallies = edge_layout_read::tallies_at(t, i);
     Slot {
-        state,
+        state: edge_layout_read::state_at(t, i),
         link: number(t, i, LINK),
         spsm: number(t, i, SPSM),
         mps: number(t, i, MPS),
         mtu: number(t, i, MTU),
-        account,
+        account: edge_layout_read::account_at(t, i),
         hold: octet(t, i, HOLD),
-        peer,
-        assembly,
-        queue,
-        job,
-        tallies,
+        peer: edge_layout_read::peer_at(t, i),
+        assembly: edge_layout_read::assembly_at(t, i),
+        queue: edge_layout_read::queue_at(t, i),
+        job: edge_layout_read::job_at(t, i),
+        tallies: edge_layout_read::tallies_at(t, i),
     }
 }
 
@@ -60,23 +54,16 @@ fn put_row(t: &mut [u8], i: usize, x: Slot)
     requires { (table_octets ≤ length t.old) × (i < slots_most) }
     ensures { t.new ≡ framed_row t.old i x }
 {
-    let k = x.state;
-    edge_layout_write::put_state(t, i, k);
-    let a = x.account;
-    edge_layout_write::put_account(t, i, a);
-    let b = x.assembly;
-    edge_layout_write::put_assembly(t, i, b);
-    let q = x.queue;
-    edge_layout_write::put_queue(t, i, q);
-    if table_state::is_connected(k) {
-        let counted = x.tallies.receives;
-        edge_layout_write::put_receives(t, i, counted);
+    edge_layout_write::put_state(t, i, x.state);
+    edge_layout_write::put_account(t, i, x.account);
+    edge_layout_write::put_assembly(t, i, x.assembly);
+    edge_layout_write::put_queue(t, i, x.queue);
+    if table_state::is_connected(x.state) {
+        edge_layout_write::put_receives(t, i, x.tallies.receives);
         return;
     }
-    let j = x.job;
-    edge_layout_write::put_job(t, i, j);
-    let y = x.tallies;
-    edge_layout_write::put_tallies(t, i, y);
+    edge_layout_write::put_job(t, i, x.job);
+    edge_layout_write::put_tallies(t, i, x.tallies);
 }
 
 // A frame to slot s, whose part is in the room and whose row is in the table's octets.
@@ -95,10 +82,8 @@ fn to_slot(
 {
     let x = row(table, s);
     let w = slot_frame::frame_at(room, d, m, s, x, link, payload);
-    let y = w.slot;
-    let a = w.answer;
-    put_row(table, s, y);
-    edge_answer::put_answer(answer, a, w.octets)
+    put_row(table, s, w.slot);
+    edge_answer::put_answer(answer, w.answer, w.octets)
 }
 
 // Has the room as many octets as the sizes in line 0 say? (Of a well-formed table.)

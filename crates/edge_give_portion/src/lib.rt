@@ -15,30 +15,24 @@ use edge_layout::cells::{number, octet};
 use edge_layout::{HOLD, LINK, MPS, MTU, SPSM};
 
 // The slot that row i says, as `edge_layout_read::slot_at` reads it: with one caller, into which the compiler puts it.
+#[tactic(auto, unfolding(edge_layout::specs::Layout::slot_in))]
 fn row(t: &[u8], i: usize) -> Slot
     requires { (table_octets ≤ length t.now) × (i < slots_most) }
     ensures { result ≡ slot_in (cell t.now i) }
 {
-    let state = edge_layout_read::state_at(t, i);
-    let account = edge_layout_read::account_at(t, i);
-    let peer = edge_layout_read::peer_at(t, i);
-    let assembly = edge_layout_read::assembly_at(t, i);
-    let queue = edge_layout_read::queue_at(t, i);
-    let job = edge_layout_read::job_at(t, i);
-    let tallies = edge_layout_read::tallies_at(t, i);
     Slot {
-        state,
+        state: edge_layout_read::state_at(t, i),
         link: number(t, i, LINK),
         spsm: number(t, i, SPSM),
         mps: number(t, i, MPS),
         mtu: number(t, i, MTU),
-        account,
+        account: edge_layout_read::account_at(t, i),
         hold: octet(t, i, HOLD),
-        peer,
-        assembly,
-        queue,
-        job,
-        tallies,
+        peer: edge_layout_read::peer_at(t, i),
+        assembly: edge_layout_read::assembly_at(t, i),
+        queue: edge_layout_read::queue_at(t, i),
+        job: edge_layout_read::job_at(t, i),
+        tallies: edge_layout_read::tallies_at(t, i),
     }
 }
 
@@ -52,11 +46,8 @@ fn given(table: &mut [u8], answer: &mut [u8], buffer: &mut [u8], slot: u8, octet
     }
     let x = row(table, slot as usize);
     let w = slot_portion::portion_from(x, octets, buffer);
-    let y = w.slot;
-    let j = y.job;
-    let a = w.answer;
-    edge_layout_write::put_job(table, slot as usize, j);
-    edge_answer::put_answer(answer, a, w.octets)
+    edge_layout_write::put_job(table, slot as usize, w.slot.job);
+    edge_answer::put_answer(answer, w.answer, w.octets)
 }
 
 // Takes a portion of the job that is open, as far as its frame reaches.

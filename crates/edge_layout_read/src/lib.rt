@@ -1,6 +1,6 @@
 // A slot read from its row of the table's octets; `edge_layout_decode` reads the whole table. It stands on `edge_layout::cells`, and on `edge_layout`, whose
 // specs/Layout.antt says what the octets mean.
-#![tactic(auto)]
+#![tactic(auto, unfolding(edge_layout::specs::Layout::slot_in))]
 
 ghost use Rattle.std.specs.Prelude.{◌≡◌, ◌+◌, ◌*◌, ◌≤◌, ◌<◌, length};
 ghost use Rattle.channel.specs.Limits.{slots_most};
@@ -28,9 +28,8 @@ pub fn account_at(t: &[u8], i: usize) -> CreditFlowControl
     requires { (table_octets ≤ length t.now) × (i < slots_most) }
     ensures { result ≡ (slot_in (cell t.now i)).account }
 {
-    let policy = edge_layout::policy_of(octet(t, i, POLICY), number(t, i, POLICY_VALUE));
     CreditFlowControl {
-        policy,
+        policy: edge_layout::policy_of(octet(t, i, POLICY), number(t, i, POLICY_VALUE)),
         credits: number(t, i, CREDITS),
         received: number(t, i, RECEIVED),
     }
@@ -62,15 +61,14 @@ pub fn queue_at(t: &[u8], i: usize) -> Queue
     requires { (table_octets ≤ length t.now) × (i < slots_most) }
     ensures { result ≡ (slot_in (cell t.now i)).queue }
 {
-    let lens = [
-        number(t, i, LENS),
-        number(t, i, LENS + 2 * SLOTS),
-        number(t, i, LENS + 4 * SLOTS),
-        number(t, i, LENS + 6 * SLOTS),
-    ];
     Queue {
         count: octet(t, i, COUNT),
-        lens,
+        lens: [
+            number(t, i, LENS),
+            number(t, i, LENS + 2 * SLOTS),
+            number(t, i, LENS + 4 * SLOTS),
+            number(t, i, LENS + 6 * SLOTS),
+        ],
     }
 }
 
@@ -101,9 +99,10 @@ pub fn tallies_at(t: &[u8], i: usize) -> Tallies
     requires { (table_octets ≤ length t.now) × (i < slots_most) }
     ensures { result ≡ (slot_in (cell t.now i)).tallies }
 {
-    let sends = tally_at(t, i, SENDS);
-    let receives = tally_at(t, i, RECEIVES);
-    Tallies { sends, receives }
+    Tallies {
+        sends: tally_at(t, i, SENDS),
+        receives: tally_at(t, i, RECEIVES),
+    }
 }
 
 // The slot that row i says.
@@ -111,25 +110,18 @@ pub fn slot_at(t: &[u8], i: usize) -> Slot
     requires { (table_octets ≤ length t.now) × (i < slots_most) }
     ensures { result ≡ slot_in (cell t.now i) }
 {
-    let state = state_at(t, i);
-    let account = account_at(t, i);
-    let peer = peer_at(t, i);
-    let assembly = assembly_at(t, i);
-    let queue = queue_at(t, i);
-    let job = job_at(t, i);
-    let tallies = tallies_at(t, i);
     Slot {
-        state,
+        state: state_at(t, i),
         link: number(t, i, LINK),
         spsm: number(t, i, SPSM),
         mps: number(t, i, MPS),
         mtu: number(t, i, MTU),
-        account,
+        account: account_at(t, i),
         hold: octet(t, i, HOLD),
-        peer,
-        assembly,
-        queue,
-        job,
-        tallies,
+        peer: peer_at(t, i),
+        assembly: assembly_at(t, i),
+        queue: queue_at(t, i),
+        job: job_at(t, i),
+        tallies: tallies_at(t, i),
     }
 }

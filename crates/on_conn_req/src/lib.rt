@@ -29,26 +29,12 @@ fn requester(req: LeCreditConnReq) -> Peer
 fn asked(link: u16, id: u8, req: LeCreditConnReq) -> Slot
     ensures { result ≡ pending link id req }
 {
-    let peer = requester(req);
-    let x = table_slot::fresh(0);
-    let account = x.account;
-    let assembly = x.assembly;
-    let queue = x.queue;
-    let job = x.job;
-    let tallies = x.tallies;
     Slot {
         state: ChannelState::PeerConnecting(id),
         link,
         spsm: req.spsm,
-        mps: 0,
-        mtu: 0,
-        account,
-        hold: 0,
-        peer,
-        assembly,
-        queue,
-        job,
-        tallies,
+        peer: requester(req),
+        ..table_slot::fresh(0)
     }
 }
 
@@ -90,8 +76,7 @@ pub fn on_conn_req(
             if t.n <= s {
                 return on_rejects::refuse(t, out, id, LeCreditConnResultCode::NoResources);
             }
-            let x = asked(link, id, req);
-            table_endings::alter(t, s, x, Answer::Done)
+            table_endings::alter(t, s, asked(link, id, req), Answer::Done)
         }
     }
 }

@@ -14,7 +14,7 @@ ghost use Rattle.table_room.specs.Placed.{RoomOf};
 ghost use Rattle.on_conn_res.specs.Told.{told_of};
 
 use channel::{Answer, ChannelState, Peer, Served, Slot, Table};
-use codes::Refusal;
+use codes::{LeCreditConnResultCode, Refusal};
 use signal_forms::LeCreditConnRes;
 use table_slot::Want;
 
@@ -31,12 +31,12 @@ fn responder(res: LeCreditConnRes) -> Peer
 }
 
 // The attempt x once it is answered: failed with the result, or with the peer's numbers, and Connected, or Disconnecting where they are below the least.
+#[tactic(auto, unfolding(lists::specs::Choose::choose))]
 fn met(x: Slot, res: LeCreditConnRes) -> Slot
     ensures { (t : TableOf) (s : ℕ) → slot_at t s ≡ x → change t s result [] (told_of result.state) [] ≡ answered t s res }
 {
-    let result = res.result;
-    if codes::result_number(result) != 0 {
-        return table_slot::in_state(x, ChannelState::ConnectFailed(result));
+    if res.result != LeCreditConnResultCode::Success {
+        return table_slot::in_state(x, ChannelState::ConnectFailed(res.result));
     }
     let peer = responder(res);
     let y = table_slot::with_peer(x, peer);
@@ -51,13 +51,9 @@ fn told(k: ChannelState) -> Answer
     ensures { result ≡ told_of k }
 {
     match k {
-        ChannelState::Disconnected => Answer::Done,
-        ChannelState::Connecting(_) => Answer::Done,
-        ChannelState::PeerConnecting(_) => Answer::Done,
-        ChannelState::Connected => Answer::Done,
         ChannelState::ConnectFailed(result) => Answer::Refused(Refusal::ConnectError(result)),
-        ChannelState::PeerDisconnecting(_) => Answer::Done,
         ChannelState::Disconnecting(_) => Answer::Refused(Refusal::InvalidValue),
+        _ => Answer::Done,
     }
 }
 
@@ -67,8 +63,7 @@ fn on_answer(t: Table, s: usize, res: LeCreditConnRes) -> Served
 {
     let x = table::slot_at(t, s);
     let y = met(x, res);
-    let k = y.state;
-    table_endings::alter(t, s, y, told(k))
+    table_endings::alter(t, s, y, told(y.state))
 }
 
 // Code 0x15: to the lowest attempt of this link with that identifier; where there is none, all attempts of this link are given up.

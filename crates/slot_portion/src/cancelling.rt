@@ -18,9 +18,8 @@ pub fn cancel_at(room: &mut [u8], d: usize, m: usize, s: usize, x: Slot) -> Work
     ensures { (result ≡ worked_of (cancel_of (place_size m) x))
         × (room.new ≡ parts (λ n. n) [] (part_width d m) (only s (cancel_of (place_size m) x).moves) room.old) }
 {
-    let k = x.state;
     let j = x.job;
-    if !table_state::is_connected(k) {
+    if !table_state::is_connected(x.state) {
         return slot_work::became(x, Answer::Refused(Refusal::ChannelClosed), 0);
     }
     if !table_slot::is_open(j) {

@@ -22,6 +22,7 @@ fn put_header(buffer: &mut [u8], cid: u16, payload: u16, begins: bool)
 }
 
 // The job once `taken` octets more are in a frame of `size`: the frame goes on, or it is given out, and the last one closes the job.
+#[tactic(auto, unfolding(lists::specs::Choose::choose))]
 fn filled_to(j: OpenJob, size: u16, taken: u16) -> OpenJob
     requires { (j.filled + taken ≤ 65535) × (j.taken + taken ≤ 65535) × (0 < j.aside) }
     ensures { result ≡ filled_to j size taken }
@@ -30,10 +31,9 @@ fn filled_to(j: OpenJob, size: u16, taken: u16) -> OpenJob
     let total = j.taken + taken;
     if filled != size {
         return OpenJob {
-            length: j.length,
             taken: total,
             filled,
-            aside: j.aside,
+            ..j
         };
     }
     let sent = crate::sizes::given_out(j) + size as usize;
@@ -41,14 +41,15 @@ fn filled_to(j: OpenJob, size: u16, taken: u16) -> OpenJob
         return table_slot::no_job();
     }
     OpenJob {
-        length: j.length,
         taken: total,
         filled: 0,
         aside: j.aside - 1,
+        ..j
     }
 }
 
 // The octets that are given out from the buffer's start: the frame, where it is full.
+#[tactic(auto, unfolding(lists::specs::Choose::choose))]
 fn frame_out(full: bool, size: u16) -> usize
     ensures { result ≡ choose full (frame_head + size) 0 }
 {
@@ -87,9 +88,8 @@ fn portioned(x: Slot, portion: &[u8], buffer: &mut [u8]) -> Worked
 pub fn portion_from(x: Slot, portion: &[u8], buffer: &mut [u8]) -> Worked
     ensures { after result buffer.new ≡ after_of (portion_of x (length portion.now) (length buffer.old)) portion.now buffer.old }
 {
-    let k = x.state;
     let j = x.job;
-    if !table_state::is_connected(k) {
+    if !table_state::is_connected(x.state) {
         return slot_work::became(x, Answer::Refused(Refusal::ChannelClosed), 0);
     }
     if !table_slot::is_open(j) {

@@ -16,12 +16,14 @@ pub fn next_id(t: Table) -> u8
 }
 
 // What a table that says this identifier gives out next: a 0 never.
+#[tactic(auto, unfolding(lists::specs::Choose::choose))]
 pub fn given_id(identifier: u8) -> u8
     ensures { result ≡ choose (eqb identifier 0) 1 identifier }
 {
     if identifier == 0 { 1 } else { identifier }
 }
 
+#[tactic(auto, unfolding(lists::specs::Choose::choose))]
 pub fn id_after(id: u8) -> u8
     ensures { result ≡ id_after id }
 {
@@ -32,10 +34,10 @@ pub fn id_after(id: u8) -> u8
 pub fn spent(t: Table) -> Table
     ensures { result ≡ spent t }
 {
-    let id = id_after(next_id(t));
-    let mut u = t;
-    u.identifier = id;
-    u
+    Table {
+        identifier: id_after(next_id(t)),
+        ..t
+    }
 }
 
 // ---- a slot's number and a CID are kept apart: the 0x40 rule

@@ -30,24 +30,21 @@ pub fn mtu_of(t: Table, c: L2capChannelConfig) -> u16
     requires { (packet_least ≤ t.m) × (t.m ≤ packet_most) }
     ensures { result ≡ mtu_of t c }
 {
-    let g = c.mtu;
-    settled((t.m - JOB_HEAD) as u16, g)
+    settled((t.m - JOB_HEAD) as u16, c.mtu)
 }
 
 pub fn mps_of(t: Table, c: L2capChannelConfig) -> u16
     requires { (packet_least ≤ t.m) × (t.m ≤ packet_most) }
     ensures { result ≡ mps_of t c }
 {
-    let g = c.mps;
-    settled((t.m - FRAME_HEAD) as u16, g)
+    settled((t.m - FRAME_HEAD) as u16, c.mps)
 }
 
 pub fn credits_of(t: Table, c: L2capChannelConfig) -> u16
     requires { t.d ≤ depth_most }
     ensures { result ≡ credits_of t c }
 {
-    let g = c.credits;
-    settled(t.d as u16, g)
+    settled(t.d as u16, c.credits)
 }
 
 // Is one of them more than the packet leaves room for?
@@ -61,24 +58,12 @@ pub fn above(most: usize, n: u16) -> bool
 pub fn accepted(x: Slot, mps: u16, mtu: u16, account: CreditFlowControl) -> Slot
     ensures { result ≡ accepted_as mps mtu account x }
 {
-    let peer = x.peer;
-    let assembly = x.assembly;
-    let queue = x.queue;
-    let job = x.job;
-    let tallies = x.tallies;
     Slot {
         state: ChannelState::Connected,
-        link: x.link,
-        spsm: x.spsm,
         mps,
         mtu,
         account,
-        hold: x.hold,
-        peer,
-        assembly,
-        queue,
-        job,
-        tallies,
+        ..x
     }
 }
 
@@ -108,12 +93,6 @@ pub fn attempted(
 ) -> Slot
     ensures { result ≡ attempt_as id link spsm mps mtu account }
 {
-    let x = table_slot::fresh(0);
-    let peer = x.peer;
-    let assembly = x.assembly;
-    let queue = x.queue;
-    let job = x.job;
-    let tallies = x.tallies;
     Slot {
         state: ChannelState::Connecting(id),
         link,
@@ -121,12 +100,7 @@ pub fn attempted(
         mps,
         mtu,
         account,
-        hold: 0,
-        peer,
-        assembly,
-        queue,
-        job,
-        tallies,
+        ..table_slot::fresh(0)
     }
 }
 

@@ -10,74 +10,52 @@ use codes::LeCreditConnResultCode;
 pub fn is_disconnected(k: ChannelState) -> bool
     ensures { result ≡ is_disconnected k }
 {
-    match k {
-        ChannelState::Disconnected => true,
-        _ => false,
-    }
+    matches!(k, ChannelState::Disconnected)
 }
 
 pub fn is_connecting(k: ChannelState) -> bool
     ensures { result ≡ is_connecting k }
 {
-    match k {
-        ChannelState::Connecting(_) => true,
-        _ => false,
-    }
+    matches!(k, ChannelState::Connecting(_))
 }
 
 pub fn is_peer_connecting(k: ChannelState) -> bool
     ensures { result ≡ is_peer_connecting k }
 {
-    match k {
-        ChannelState::PeerConnecting(_) => true,
-        _ => false,
-    }
+    matches!(k, ChannelState::PeerConnecting(_))
 }
 
 pub fn is_connected(k: ChannelState) -> bool
     ensures { result ≡ is_connected k }
 {
-    match k {
-        ChannelState::Connected => true,
-        _ => false,
-    }
+    matches!(k, ChannelState::Connected)
 }
 
 pub fn is_connect_failed(k: ChannelState) -> bool
     ensures { result ≡ is_connect_failed k }
 {
-    match k {
-        ChannelState::ConnectFailed(_) => true,
-        _ => false,
-    }
+    matches!(k, ChannelState::ConnectFailed(_))
 }
 
 pub fn is_peer_disconnecting(k: ChannelState) -> bool
     ensures { result ≡ is_peer_disconnecting k }
 {
-    match k {
-        ChannelState::PeerDisconnecting(_) => true,
-        _ => false,
-    }
+    matches!(k, ChannelState::PeerDisconnecting(_))
 }
 
 pub fn is_disconnecting(k: ChannelState) -> bool
     ensures { result ≡ is_disconnecting k }
 {
-    match k {
-        ChannelState::Disconnecting(_) => true,
-        _ => false,
-    }
+    matches!(k, ChannelState::Disconnecting(_))
 }
 
 pub fn is_due(k: ChannelState) -> bool
     ensures { result ≡ is_due k }
 {
-    match k {
-        ChannelState::PeerDisconnecting(_) => true,
-        ChannelState::Disconnecting(announced) => !announced,
-        _ => false,
-    }
+    matches!(
+        k,
+        ChannelState::PeerDisconnecting(_) | ChannelState::Disconnecting(false)
+    )
 }
 
 // The identifier that a state carries; 0 where it carries none.
@@ -85,9 +63,9 @@ pub fn identifier_of(k: ChannelState) -> u8
     ensures { result ≡ identifier_of k }
 {
     match k {
-        ChannelState::Connecting(id) => id,
-        ChannelState::PeerConnecting(id) => id,
-        ChannelState::PeerDisconnecting(id) => id,
+        ChannelState::Connecting(id)
+        | ChannelState::PeerConnecting(id)
+        | ChannelState::PeerDisconnecting(id) => id,
         _ => 0,
     }
 }

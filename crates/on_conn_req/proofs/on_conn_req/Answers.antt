@@ -79,5 +79,5 @@ returns-else-t-s c t₀ room job =
       le-ltb _ _ c.if-find-t.false,
       ← c.find-s.ensures,
       lt-leb _ _ c.if-t-s.false,
-      ← c.asked-x.ensures,
+      ← c.asked.ensures,
     ) (c.alter.ensures t₀ room _ job)

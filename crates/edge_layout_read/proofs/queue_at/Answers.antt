@@ -1,8 +1,0 @@
--- `edge_layout_read::queue_at` meets its contract: what the columns hold is what the callees read.
-use Rattle.edge_layout.specs.Layout.{slot_in}
-use Rattle.edge_layout_read.proofs.queue_at.Goals as goal
-
-pub returns : goal.returns
-unfolding slot_in
-returns c =
-    rw (c.octet.ensures, c.number-4.ensures, c.number-3.ensures, c.number-2.ensures, c.number.ensures)

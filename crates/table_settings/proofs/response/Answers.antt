@@ -1,5 +1,0 @@
--- `table_settings::response` meets its contract: the slot's CID is the definition's, by the one function that gives it.
-use Rattle.table_settings.proofs.response.Goals as goal
-
-pub returns : goal.returns
-returns c = rw (c.cid_of-cid.ensures, c.index_at.ensures)

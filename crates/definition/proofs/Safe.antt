@@ -18,7 +18,7 @@ use Rattle.sar_cut.specs.declared.Framed.{Framed}
 use Rattle.signal_headers.specs.declared.BadHeader.{BadHeader}
 use Rattle.signal_headers.specs.declared.BadHeader.TheVariants.{Cut, Past}
 use Rattle.signal_forms.specs.declared.Signal.{Signal}
-use Rattle.channel.specs.declared.Answer.TheVariants.{Done, Refused}
+use Rattle.channel.specs.declared.Answer.TheVariants.{Done}
 use Rattle.channel.specs.declared.ChannelState.{ChannelState}
 use Rattle.channel.specs.declared.ChannelState.TheVariants.{Disconnected, Connecting, PeerConnecting, Connected, ConnectFailed, PeerDisconnecting, Disconnecting}
 use Rattle.channel.specs.declared.L2capChannelConfig.{L2capChannelConfig}

@@ -15,7 +15,6 @@ use Rattle.signal_headers.specs.Headers.{headers_of}
 use Rattle.signal_bodies.specs.Bodies.{command_reject_res, disconnection_req, disconnection_res, conn_param_update_req, conn_param_update_res}
 use Rattle.signal_bodies.specs.LeCreditBodies.{le_credit_conn_req, le_credit_conn_res, le_credit_flow_ind}
 use Rattle.signal_parameter_rule.specs.Parameters.{parameters_valid}
-use Rattle.signal_forms.specs.declared.Signal.TheVariants as Signal
 use Rattle.signal_write.specs.Writer.{encode_of}
 use Rattle.channel.specs.declared.Answer.TheVariants.{Done, At, Link, Due, Frames, Job}
 use Rattle.channel.specs.declared.ChannelState.{ChannelState}

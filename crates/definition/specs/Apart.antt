@@ -1,8 +1,7 @@
 -- A call that names a link touches that link's slots and free ones alone: a CID, an identifier or a peer CID is always matched together
--- with its link. One lemma a call that names one, and `apart` for all of them.
+-- with its link. proofs/Apart.antt has one lemma a call that names one, and `apart` for all of them.
 use Rattle.std.specs.Prelude.{◌≡◌, List, []}
 use Prim.Native.Nat.{ℕ}
-use Rattle.sar_join.specs.declared.Joined.TheVariants as Joined
 use Rattle.channel.specs.declared.Slot.{Slot}
 use Rattle.channel.specs.declared.Table.{Table}
 use Rattle.definition.specs.Mem.{Move}

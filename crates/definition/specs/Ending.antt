@@ -1,5 +1,5 @@
 -- What stands when a call has ended: what it gave back, and every lent memory. A call's contract is one equation with `end_of` of its
--- outcome. And the laws by which a call's proof reads `end_of`: one for each form that an outcome has.
+-- outcome. The laws by which a call's proof reads `end_of`, one for each form that an outcome has, stand in proofs/Ending.antt.
 use Rattle.std.specs.Prelude.{◌≡◌, List, [], ℕ}
 use Rattle.channel.specs.declared.Answer.{Answer}
 use Rattle.channel.specs.declared.Served.{Served}

@@ -2,7 +2,6 @@
 -- from request to link-down; the client's accident, which leaves nothing behind; two phones' signals.
 use Rattle.std.specs.Prelude.{true, List, [], ◌∷◌, ◌++◌, map, ℕ, replicate, take, None, Some}
 use Rattle.credit.specs.declared.CreditFlowPolicy.TheVariants.{Every}
-use Rattle.codes.specs.declared.Refusal.TheVariants as Refusal
 use Rattle.signal_headers.specs.Headers.{rest_of}
 use Rattle.channel.specs.declared.Answer.{Answer}
 use Rattle.channel.specs.declared.ChannelState.{ChannelState}

@@ -1,10 +1,9 @@
 -- What each call hands out to the caller's memory: a take, to its job buffer alone, octets of the slot's own part of the room; a send, its
--- SDU; a portion, its octets; all else are octets that the call worked out itself. One lemma a call, and `hands` for all of them.
+-- SDU; a portion, its octets; all else are octets that the call worked out itself. proofs/Handed.antt has one lemma a call, and `hands` for all of them.
 use Rattle.std.specs.Prelude.{◌≡◌, Bool, false, ◌&&◌}
 use Rattle.std.proofs.Math.Bool.{true}
 use mathlib.Core.List.{List, [], ◌∷◌}
 use Prim.Native.Nat.{ℕ, ◌+◌, ◌*◌, ◌≤◌, ◌<◌}
-use Rattle.sar_join.specs.declared.Joined.TheVariants as Joined
 use Rattle.channel.specs.declared.Table.{Table}
 use Rattle.definition.specs.Table.{slot_at, width}
 use Rattle.definition.specs.Outcome.{Outcome}

@@ -1,9 +1,8 @@
 -- What each call has to see to, so that no link's jobs reach another (demand 3): job octets go into slots of the link that carries them,
--- alone, and a slot that changes hands was free or is wiped. Said of tables and moves, without an octet: one lemma a call, and
--- `safe` for all of them. And a link-down that answers 0 leaves no slot of its link.
+-- alone, and a slot that changes hands was free or is wiped. Said of tables and moves, without an octet; proofs/Safe.antt has one lemma
+-- a call, and `safe` for all of them, and that a link-down that answers 0 leaves no slot of its link.
 use Rattle.std.specs.Prelude.{◌≡◌, Bool, true, false, ◌&&◌, List, [], ◌∷◌}
 use Prim.Native.Nat.{ℕ}
-use Rattle.sar_join.specs.declared.Joined.TheVariants as Joined
 use Rattle.channel.specs.declared.Slot.{Slot}
 use Rattle.channel.specs.declared.Table.{Table}
 use Rattle.definition.specs.Outcome.{Outcome}

@@ -3,7 +3,6 @@
 -- decides ("a before b": both hold). At the end, test by test, the lines that break, and what no line can tell.
 use Rattle.std.specs.Prelude.{◌≡◌, Bool, true, false, List, [], ◌∷◌, ◌++◌, map, ℕ, replicate, None, Some}
 use Rattle.lists.specs.Bits.{count}
-use Rattle.lists.specs.Every as Each
 use Rattle.codes.specs.Codes.{result_of}
 use Rattle.codes.specs.declared.LeCreditConnResultCode.TheVariants.{Success, NoResources, ScidAlreadyAllocated}
 use Rattle.codes.specs.declared.Refusal.TheVariants.{ConnectError}

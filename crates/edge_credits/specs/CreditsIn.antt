@@ -2,7 +2,6 @@
 use Rattle.std.specs.Prelude.{not, List, ℕ, eqb, get_or, None, Option, Result, Ok, Err}
 use Rattle.signal_headers.specs.Headers.{headers_of, body_in}
 use Rattle.signal_headers.specs.declared.BadHeader.{BadHeader}
-use Rattle.signal_headers.specs.declared.BadHeader.TheVariants.{Cut, Past}
 use Rattle.signal_bodies.specs.LeCreditBodies.{le_credit_flow_ind}
 use Rattle.definition.specs.Table.{when◌then◌else◌}
 use Rattle.signal_forms.specs.declared.LeCreditFlowInd.{LeCreditFlowInd}

@@ -1,4 +1,4 @@
--- Laws of `tabulate`, and which octet of a spelling is which octet of which row.
+-- The words of the laws of `tabulate` (proofs/Columns.antt), and which octet of a spelling is which octet of which row.
 use Rattle.std.specs.Prelude.{List, [], map, get_or}
 use Prim.Native.Nat.{ℕ, ◌/◌, ◌%◌}
 use Rattle.channel.specs.Limits.{slots_most}

@@ -10,7 +10,7 @@ use Rattle.sar_cut.specs.declared.Framed.{Framed}
 use Rattle.sar_cut.specs.Cutting.{payloads, AllWithin, frames_of}
 use Rattle.credit.specs.Account.{credit_sum}
 use Rattle.channel.specs.Limits.{handle_most, signal_most, identifier_most, credits_most, size_least}
-use Rattle.channel.specs.declared.Answer.TheVariants.{Refused, Frames}
+use Rattle.channel.specs.declared.Answer.TheVariants.{Refused}
 use Rattle.channel.specs.declared.Slot.{Slot}
 use Rattle.channel.specs.declared.Table.{Table}
 use Rattle.definition.specs.Mem.{fills}
@@ -42,7 +42,6 @@ use Rattle.rules_jobs.specs.Taking as Taking
 use Rattle.rules_jobs.proofs.Exact.{sends_frames, exact_rejoining}
 use Rattle.rules_jobs.proofs.Sending.{exact_taking, sent_comes_out}
 use Rattle.edge_sized.proofs.Sized.{after-sized}
-use Rattle.edge_runs.specs.Entries as Entries
 use Rattle.edge_runs.specs.Run.{EdgeState, state_of, Asked, call_in, edge_of, entered, Apart, InOctets}
 use Rattle.edge_runs.specs.Lift.{spelled}
 use Rattle.edge_runs.proofs.Lift.{number_is, answer-is, out-is, job_is, entered-spelled}

@@ -5,7 +5,6 @@ use mathlib.Core.List.{List}
 use Rattle.std.proofs.Math.ListN.{get_or}
 use Rattle.octets.specs.Octets.{u16_at, part}
 use Rattle.definition.specs.Outcome.{verdict}
-use Rattle.definition.specs.Frames as Frames
 use Rattle.definition.specs.Calls.{Window}
 use Rattle.edge_layout.specs.Layout.{read}
 use Rattle.edge_run.specs.Run.{Lent}

@@ -1,4 +1,4 @@
--- Demand 3, proved: by induction on the calls, from `rel_parts` and `rel_memory` (Same), `contained_step` (Contained), `memory_masked`
+-- Demand 3, proved in proofs/Isolation.antt: by induction on the calls, from `rel_parts` and `rel_memory` (Same), `contained_step` (Contained), `memory_masked`
 -- (Masked), and `safe`, `down_clears` and `hands` (crate definition).
 use Rattle.std.specs.Prelude.{◌≡◌, false, ◌&&◌, ℕ, ◌≤◌, eqb, length}
 use Rattle.std.proofs.Math.Bool.{Bool}

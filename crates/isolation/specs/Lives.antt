@@ -4,11 +4,9 @@
 use Rattle.std.specs.Prelude.{Bool, false, List, [], ◌∷◌, ◌++◌, map, ℕ, suc, replicate, None, Some}
 use Rattle.std.proofs.Math.Bool.{true}
 use Rattle.credit.specs.declared.CreditFlowPolicy.TheVariants.{Every}
-use Rattle.codes.specs.declared.Refusal.TheVariants as Refusal
 use Rattle.channel.specs.declared.L2capChannelConfig.{L2capChannelConfig}
 use Rattle.channel.specs.declared.Table.{Table}
 use Rattle.definition.specs.Calls.{Window, Call, frame, sends, down, plain, register, signals, pends, accepts, releases, takes}
-use Rattle.definition.specs.Calls as Calls
 use Rattle.definition.specs.Run.{State, outcome, after, made}
 use Rattle.isolation.specs.Statement.{Marks, unmarked, marked, Handed}
 

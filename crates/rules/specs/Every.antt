@@ -1,6 +1,5 @@
--- Every call makes only steps of the few kinds (Step.antt): one lemma a call, its tests in the definition's order.
+-- Every call makes only steps of the few kinds (Step.antt): proofs/Every.antt has one lemma a call, its tests in the definition's order.
 use Rattle.std.specs.Prelude.{◌≤◌, None, Option, Some}
-use Rattle.signal_forms.specs.declared.Signal.TheVariants as Signal
 use Rattle.channel.specs.Limits.{credits_most}
 use Rattle.signal_forms.specs.declared.LeCreditConnReq.{LeCreditConnReq}
 use Rattle.signal_forms.specs.declared.LeCreditConnRes.{LeCreditConnRes}

@@ -9,7 +9,7 @@ use Rattle.sar_join.specs.declared.Joined.TheVariants as Joined
 use Rattle.sar_join.specs.Joining.{assembled, reached}
 use Rattle.sar_cut.specs.declared.Framed.{Framed}
 use Rattle.sar_cut.specs.Cutting.{frame_count, frames_length}
-use Rattle.channel.specs.declared.Answer.TheVariants.{Refused, Frames}
+use Rattle.channel.specs.declared.Answer.TheVariants.{Refused}
 use Rattle.channel.specs.declared.Slot.{Slot}
 use Rattle.channel.specs.declared.Table.{Table}
 use Rattle.definition.specs.Outcome.{Outcome}

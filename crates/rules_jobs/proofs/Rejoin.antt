@@ -25,7 +25,6 @@ use Rattle.definition.specs.Mem.{Move, put, job, fill, move, moves, parts}
 use Rattle.definition.specs.Table.{place_of, width, room_size, gap, slot_at, is_connected, with_account, with_assembly, with_queue, count_received, cid_of, is_cid, slot_of, well_formed}
 use Rattle.definition.specs.Outcome.{Outcome, change, only, verdict}
 use Rattle.definition.specs.Calls.{Call, jobs, bare, decide, joining}
-use Rattle.definition.specs.Calls as Calls
 use Rattle.definition.specs.Run.{State, outcome, after}
 use Rattle.definition.specs.Frames.{queued, finishing, joined, dispatch}
 use Rattle.definition.proofs.Lengths.{length-moves}

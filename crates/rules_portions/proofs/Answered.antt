@@ -15,7 +15,7 @@ use Rattle.sar_cut.specs.CutLaws.{Allowed}
 use Rattle.sar_cut.proofs.CutLaws.{split}
 use Rattle.sar_cut.proofs.CutLaws.{plan_allowed, plan_frames}
 use Rattle.channel.specs.declared.Answer.{Answer}
-use Rattle.channel.specs.declared.Answer.TheVariants.{Done, Refused, Frames, Portion}
+use Rattle.channel.specs.declared.Answer.TheVariants.{Done, Frames, Portion}
 use Rattle.channel.specs.declared.Slot.{Slot}
 use Rattle.channel.specs.declared.Table.{Table}
 use Rattle.definition.specs.Mem.{Fill, given, fills, written}

@@ -1,7 +1,6 @@
 -- What a call that names a slot answers and does hangs on that slot alone, proved: one lemma a call. Two tables that agree in sizes and
 -- identifier are one table with other slots and SPSMs (`beside`), so that only what reads the slot is rewritten.
 use Rattle.std.specs.Prelude.{◌≡◌, List, ℕ, ◌≤◌, ◌<◌, length}
-use Rattle.sar_join.specs.declared.Joined.TheVariants as Joined
 use Rattle.channel.specs.declared.Slot.{Slot}
 use Rattle.channel.specs.declared.Table.{Table}
 use Rattle.definition.specs.Table.{slot_at, well_formed}

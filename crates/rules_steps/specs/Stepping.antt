@@ -6,7 +6,6 @@ use Rattle.sar_join.specs.declared.Joined.{Joined}
 use Rattle.sar_join.specs.declared.Joined.TheVariants as Joined
 use Rattle.channel.specs.declared.Answer.TheVariants.{Refused}
 use Rattle.rules_steps.specs.Steps.{is_number}
-use Rattle.rules_steps.specs.Steps as Steps
 use Rattle.codes.specs.declared.Refusal.{Refusal}
 
 -- ---- a frame

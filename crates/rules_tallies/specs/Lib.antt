@@ -1,4 +1,4 @@
--- Laws of the tallies: the page to read is Statement.antt; the others prove it.
+-- Laws of the tallies: the page to read is Statement.antt, over the words of Words.antt; proofs/ proves it.
 pub mod Words
 pub mod Statement
 pub mod Kept

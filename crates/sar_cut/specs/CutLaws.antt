@@ -1,4 +1,4 @@
--- Laws of cutting: the count of frames, and the cases of the plan. They rest on the definitions of Cutting.antt and on division.
+-- The words of the laws of cutting (proofs/CutLaws.antt): the count of frames, and the cases of the plan. They rest on the definitions of Cutting.antt and on division.
 use Rattle.std.specs.Prelude.{◌≡◌, ℕ, ◌+◌, ◌-◌, ◌*◌, ◌≤◌, ◌<◌}
 use Rattle.codes.specs.Limits.{size_least}
 use Rattle.codes.specs.declared.Refusal.TheVariants as Refusal

@@ -1,6 +1,6 @@
 -- `signal_read::read_signal` meets its contract: in each arm the definition is a function of the reader's answer.
-use Rattle.std.specs.Prelude.{◌≡◌, Option, None, Some, Ok, MatchOption, IsSomeAnd, ok_or, eqb}
-use mathlib.Core.Path.{sym, ap, ◌∙◌}
+use Rattle.std.specs.Prelude.{◌≡◌, Option, None, Some, Ok, MatchOption, IsSomeAnd, ok_or}
+use mathlib.Core.Path.{ap, ◌∙◌}
 use borrow.Author.Tests.{ne_eqb}
 use native.Mathlib.Omega.{arith}
 use Rattle.lists.specs.Choose.{choose}

@@ -1,4 +1,4 @@
--- `table_endings::reply::reply` meets its contract: behind a buffer of 18 octets `signal_write` never answers NoRoom, and what it wrote is the reply.
+-- `table_endings::reply::reply` meets its contract: behind a buffer of 18 octets `signal_write` never answers None, and what it wrote is the reply.
 use Rattle.table_endings.specs.Reply.{replied, refused}
 use Rattle.table_endings.proofs.reply.reply.Goals as goal
 

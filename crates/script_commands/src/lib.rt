@@ -1,6 +1,6 @@
 // The calls of a script (docs/CHANRUN.md), and those of at most three words, by the number of words of their line: the letter, then what the call
 // is given; the longer ones are in `long`. The table of these calls is specs/Commands.antt, which every function here follows test by
-// test. It rests on `text_words`, `script_fields_plain` and `text_hex_words`.
+// test. It rests on `text_decimal`, `text_words`, `script_fields_plain` and `text_hex_words`.
 #![tactic(auto)]
 
 pub mod long;
@@ -11,7 +11,8 @@ ghost use Rattle.script_commands.specs.Commands.{slot_number, one_word, with_num
 use channel::{ChannelIndex, L2capChannelConfig};
 use octets::least;
 pub use script_fields_plain::BUFFER_MOST;
-use script_fields_plain::{flag_of, is_flag, is_number, number_of};
+use script_fields_plain::{flag_of, is_flag};
+use text_decimal::read_number;
 use text_hex_words::hex_ok;
 use text_words::Word;
 
@@ -223,10 +224,10 @@ fn with_number(c: u8, n: u16) -> Command
 pub fn two_words(c: u8, a: &[u8]) -> Command
     ensures { result ≡ two_words c a.now }
 {
-    if is_number(a) {
-        return with_number(c, number_of(a));
-    }
-    Command::Bad
+    let Some(n) = read_number(a) else {
+        return Command::Bad;
+    };
+    with_number(c, n)
 }
 
 // The calls that are given two numbers.
@@ -248,10 +249,9 @@ fn with_numbers(c: u8, n: u16, m: u16) -> Command
 pub fn three_words(c: u8, a: &[u8], b: &[u8], last: Word) -> Command
     ensures { result ≡ three_words c a.now b.now last }
 {
-    if !is_number(a) {
+    let Some(n) = read_number(a) else {
         return Command::Bad;
-    }
-    let n = number_of(a);
+    };
     if c == b'P' {
         if is_flag(b) {
             return Command::Opening(Opening::NextPending {
@@ -267,8 +267,8 @@ pub fn three_words(c: u8, a: &[u8], b: &[u8], last: Word) -> Command
         }
         return Command::Bad;
     }
-    if is_number(b) {
-        return with_numbers(c, n, number_of(b));
-    }
-    Command::Bad
+    let Some(m) = read_number(b) else {
+        return Command::Bad;
+    };
+    with_numbers(c, n, m)
 }

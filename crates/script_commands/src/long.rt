@@ -1,22 +1,24 @@
 // The calls of a script (docs/CHANRUN.md) whose line has four words or more, by their number; the shorter ones are in `script_commands`. The table of these
-// calls is specs/LongCommands.antt, which every function here follows test by test. It rests on `script_commands`, `script_fields_plain`, `script_fields` and `text_hex_words`.
+// calls is specs/LongCommands.antt, which every function here follows test by test. It rests on `script_commands`, `text_decimal`, `script_fields_plain`, `script_fields` and `text_hex_words`.
 ghost use Rattle.std.specs.Prelude.{◌≡◌};
 ghost use Rattle.script_commands.specs.LongCommands.{four_words, five_words, six_words, seven_words};
 
 use crate::{Closing, Command, Opening, Portions};
 use script_fields_config::{config_of, is_config};
 use script_fields_plain::{central_of, flag_of, is_flag, is_number, is_role, is_size, number_of};
+use text_decimal::read_number;
 use text_hex_words::hex_ok;
 use text_words::Word;
 
 pub fn four_words(c: u8, a: &[u8], b: &[u8], d: &[u8], last: Word) -> Command
     ensures { result ≡ four_words c a.now b.now d.now last }
 {
-    if !(is_number(a) & is_number(b)) {
+    let Some(n) = read_number(a) else {
         return Command::Bad;
-    }
-    let n = number_of(a);
-    let m = number_of(b);
+    };
+    let Some(m) = read_number(b) else {
+        return Command::Bad;
+    };
     if c == b'T' {
         if is_number(d) {
             return Command::Make {
@@ -87,10 +89,9 @@ pub fn five_words(c: u8, a: &[u8], b: &[u8], d: &[u8], e: &[u8], last: Word) -> 
 pub fn six_words(c: u8, a: &[u8], b: &[u8], d: &[u8], e: &[u8], f: &[u8]) -> Command
     ensures { result ≡ six_words c a.now b.now d.now e.now f.now }
 {
-    if !is_number(a) {
+    let Some(n) = read_number(a) else {
         return Command::Bad;
-    }
-    let n = number_of(a);
+    };
     if c == b'A' {
         if is_config(b, d, e, f) {
             let config = config_of(b, d, e, f);

@@ -3,10 +3,10 @@ use Rattle.lists.specs.Choose.{choose}
 use Rattle.script_commands.specs.Commands.{two_words}
 use Rattle.script_commands.proofs.two_words.Goals as goal
 
-pub returns-then-is_number : goal.returns-then-is_number
+pub returns-in_default : goal.returns-in_default
 unfolding two_words choose
-returns-then-is_number c = rw (← c.is_number.ensures, c.if-is_number.true) (rw c.number_of.ensures at c.with_number.ensures)
+returns-in_default c = rw (← c.read_number.ensures, c.in_default.is)
 
 pub returns : goal.returns
 unfolding two_words choose
-returns c = rw (← c.is_number.ensures, c.if-is_number.false)
+returns c = rw (← c.read_number.ensures, c.in-Some.is) c.with_number.ensures

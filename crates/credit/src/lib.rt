@@ -66,29 +66,19 @@ impl CreditFlowControl {
         }
     }
 
-    // What is to be granted now.
+    // What is to be granted now: nothing, or so many credits, which are never 0.
+    #[tactic(auto, unfolding(crate::specs::Account::due, crate::specs::Account::grant_of, lists::specs::Choose::choose))]
     pub fn process(self) -> Option<u16>
         ensures { result ≡ grant_of self }
     {
-        let p = self.policy;
-        let c = self.credits;
         let n = self.received;
         if n == 0 {
             return None;
         }
-        match p {
-            CreditFlowPolicy::Every(k) => {
-                if k <= n {
-                    return Some(n);
-                }
-                None
-            }
-            CreditFlowPolicy::MinThreshold(t) => {
-                if c < t {
-                    return Some(n);
-                }
-                None
-            }
+        match self.policy {
+            CreditFlowPolicy::Every(k) if k <= n => Some(n),
+            CreditFlowPolicy::MinThreshold(t) if self.credits < t => Some(n),
+            _ => None,
         }
     }
 }

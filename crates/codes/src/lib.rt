@@ -53,7 +53,7 @@ pub enum Refusal {
     WrongLength,
 }
 
-// The number on the air. These numbers are functions, no `From`: their contracts are equations by name, which a `From` would say a second time.
+// The number on the air. (This and the other numbers are functions and not `From`s: contracts and pages call them by name.)
 pub fn result_number(c: LeCreditConnResultCode) -> u16
     ensures { result ≡ result_number c }
 {

@@ -1,5 +1,5 @@
 -- What every call does. A reader must believe the pages of the first part, in this order; those of the second part have the words of
--- its theorems (those of `Line` stand here, all others in proofs/ under the same names): that they say what document 01 says, and what the crates above rest on.
+-- its theorems, which stand in proofs/, most under the same names: that they say what document 01 says, and what the crates above rest on.
 
 -- ---- to believe
 

@@ -49,7 +49,7 @@ fn setting(n: u32) -> Option<u16>
     Some(n as u16)
 }
 
-// Kind 0 is Every, another MinThreshold.
+// Kind 0 is Every, another MinThreshold: a number, as the C interface gives it.
 fn policy(kind: u8, value: u16) -> CreditFlowPolicy
     ensures { result ≡ policy_by kind value }
 {

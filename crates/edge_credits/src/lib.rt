@@ -18,12 +18,11 @@ use edge_layout::cells::{number, octet};
 use edge_layout::{KIND, LINK, PEER_CID};
 use signal_bodies::le_credit::read_le_credit_flow_ind;
 use signal_forms::LeCreditFlowInd;
-use signal_headers::BadHeader;
 
-// Code 0x16.
+// Code 0x16, as the octet that comes: no signal is made of it here.
 const CREDITS: u8 = 0x16;
 
-// The octet of a Connected slot in the first column.
+// The octet of a Connected slot in the first column (`edge_layout`, the C interface): no slot is made of it here.
 const CONNECTED: u8 = 3;
 
 // The credits that the PDU's first signal gives. The code is asked before the headers, so that a PDU that begins with another signal has its headers checked once.

@@ -176,6 +176,7 @@ pub fn policy_value(p: CreditFlowPolicy) -> u16
     }
 }
 
+// The policy by its number in the octets (C interface).
 pub fn policy_of(kind: u8, value: u16) -> CreditFlowPolicy
     ensures { result ≡ policy_of kind value }
 {

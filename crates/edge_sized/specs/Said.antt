@@ -1,5 +1,5 @@
 -- What a call other than a send and a portion writes to the lent buffer was worked out from table and public input, and stands at its start: no octet of it is
--- copied. So it is as long as the sizes say, and no less than the answer tells. One lemma a call, `works` for all of them.
+-- copied. So it is as long as the sizes say, and no less than the answer tells. proofs/Said.antt has one lemma a call, `works` for all of them.
 use Rattle.std.specs.Prelude.{◌≡◌, Bool, true, false, ◌&&◌, List, [], ◌∷◌, ◌≤◌}
 use Rattle.definition.specs.Outcome.{Outcome}
 use Rattle.definition.specs.Calls.{Call, frame, sends, portions, down, plain}

@@ -1,4 +1,4 @@
--- What a call that names a link answers and does hangs on that link's own slots and the free ones alone, proved: a test that such a slot alone
+-- What a call that names a link answers and does hangs on that link's own slots and the free ones alone, proved in proofs/Linked.antt: a test that such a slot alone
 -- can pass is passed by the same slots in both tables (`same_test`), so every search finds the same slot (`found-same`), and that slot is
 -- equal in both (`slot-found`). One lemma a call, from the forms in Named.antt.
 use Rattle.std.specs.Prelude.{◌≡◌, false, List, ℕ}

@@ -1,4 +1,4 @@
--- What a call that names a slot answers and does hangs on that slot alone, proved: one lemma a call. Two tables that agree in sizes and
+-- What a call that names a slot answers and does hangs on that slot alone, proved in proofs/Named.antt: one lemma a call. Two tables that agree in sizes and
 -- identifier are one table with other slots and SPSMs (`beside`), so that only what reads the slot is rewritten.
 use Rattle.std.specs.Prelude.{◌≡◌, List, ℕ, ◌≤◌, ◌<◌, length}
 use Rattle.channel.specs.declared.Slot.{Slot}

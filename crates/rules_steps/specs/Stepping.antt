@@ -1,4 +1,4 @@
--- Every call makes only the steps of the table (Steps.antt): one lemma a call, its tests in the definition's order.
+-- Every call makes only the steps of the table (Steps.antt): proofs/Stepping.antt has one lemma a call, its tests in the definition's order.
 use Rattle.std.specs.Prelude.{◌≡◌, ◌||◌, Result, Ok, Err}
 use Rattle.std.proofs.Math.Bool.{true}
 use Rattle.codes.specs.declared.Refusal.TheVariants as Refusal

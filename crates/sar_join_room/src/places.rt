@@ -2,7 +2,6 @@
 // finished job. What is right stands in specs/SarPlaces.antt; it rests on `octets`.
 ghost use Rattle.std.specs.Prelude.{◌≡◌, ◌+◌, ◌≤◌, length};
 ghost use Rattle.std.proofs.lemmas.List.Edits.{sets};
-ghost use Rattle.octets.specs.Octets.{part};
 ghost use Rattle.sar_join.specs.Joining.{assembled, job_octets};
 ghost use Rattle.sar_join_room.specs.SarPlaces.{finish};
 

@@ -23,6 +23,7 @@ pub fn put_slot(t: Table, s: usize, x: Slot) -> Table
     ensures { result ≡ put_slot t s x }
 {
     if s < SLOTS {
+        // one element: no struct update says that
         let mut u = t;
         u.slots[s] = x;
         u

@@ -47,6 +47,7 @@ pub fn registered(t: Table, spsm: u16) -> Table
     }
     let i = (spsm / 8) as usize;
     let octet = with_bit(t.spsms[i], spsm % 8);
+    // one element: no struct update says that
     let mut u = t;
     u.spsms[i] = octet;
     u

@@ -13,7 +13,8 @@ use channel::{ChannelState, DEPTH, SLOTS, Table};
 use codes::LeCreditConnResultCode;
 use credit::CreditFlowPolicy;
 
-// What octets were read as: the table, where they are exactly its spelling; else a table of no slots.
+// What octets were read as: the table, where they are exactly its spelling; else a table of no slots. No `Option`: an entry makes its
+// call either way, and the gate refuses a table of no slots by 1, so that there is one path.
 #[derive(Clone, Copy)]
 pub struct Decoded {
     pub ok: bool,

@@ -10,34 +10,20 @@ use table_slot::Want;
 // f is Disconnected without a hold, h and m Disconnected and held; the others are in use.
 fn record(c: u8) -> Slot {
     let free = table_slot::fresh(0);
-    if c == b'f' {
-        return free;
-    }
-    if c == b'h' {
-        return table_slot::fresh(1);
-    }
-    if c == b'm' {
-        return table_slot::fresh(255);
-    }
-    if c == b'i' {
-        return table_slot::in_state(free, ChannelState::Connecting(1));
-    }
-    if c == b'p' {
-        return table_slot::in_state(free, ChannelState::PeerConnecting(1));
-    }
-    if c == b'x' {
-        return table_slot::in_state(
+    match c {
+        b'f' => free,
+        b'h' => table_slot::fresh(1),
+        b'm' => table_slot::fresh(255),
+        b'i' => table_slot::in_state(free, ChannelState::Connecting(1)),
+        b'p' => table_slot::in_state(free, ChannelState::PeerConnecting(1)),
+        b'x' => table_slot::in_state(
             free,
             ChannelState::ConnectFailed(LeCreditConnResultCode::NoResources),
-        );
+        ),
+        b'q' => table_slot::in_state(free, ChannelState::PeerDisconnecting(1)),
+        b'd' => table_slot::in_state(free, ChannelState::Disconnecting(false)),
+        _ => table_slot::in_state(free, ChannelState::Connected),
     }
-    if c == b'q' {
-        return table_slot::in_state(free, ChannelState::PeerDisconnecting(1));
-    }
-    if c == b'd' {
-        return table_slot::in_state(free, ChannelState::Disconnecting(false));
-    }
-    table_slot::in_state(free, ChannelState::Connected)
 }
 
 fn table(row: &[u8]) -> Table {
@@ -48,17 +34,12 @@ fn table(row: &[u8]) -> Table {
     t
 }
 
-fn number(rt: &impl Print, n: usize) -> io::Result<()> {
-    print!(rt; " {n}")
-}
-
 fn search(rt: &impl Print, row: &[u8]) -> io::Result<()> {
     let t = table(row);
-    let run = t.slots;
+    let lent = table_search::lowest_free_among(t.slots).unwrap_or(16);
+    let own = table::find(t, Want::Free);
     rt.write_all(row)?;
-    number(rt, table_search::lowest_free_among(run).unwrap_or(16))?;
-    number(rt, table::find(t, Want::Free))?;
-    rt.write_all(b"\n")
+    println!(rt; " {lent} {own}")
 }
 
 fn main(rt: HostRuntime) -> io::Result<()> {

@@ -177,10 +177,10 @@ module _ (t : Table) where
 
   joined-worked : (s count : ℕ) (x : Slot) (j : Result Joined Refusal) → Worked (joined t s x count j)
   unfolding joined
-  joined-worked s count x (Joined.Refused r) = leaf refl refl refl
-  joined-worked s count x (Joined.Assembling g) = leaf refl refl refl
-  joined-worked s count x (Joined.Finished len) = leaf refl refl refl
-  joined-worked s count x Joined.Dropped = leaf refl refl refl
+  joined-worked s count x (Err r) = leaf refl refl refl
+  joined-worked s count x (Ok (Joined.Assembling g)) = leaf refl refl refl
+  joined-worked s count x (Ok (Joined.Finished len)) = leaf refl refl refl
+  joined-worked s count x (Ok Joined.Dropped) = leaf refl refl refl
 
   frame-worked : (room link cid : ℕ) (head : List ℕ) (count : ℕ) → Worked (dispatch t room link cid head count)
   unfolding dispatch

@@ -221,10 +221,10 @@ module _ (t : Table) (w : Sized t) where
   -- x is slot s with its credit used
   joined_keeps : (s count : ℕ) (x : Slot) → leb t.n s ≡ false → Long x → (j : Result Joined Refusal) → Kept t (joined t s x count j)
   unfolding joined
-  joined_keeps s count x a h (Joined.Refused r) = change-keeps w _ _ s itself a h
-  joined_keeps s count x a h (Joined.Assembling g) = change-keeps w _ _ s itself a h
-  joined_keeps s count x a h (Joined.Finished len) = change-keeps w _ _ s itself a (queued_long len x.queue h)
-  joined_keeps s count x a h Joined.Dropped = change-keeps w _ _ s itself a h
+  joined_keeps s count x a h (Err r) = change-keeps w _ _ s itself a h
+  joined_keeps s count x a h (Ok (Joined.Assembling g)) = change-keeps w _ _ s itself a h
+  joined_keeps s count x a h (Ok (Joined.Finished len)) = change-keeps w _ _ s itself a (queued_long len x.queue h)
+  joined_keeps s count x a h (Ok Joined.Dropped) = change-keeps w _ _ s itself a h
 
   frame-keeps : (room link cid : ℕ) (head : List ℕ) (count : ℕ) → Kept t (dispatch t room link cid head count)
   unfolding dispatch

@@ -2,7 +2,8 @@
 // without '=' says what follows. Each line that differs is written, and at the end how many there are.
 #![tactic(auto)]
 
-ghost use Rattle.std.specs.Prelude.{◌≤◌, IfOk, length};
+ghost use Rattle.std.specs.Prelude.{◌≡◌, ◌≤◌, IfOk, length, nat_eq};
+ghost use Rattle.lists.specs.First.{first};
 
 use codes::Refusal;
 use octets::{least, put};
@@ -10,6 +11,20 @@ use signal_forms::Signal;
 use signal_headers::BadHeader;
 use std::io;
 use std::io::Read;
+
+// Where the first octet of `s` stands that is `c`; the length where none is. Not `position` or `split`
+// with a closure of the caller's: no contract would say what that answers.
+fn find(s: &[u8], c: u8) -> usize
+    ensures value { result ≡ first (λ x. nat_eq x c) s.now }
+    ensures upper_bound { result ≤ length s.now }
+{
+    for i in 0..s.len() {
+        if s[i] == c {
+            return i;
+        }
+    }
+    s.len()
+}
 
 // A hex digit's value; 0 for any other character.
 fn value(c: u8) -> u8
@@ -102,9 +117,10 @@ struct Tally {
 
 // One line, replayed and counted; it is written where something else comes of its PDU.
 fn replay(rt: &impl Print, line: &[u8], t: &mut Tally) -> io::Result<()> {
-    let Some(at) = line.iter().position(|c| *c == b'=') else {
+    let at = find(line, b'=');
+    if at == line.len() {
         return Ok(());
-    };
+    }
     let mut pdu = [0u8; 64];
     let n = spelled(&line[..at], &mut pdu);
     let mut wanted = [0u8; 64];
@@ -120,8 +136,14 @@ fn replay(rt: &impl Print, line: &[u8], t: &mut Tally) -> io::Result<()> {
 
 fn replay_all(rt: &impl Print, text: &[u8]) -> io::Result<Tally> {
     let mut tally = Tally::default();
-    for line in text.split(|c| *c == b'\n') {
-        replay(rt, line, &mut tally)?;
+    let mut rest = text;
+    while 0 < rest.len() {
+        let end = find(rest, b'\n');
+        replay(rt, &rest[..end], &mut tally)?;
+        if rest.len() <= end {
+            return Ok(tally);
+        }
+        rest = &rest[end + 1..];
     }
     Ok(tally)
 }

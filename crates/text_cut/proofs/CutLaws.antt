@@ -1,12 +1,12 @@
 -- Laws of a text cut at a character: its first piece and the others, and how many there are; and what makes it the only such cut: the
 -- pieces, joined by the character, are the text, and no piece has the character.
-use Rattle.std.specs.Prelude.{◌≡◌, Bool, not, ◌&&◌, ltb, take, drop}
+use Rattle.std.specs.Prelude.{◌≡◌, Bool, not, ◌&&◌, ltb, take, drop, get_or}
 use Rattle.std.proofs.Math.Path.{refl, ap}
-use Rattle.std.proofs.Common.{◌∙◌}
+use Rattle.std.proofs.Common.{◌∙◌, add-zero, drop_of_length-le, drop-cons, add-one}
 use Rattle.std.proofs.Math.Bool.{true, false}
 use Rattle.std.proofs.lemmas.Bool.{false≢true}
 use mathlib.Core.List.{List, [], ◌∷◌, ◌++◌}
-use Prim.Native.Nat.{ℕ, suc, ◌+◌, ◌<◌}
+use Prim.Native.Nat.{ℕ, suc, ◌+◌, ◌≤◌, ◌<◌}
 use native.Mathlib.Omega.{arith}
 use Rattle.std.proofs.Math.Dec.{leb-suc-suc}
 use borrow.Author.Tests.{lt-ltb, eqb-true, eq-eqb}
@@ -14,8 +14,9 @@ use Rattle.std.proofs.Math.ListN.{length}
 use Rattle.lists.specs.Choose.{choose}
 use Rattle.lists.specs.First.{first}
 use Rattle.lists.specs.Every.{every}
-use Rattle.lists.specs.Bits.{bit, count}
+use Rattle.lists.specs.Bits.{bit, bit_le, count}
 use Rattle.text_cut.specs.Cut.{is, into_first, cut_at}
+use Rattle.text_cut.specs.CutLaws.{Counted}
 
 -- the first piece goes up to the first c; the rest behind that one is cut
 pub cut_first : (c : ℕ) (xs : List ℕ) → cut_at c xs ≡ take (first (is c) xs) xs ∷ choose (ltb (first (is c) xs) (length xs)) (cut_at c (drop (suc (first (is c) xs)) xs)) []
@@ -128,3 +129,23 @@ module _ (c : ℕ) where
   joined_cut (p ∷ q ∷ ps) h f =
       cut_behind p (joined (q ∷ ps)) (left_true (free p) (every free (q ∷ ps)) f)
       ∙ ap (λ r. p ∷ r) (joined_cut (q ∷ ps) (omega arith) (right_true (free p) (every free (q ∷ ps)) f))
+
+pub counted_none : {A : Type 0} {p : A → Bool} {l : List A} → Counted p l 0 1
+counted_none {A} {p} {l} = record { small = omega arith; is = omega arith }
+
+module _ {A : Type 0} {p : A → Bool} {l : List A} {i n : ℕ} (w : Counted p l i n) where
+  counted-more : (d : A) (b : Bool) → p (get_or l i d) ≡ b → i < length l → Counted p l (i + 1) (n + bit b)
+  unfolding count
+  counted-more d b e h =
+      let f : n + (bit b + count p (drop (suc i) l)) ≡ suc (count p l) = rw (drop-cons l i d h, e) at w.is in
+      record { small = omega (arith, w.small, bit_le b); is = rw (add-one i) (omega (arith, f)) }
+
+  pub counted_hit : (d : A) → p (get_or l i d) ≡ true → i < length l → Counted p l (i + 1) (n + 1)
+  counted_hit d e h = counted-more d true e h
+
+  pub counted_pass : (d : A) → p (get_or l i d) ≡ false → i < length l → Counted p l (i + 1) n
+  counted_pass d e h = rw add-zero at (counted-more d false e h)
+
+  pub counted_all : length l ≤ i → n ≡ suc (count p l)
+  unfolding count
+  counted_all h = let f : n + 0 ≡ suc (count p l) = rw (drop_of_length-le l h) at w.is in omega (arith, f)

@@ -1,2 +1,3 @@
 -- A text cut at a character.
 pub mod Cut
+pub mod CutLaws

@@ -1,28 +1,24 @@
--- `text_words::count` meets its contract: there is one word more than the spaces that are counted (cut_count).
-use Prim.Native.Nat.{ℕ, ◌+◌}
-use mathlib.Core.Bool.{Bool, true, false, cond}
-use mathlib.Core.List.{List}
-use mathlib.Core.Path.{◌≡◌, refl}
+use Prim.Native.Nat.{◌<◌}
 use native.Mathlib.Omega.{arith}
-use borrow.Author.Rules.{rules}
+use mathlib.Core.Path.{sym, ◌∙◌}
+use borrow.Author.Tests.{eq-eqb, ne_eqb}
+use lib.ListN.{length}
 use Prim.Native.Char.{code}
-use Rattle.std.specs.List.{count_by}
-use Rattle.std.proofs.lemmas.List.Recursion.{is_count_by}
-use Rattle.lists.specs.Bits.{bit, count}
-use Rattle.text_cut.proofs.CutLaws.{cut_count}
-use Rattle.text_words.specs.Words.{is_space}
+use Rattle.text_cut.proofs.CutLaws.{cut_count, counted_none, counted_hit, counted_pass, counted_all}
 use Rattle.text_words.proofs.count.Goals as goal
+use Rattle.text_words.proofs.count.Goals.{then-line-i-eq32, else-line-i-eq32}
 
-bit-more : (b : Bool) (n : ℕ) → bit b + n ≡ cond b (1 + n) n
-bit-more true n = refl
-bit-more false n = omega arith
+pub loop-i-init : goal.loop-i-init
+loop-i-init c = counted_none
 
-count_is : (l : List ℕ) → count is_space l ≡ count_by is_space l
-unfolding count
-count_is = is_count_by (count is_space) is_space refl (λ x l. bit-more (is_space x) (count is_space l))
+pub loop-i-preserved : goal.loop-i-preserved
+loop-i-preserved c =
+    let l = c.loop-i in
+    let h : l.i < length c.args.line.now = omega arith in
+    elim c.if-line-i-eq32.branch [
+      | then-line-i-eq32 w ↦ rw w.n-is (counted_hit l.invariant 0 (eq-eqb _ _ w.if-line-i-eq32.true) h)
+      | else-line-i-eq32 w ↦ rw w.n-is (counted_pass l.invariant 0 (ne_eqb _ _ w.if-line-i-eq32.false) h)
+    ]
 
 pub returns : goal.returns
-returns c =
-    let l = c.args.line.now in
-    let e : c.count.result ≡ count_by is_space l = search rules in
-    omega (arith, count_is l, cut_count (code " ") l)
+returns c = counted_all c.loop-i.invariant (omega arith) ∙ sym (cut_count (code " ") c.args.line.now)

@@ -26,5 +26,11 @@ pub fn hex_ok(word: &[u8]) -> bool
     if word.len() % 2 == 1 {
         return false;
     }
-    word.iter().all(|&c| is_hex(c))
+    // Not `all`: a line of a long word takes up to a third longer by it.
+    for i in 0..word.len() {
+        if !is_hex(word[i]) {
+            return false;
+        }
+    }
+    true
 }

@@ -3,10 +3,10 @@ use Rattle.std.specs.Prelude.{◌≡◌, refl, Bool, true, false, ◌&&◌, List
 use Rattle.std.proofs.Math.Path.{sym}
 use Rattle.std.proofs.Common.{◌∙◌, add-one, arith, length-append, drop_of_length-le, drop-cons, lt-ltb, le-ltb, le-leb, ltb-true, leb-true}
 use Rattle.std.proofs.lemmas.Bool.{false≢true}
-use Rattle.std.proofs.Math.Nat.{pow-suc}
+use Rattle.std.proofs.Math.Nat.{pow-suc, pow-le-pow_right}
 use Rattle.std.proofs.Math.Seq.{take-length}
 use Rattle.lists.specs.Choose.{choose}
-use Rattle.lists.specs.Every.{every, Kept, kept_more, kept-fails, kept_all}
+use Rattle.lists.specs.Every.{every, Kept, kept-none, kept_more, kept-fails, kept_all}
 use Rattle.text_decimal.specs.NumberText.{digits, number_text}
 use Rattle.text_decimal.specs.NumberTextLaws.{tenth, digits_few}
 use Rattle.text_decimal.specs.Decimal.{is_digit, spelt, number_read}
@@ -77,6 +77,9 @@ pub record Reading (w : List ℕ) (i n : ℕ) : Type 0 where
   pub kept : Kept is_digit (length w) w i
   pub goes : spelt n (drop i w) ≡ spelt 0 w
 
+pub reading_none : {w : List ℕ} → Reading w 0 0
+reading_none = record { small = omega arith; kept = kept-none; goes = refl }
+
 pub record Digit (c : ℕ) : Type 0 where
   pub low : 48 ≤ c
   pub high : c ≤ 57
@@ -90,6 +93,9 @@ digit_is c e = go (leb 48 c) (leb c 57) refl refl e
     go false b p q e = absurd (false≢true e)
 
 module _ {w : List ℕ} {i n : ℕ} (r : Reading w i n) where
+  pub reading_small : i < 5 → n < 10000
+  reading_small h = omega (arith, r.small, pow-le-pow_right {n = 10} (omega arith) {i = i} {j = 4} (omega arith))
+
   pub reading_more : is_digit (get_or w i 0) ≡ true → i < length w → Reading w (i + 1) (10 * n + (get_or w i 0 - 48))
   unfolding spelt
   reading_more e h = record {
